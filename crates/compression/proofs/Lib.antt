@@ -1,0 +1,3 @@
+mod Rounds
+mod Words
+mod Sums

@@ -1,0 +1,2 @@
+mod Masked
+mod Last

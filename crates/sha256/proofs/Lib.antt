@@ -1,0 +1,4 @@
+mod Chain
+mod Tail
+mod Ends
+mod Out
