@@ -1,2 +1,5 @@
 pub mod Pick
+pub mod Bools
+pub mod Refusals
+pub mod Count
 pub mod Fill

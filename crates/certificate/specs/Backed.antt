@@ -1,0 +1,368 @@
+-- The test `rule` takes exactly what `Backed` lists: each rule's groups are those that the test looks for.
+use Prim.Native.Nat.{ℕ, suc, _+_, _-_, _≤_, _<_}
+use mathlib.Core.Bool.{Bool, true, false, not, _&&_, _||_}
+use mathlib.Core.Logic.{_⊎_, inl, inr}
+use mathlib.Core.List.{List, [], _∷_, _++_, append-nil}
+use mathlib.Core.Path.{_≡_, refl, sym, ap, _∙_, subst}
+use native.Mathlib.Omega.{arith}
+use lib.Dec.{eqb, ltb, leb}
+use lib.ListN.{length, take, drop, take-append-drop}
+use lib.Seq.{take-at, drop-at}
+use borrow.Author.Tests.{eqb-true, eqb-false, eq-eqb, ne-eqb, ltb-true, ltb-false, lt-ltb, le-ltb, leb-true}
+use Rattle.laws.specs.Pick.{pick}
+use Rattle.laws.specs.Bools.{never, both, join, either, left, right, is-false}
+use Rattle.laws.specs.Refusals.{All}
+use Rattle.format.specs.Numbers.{kind-INIT, kind-P, kind-V, none, D-GET, R-GET, last-round}
+use Rattle.format.specs.Words.{shaped, of-group}
+use Rattle.format.specs.Statement.{Statement, well-formed}
+use Rattle.certificate.specs.declared.Which.the-variants.{Any, Only}
+use Rattle.certificate.specs.declared.Group.{Group}
+use Rattle.certificate.specs.Rules.{wanted, matches, Rising, Holds, in-order, holds, inits, proposals, none-votes, some, some-D-GET, some-value, BothValues, NeedsSecond, Backed, rule-1, rule-2, rule-3, rule-4, rule-5, rule-6, rule-7, first-group, second-group, has-second, early-toss, rest-holds, spread, groups-hold, rule}
+
+-- ---- groups
+order-out : (g : Group) (above : ℕ) (c : List Statement) → in-order g above c ≡ true → Rising above c × All (λ s. matches g s ≡ true) c
+unfolding in-order
+order-out g above [] h = (tt, tt)
+order-out g above (s ∷ c) h =
+    let a = both (matches g s && ltb above (s .station)) _ h in
+    let b = both (matches g s) _ (a .0) in
+    let r = order-out g (s .station) c (a .1) in
+    ((ltb-true _ _ (b .1), r .0), (b .0, r .1))
+
+order-in : (g : Group) (above : ℕ) (c : List Statement) → Rising above c → All (λ s. matches g s ≡ true) c → in-order g above c ≡ true
+unfolding in-order
+order-in g above [] r e = refl
+order-in g above (s ∷ c) r e = join (matches g s && ltb above (s .station)) _ (join (matches g s) _ (e .0) (lt-ltb _ _ (r .0))) (order-in g (s .station) c (r .1) (e .1))
+
+pub holds-out : (g : Group) (c : List Statement) → holds g c ≡ true → Holds g c
+unfolding holds
+holds-out g c h =
+    let a = both (eqb (length c) (g .size)) _ h in
+    let b = order-out g 0 c (a .1) in
+    record { size = eqb-true _ _ (a .0); rising = b .0; each = b .1 }
+
+pub holds-in : (g : Group) (c : List Statement) → Holds g c → holds g c ≡ true
+unfolding holds
+holds-in g c h = join (eqb (length c) (g .size)) _ (eq-eqb _ _ (h .size)) (order-in g 0 c (h .rising) (h .each))
+
+no-more : (c : List Statement) → eqb (length c) 0 ≡ true → c ≡ []
+no-more [] h = refl
+no-more (s ∷ c) h = let e : length (s ∷ c) ≡ 0 = eqb-true _ _ h in absurd (omega arith)
+
+-- ---- which groups a statement asks for
+module _ (n v f r : ℕ) where
+  first-2 : (k : ℕ) → k ≡ kind-P → r ≡ 1 → first-group n k v f r ≡ inits n v
+  unfolding first-group pick
+  first-2 k a b = rw (eq-eqb k kind-P a, eq-eqb r 1 b)
+
+  first-3 : (k : ℕ) → k ≡ kind-P → 1 < r → f ≡ D-GET → first-group n k v f r ≡ proposals n (r - 1) (Only v) Any
+  unfolding first-group pick
+  first-3 k a b c = rw (eq-eqb k kind-P a, ne-eqb r 1 (λ e. omega arith), eq-eqb f D-GET c)
+
+  first-4 : (k : ℕ) → k ≡ kind-P → 1 < r → f ≡ R-GET → first-group n k v f r ≡ none-votes n (r - 1)
+  unfolding first-group pick
+  first-4 k a b c = rw (eq-eqb k kind-P a, ne-eqb r 1 (λ e. omega arith), ne-eqb f D-GET (λ e. omega arith))
+
+  first-5 : (k : ℕ) → k ≡ kind-V → v < none → first-group n k v f r ≡ proposals n r (Only v) Any
+  unfolding first-group pick
+  first-5 k a b = rw (ne-eqb k kind-P (λ e. omega arith), lt-ltb v none b)
+
+  first-6 : (k : ℕ) → k ≡ kind-V → v ≡ none → r ≡ 1 → first-group n k v f r ≡ proposals n 1 Any (Only D-GET)
+  unfolding first-group pick
+  first-6 k a b c = rw (ne-eqb k kind-P (λ e. omega arith), le-ltb v none (omega arith), eq-eqb r 1 c)
+
+  first-7 : (k : ℕ) → k ≡ kind-V → v ≡ none → 1 < r → first-group n k v f r ≡ proposals n r Any Any
+  unfolding first-group pick
+  first-7 k a b c = rw (ne-eqb k kind-P (λ e. omega arith), le-ltb v none (omega arith), ne-eqb r 1 (λ e. omega arith))
+
+second-5 : (n v r : ℕ) → v < none → second-group n v r ≡ proposals n (r - 1) (Only v) Any
+unfolding second-group pick
+second-5 n v r h = rw (lt-ltb v none h)
+
+second-7 : (n v r : ℕ) → v ≡ none → second-group n v r ≡ none-votes n (r - 1)
+unfolding second-group pick
+second-7 n v r h = rw (le-ltb v none (omega arith))
+
+-- a proposal has one group; so has a vote of round 1; a none vote of a later round has two; another vote has two by its first group
+one-P : (k v r : ℕ) (d : Bool) → k ≡ kind-P → has-second k v r d ≡ false
+unfolding has-second
+one-P k v r d e = rw (ne-eqb k kind-V (λ z. omega arith))
+
+one-early : (k v r : ℕ) (d : Bool) → r ≡ 1 → has-second k v r d ≡ false
+unfolding has-second
+one-early k v r d e = is-false _ (λ h. let a = both (eqb k kind-V && ltb 1 r) _ h in let b = both (eqb k kind-V) _ (a .0) in omega (arith, ltb-true 1 r (b .1)))
+
+two-none : (k v r : ℕ) (d : Bool) → k ≡ kind-V → v ≡ none → 1 < r → has-second k v r d ≡ true
+unfolding has-second
+two-none k v r d a b c = rw (eq-eqb k kind-V a, lt-ltb 1 r c, eq-eqb v none b)
+
+two-D : (k v r : ℕ) (d : Bool) → k ≡ kind-V → 1 < r → d ≡ true → has-second k v r d ≡ true
+unfolding has-second
+two-D k v r d a b c = rw (eq-eqb k kind-V a, lt-ltb 1 r b) (right (eqb v none) d c)
+
+two-out : (k v r : ℕ) (d : Bool) → v < none → has-second k v r d ≡ true → (1 < r) × (d ≡ true)
+unfolding has-second
+two-out k v r d low h =
+    let a = both (eqb k kind-V && ltb 1 r) _ h in
+    let b = both (eqb k kind-V) _ (a .0) in
+    (ltb-true 1 r (b .1), go (either (eqb v none) d (a .1)))
+  where
+    go : (eqb v none ≡ true) ⊎ (d ≡ true) → d ≡ true
+    go (inl e) = absurd (omega (arith, eqb-true v none e))
+    go (inr e) = e
+
+-- ---- a certificate, taken apart and put together
+module _ (n : ℕ) (m : Statement) where
+  abbrev second : List Statement → Bool
+  second c = has-second (m .kind) (m .value) (m .round) (some-D-GET c)
+
+  -- what a held certificate has behind its first group c
+  rest-none : (c d : List Statement) → second c ≡ false → rest-holds n m c d ≡ true → d ≡ []
+  unfolding rest-holds pick
+  rest-none c d e h = no-more d (rw e at h)
+
+  rest-some : (c d : List Statement) → second c ≡ true → rest-holds n m c d ≡ true → Holds (second-group n (m .value) (m .round)) d
+  unfolding rest-holds pick
+  rest-some c d e h = holds-out (second-group n (m .value) (m .round)) d (rw e at h)
+
+  none-rest : (c : List Statement) → second c ≡ false → rest-holds n m c [] ≡ true
+  unfolding rest-holds pick
+  none-rest c e = rw e
+
+  some-rest : (c d : List Statement) → second c ≡ true → Holds (second-group n (m .value) (m .round)) d → rest-holds n m c d ≡ true
+  unfolding rest-holds pick
+  some-rest c d e h = rw e (holds-in (second-group n (m .value) (m .round)) d h)
+
+  pub record Apart (g : Group) (c : List Statement) : Type 0 where
+    pub first : List Statement
+    pub rest : List Statement
+    pub joined : first ++ rest ≡ c
+    pub held : Holds g first
+    pub wide : spread m first ≡ true
+    pub behind : rest-holds n m first rest ≡ true
+
+  apart : (g : Group) (c : List Statement) → groups-hold n m g c ≡ true → Apart g c
+  unfolding groups-hold
+  apart g c h =
+      let a = both (holds g (take (g .size) c) && spread m (take (g .size) c)) _ h in
+      let b = both (holds g (take (g .size) c)) _ (a .0) in
+      record {
+        first = take (g .size) c;
+        rest = drop (g .size) c;
+        joined = take-append-drop (g .size) c;
+        held = holds-out g (take (g .size) c) (b .0);
+        wide = b .1;
+        behind = a .1;
+      }
+
+  together : (g : Group) (c d : List Statement) → Holds g c → spread m c ≡ true → rest-holds n m c d ≡ true → groups-hold n m g (c ++ d) ≡ true
+  unfolding groups-hold
+  together g c d h w r =
+      rw (take-at c d (g .size) (h .size), drop-at c d (g .size) (h .size))
+      (join (holds g c && spread m c) _ (join (holds g c) _ (holds-in g c h) w) r)
+
+  -- a certificate of one group
+  single : (g : Group) (c : List Statement) → ((x : List Statement) → second x ≡ false) → groups-hold n m g c ≡ true → Holds g c × (spread m c ≡ true)
+  single g c one h =
+      let a = apart g c h in
+      let e : a .rest ≡ [] = rest-none (a .first) (a .rest) (one (a .first)) (a .behind) in
+      let whole : a .first ≡ c = sym (append-nil (a .first)) ∙ ap (λ (d : List Statement). a .first ++ d) (sym e) ∙ a .joined in
+      (subst (λ (x : List Statement). Holds g x) whole (a .held), subst (λ (x : List Statement). spread m x ≡ true) whole (a .wide))
+
+  single-in : (g : Group) (c : List Statement) → second c ≡ false → Holds g c → spread m c ≡ true → groups-hold n m g c ≡ true
+  single-in g c one h w = subst (λ (x : List Statement). groups-hold n m g x ≡ true) (append-nil c) (together g c [] h w (none-rest c one))
+
+  spread-out : m .kind ≡ kind-V → m .value ≡ none → (c : List Statement) → spread m c ≡ true → BothValues c
+  unfolding spread
+  spread-out k v c h = both (some-value 0 c) _ (rw (eq-eqb (m .kind) kind-V k, eq-eqb (m .value) none v) at h)
+
+  spread-in : (c : List Statement) → BothValues c → spread m c ≡ true
+  unfolding spread
+  spread-in c b = right (not (eqb (m .kind) kind-V && eqb (m .value) none)) _ (join (some-value 0 c) _ (b .0) (b .1))
+
+  spread-P : m .kind ≡ kind-P → (c : List Statement) → spread m c ≡ true
+  unfolding spread
+  spread-P k c = rw (ne-eqb (m .kind) kind-V (λ e. omega arith))
+
+  spread-value : m .value < none → (c : List Statement) → spread m c ≡ true
+  unfolding spread
+  spread-value v c = rw (ne-eqb (m .value) none (λ e. omega arith)) (left (not (eqb (m .kind) kind-V && false)) _ (go (eqb (m .kind) kind-V)))
+    where
+      go : (b : Bool) → not (b && false) ≡ true
+      go true = refl
+      go false = refl
+
+-- ---- the shape of a well-formed statement
+pub data Shape (m : Statement) : Type 0 where
+  init : m .kind ≡ kind-INIT → Shape m
+  proposal : m .kind ≡ kind-P → 1 ≤ m .round → m .flag < 2 → Shape m
+  vote : m .kind ≡ kind-V → 1 ≤ m .round → m .value ≤ none → Shape m
+
+pub shape-of : (n : ℕ) (m : Statement) → well-formed n m ≡ true → Shape m
+unfolding well-formed
+shape-of n m h = go (either _ _ (both (of-group n (m .station)) _ h .1))
+  where
+    as-init : (eqb (m .kind) kind-INIT && (eqb (m .round) 0 && ltb (m .value) 2 && eqb (m .flag) D-GET)) ≡ true → Shape m
+    as-init e = init (eqb-true _ _ (both (eqb (m .kind) kind-INIT) _ e .0))
+
+    as-proposal : (eqb (m .kind) kind-P && (leb 1 (m .round) && leb (m .round) last-round && ltb (m .value) 2 && ltb (m .flag) 2)) ≡ true → Shape m
+    as-proposal e =
+        let a = both (eqb (m .kind) kind-P) _ e in
+        let b = both (leb 1 (m .round) && leb (m .round) last-round && ltb (m .value) 2) _ (a .1) in
+        let c = both (leb 1 (m .round) && leb (m .round) last-round) _ (b .0) in
+        let d = both (leb 1 (m .round)) _ (c .0) in
+        proposal (eqb-true _ _ (a .0)) (leb-true _ _ (d .0)) (ltb-true _ _ (b .1))
+
+    as-vote : (eqb (m .kind) kind-V && (leb 1 (m .round) && leb (m .round) last-round && leb (m .value) none && eqb (m .flag) D-GET)) ≡ true → Shape m
+    as-vote e =
+        let a = both (eqb (m .kind) kind-V) _ e in
+        let b = both (leb 1 (m .round) && leb (m .round) last-round && leb (m .value) none) _ (a .1) in
+        let c = both (leb 1 (m .round) && leb (m .round) last-round) _ (b .0) in
+        let d = both (leb 1 (m .round)) _ (c .0) in
+        vote (eqb-true _ _ (a .0)) (leb-true _ _ (d .0)) (leb-true _ _ (c .1))
+
+    first : (x y : Bool) → (x ≡ true → Shape m) → (y ≡ true → Shape m) → (x || y) ≡ true → Shape m
+    first x y f g e = pair (either x y e)
+      where
+        pair : (x ≡ true) ⊎ (y ≡ true) → Shape m
+        pair (inl p) = f p
+        pair (inr p) = g p
+
+    go : ((eqb (m .kind) kind-INIT && (eqb (m .round) 0 && ltb (m .value) 2 && eqb (m .flag) D-GET))
+        || (eqb (m .kind) kind-P && (leb 1 (m .round) && leb (m .round) last-round && ltb (m .value) 2 && ltb (m .flag) 2)) ≡ true)
+        ⊎ ((eqb (m .kind) kind-V && (leb 1 (m .round) && leb (m .round) last-round && leb (m .value) none && eqb (m .flag) D-GET)) ≡ true) → Shape m
+    go (inl e) = first _ _ as-init as-proposal e
+    go (inr e) = as-vote e
+
+-- ---- the two directions
+module _ (n : ℕ) (m : Statement) (c : List Statement) where
+  abbrev held-rest : Bool
+  held-rest = not (early-toss (m .kind) (m .flag) (m .round)) && groups-hold n m (first-group n (m .kind) (m .value) (m .flag) (m .round)) c
+
+  out-init : m .kind ≡ kind-INIT → rule n m c ≡ true → Backed n m c
+  unfolding rule pick
+  out-init k h = subst (λ (x : List Statement). Backed n m x) (sym (no-more c (rw (eq-eqb (m .kind) kind-INIT k) at h))) (rule-1 k)
+
+  not-init : (m .kind ≡ kind-INIT → ⊥) → rule n m c ≡ held-rest
+  unfolding rule pick
+  not-init k = rw (ne-eqb (m .kind) kind-INIT k)
+
+  no-toss : m .kind ≡ kind-P → m .round ≡ 1 → early-toss (m .kind) (m .flag) (m .round) ≡ false → m .flag ≡ R-GET → ⊥
+  unfolding early-toss
+  no-toss a b e f = never _ e (rw (eq-eqb (m .kind) kind-P a, eq-eqb (m .round) 1 b, eq-eqb (m .flag) R-GET f))
+
+  out-P : m .kind ≡ kind-P → 1 ≤ m .round → m .flag < 2 → held-rest ≡ true → Backed n m c
+  out-P k r f h = go (eqb (m .round) 1) (eqb (m .flag) D-GET) refl refl (both (not (early-toss (m .kind) (m .flag) (m .round))) _ h)
+    where
+      one : (x : List Statement) → has-second (m .kind) (m .value) (m .round) (some-D-GET x) ≡ false
+      one x = one-P (m .kind) (m .value) (m .round) (some-D-GET x) k
+
+      not-not : (b : Bool) → not b ≡ true → b ≡ false
+      not-not true e = never false refl e
+      not-not false e = refl
+
+      held : (g : Group) → first-group n (m .kind) (m .value) (m .flag) (m .round) ≡ g
+          → groups-hold n m (first-group n (m .kind) (m .value) (m .flag) (m .round)) c ≡ true → Holds g c
+      held g e p = single n m g c one (rw e at p) .0
+
+      go : (x y : Bool) → eqb (m .round) 1 ≡ x → eqb (m .flag) D-GET ≡ y
+          → (not (early-toss (m .kind) (m .flag) (m .round)) ≡ true) × (groups-hold n m (first-group n (m .kind) (m .value) (m .flag) (m .round)) c ≡ true) → Backed n m c
+      go true true p q e =
+          let a : m .round ≡ 1 = eqb-true _ _ p in
+          rule-2 k a (eqb-true _ _ q) (held (inits n (m .value)) (first-2 n (m .value) (m .flag) (m .round) (m .kind) k a) (e .1))
+      go true false p q e =
+          absurd (no-toss k (eqb-true _ _ p) (not-not _ (e .0)) (omega (arith, eqb-false (m .flag) D-GET q)))
+      go false true p q e =
+          let a : 1 < m .round = omega (arith, eqb-false (m .round) 1 p) in
+          let d : m .flag ≡ D-GET = eqb-true _ _ q in
+          rule-3 k a d (held (proposals n (m .round - 1) (Only (m .value)) Any) (first-3 n (m .value) (m .flag) (m .round) (m .kind) k a d) (e .1))
+      go false false p q e =
+          let a : 1 < m .round = omega (arith, eqb-false (m .round) 1 p) in
+          let d : m .flag ≡ R-GET = omega (arith, eqb-false (m .flag) D-GET q) in
+          rule-4 k a d (held (none-votes n (m .round - 1)) (first-4 n (m .value) (m .flag) (m .round) (m .kind) k a d) (e .1))
+
+  out-V : m .kind ≡ kind-V → 1 ≤ m .round → m .value ≤ none → held-rest ≡ true → Backed n m c
+  out-V k r v h = go (ltb (m .value) none) (eqb (m .round) 1) refl refl (both (not (early-toss (m .kind) (m .flag) (m .round))) _ h .1)
+    where
+      five : m .value < none → Apart n m (proposals n (m .round) (Only (m .value)) Any) c → Backed n m c
+      five low a =
+          subst (λ (x : List Statement). Backed n m x) (a .joined)
+          (rule-5 k low (a .held)
+          (λ w. rw (second-5 n (m .value) (m .round) low) at (rest-some n m (a .first) (a .rest) (two-D (m .kind) (m .value) (m .round) (some-D-GET (a .first)) k (w .0) (w .1)) (a .behind)))
+          (λ w. rest-none n m (a .first) (a .rest) (is-false _ (λ e. w (two-out (m .kind) (m .value) (m .round) (some-D-GET (a .first)) low e))) (a .behind)))
+
+      seven : m .value ≡ none → 1 < m .round → Apart n m (proposals n (m .round) Any Any) c → Backed n m c
+      seven e later a =
+          subst (λ (x : List Statement). Backed n m x) (a .joined)
+          (rule-7 k e later (a .held) (spread-out n m k e (a .first) (a .wide))
+          (rw (second-7 n (m .value) (m .round) e) at (rest-some n m (a .first) (a .rest) (two-none (m .kind) (m .value) (m .round) (some-D-GET (a .first)) k e later) (a .behind))))
+
+      go : (x y : Bool) → ltb (m .value) none ≡ x → eqb (m .round) 1 ≡ y
+          → groups-hold n m (first-group n (m .kind) (m .value) (m .flag) (m .round)) c ≡ true → Backed n m c
+      go true y p q e =
+          let low : m .value < none = ltb-true _ _ p in
+          five low (apart n m (proposals n (m .round) (Only (m .value)) Any) c (rw (first-5 n (m .value) (m .flag) (m .round) (m .kind) k low) at e))
+      go false true p q e =
+          let a : m .value ≡ none = omega (arith, ltb-false (m .value) none p) in
+          let b : m .round ≡ 1 = eqb-true _ _ q in
+          let s = single n m (proposals n 1 Any (Only D-GET)) c (λ x. one-early (m .kind) (m .value) (m .round) (some-D-GET x) b)
+          (rw (first-6 n (m .value) (m .flag) (m .round) (m .kind) k a b) at e) in
+          rule-6 k a b (s .0) (spread-out n m k a c (s .1))
+      go false false p q e =
+          let a : m .value ≡ none = omega (arith, ltb-false (m .value) none p) in
+          let b : 1 < m .round = omega (arith, eqb-false (m .round) 1 q) in
+          seven a b (apart n m (proposals n (m .round) Any Any) c (rw (first-7 n (m .value) (m .flag) (m .round) (m .kind) k a b) at e))
+
+-- the test holds: a rule backs the statement
+pub rule-backed : (n : ℕ) (m : Statement) (c : List Statement) → Shape m → rule n m c ≡ true → Backed n m c
+rule-backed n m c (init k) h = out-init n m c k h
+rule-backed n m c (proposal k r f) h = out-P n m c k r f (rw (not-init n m c (λ e. omega arith)) at h)
+rule-backed n m c (vote k r v) h = out-V n m c k r v (rw (not-init n m c (λ e. omega arith)) at h)
+
+in-rest : (n : ℕ) (m : Statement) (c : List Statement) (g : Group) → (m .kind ≡ kind-INIT → ⊥) → early-toss (m .kind) (m .flag) (m .round) ≡ false
+    → first-group n (m .kind) (m .value) (m .flag) (m .round) ≡ g → groups-hold n m g c ≡ true → rule n m c ≡ true
+in-rest n m c g k e f h = rw (not-init n m c k, e, f) h
+
+late : (k f r : ℕ) → 1 < r → early-toss k f r ≡ false
+unfolding early-toss
+late k f r h = is-false _ (λ e. let a = both (eqb k kind-P && eqb r 1) _ e in let b = both (eqb k kind-P) _ (a .0) in omega (arith, eqb-true r 1 (b .1)))
+
+given : (k f r : ℕ) → f ≡ D-GET → early-toss k f r ≡ false
+unfolding early-toss
+given k f r h = is-false _ (λ e. let a = both (eqb k kind-P && eqb r 1) _ e in omega (arith, eqb-true f R-GET (a .1)))
+
+voted : (k f r : ℕ) → k ≡ kind-V → early-toss k f r ≡ false
+unfolding early-toss
+voted k f r h = is-false _ (λ e. let a = both (eqb k kind-P && eqb r 1) _ e in let b = both (eqb k kind-P) _ (a .0) in omega (arith, eqb-true k kind-P (b .0)))
+
+-- a rule backs the statement: the test holds
+pub backed-rule : (n : ℕ) (m : Statement) (c : List Statement) → Backed n m c → rule n m c ≡ true
+unfolding rule pick
+backed-rule n m c (rule-1 k) = rw (eq-eqb (m .kind) kind-INIT k)
+backed-rule n m c (rule-2 k r f h) =
+    in-rest n m c (inits n (m .value)) (λ e. omega arith) (given (m .kind) (m .flag) (m .round) f) (first-2 n (m .value) (m .flag) (m .round) (m .kind) k r)
+    (single-in n m (inits n (m .value)) c (one-P (m .kind) (m .value) (m .round) (some-D-GET c) k) h (spread-P n m k c))
+backed-rule n m c (rule-3 k r f h) =
+    in-rest n m c _ (λ e. omega arith) (given (m .kind) (m .flag) (m .round) f) (first-3 n (m .value) (m .flag) (m .round) (m .kind) k r f)
+    (single-in n m (proposals n (m .round - 1) (Only (m .value)) Any) c (one-P (m .kind) (m .value) (m .round) (some-D-GET c) k) h (spread-P n m k c))
+backed-rule n m c (rule-4 k r f h) =
+    in-rest n m c _ (λ e. omega arith) (late (m .kind) (m .flag) (m .round) r) (first-4 n (m .value) (m .flag) (m .round) (m .kind) k r f)
+    (single-in n m (none-votes n (m .round - 1)) c (one-P (m .kind) (m .value) (m .round) (some-D-GET c) k) h (spread-P n m k c))
+backed-rule n m _ (rule-5 {c} {d} k v h s o) =
+    in-rest n m (c ++ d) _ (λ e. omega arith) (voted (m .kind) (m .flag) (m .round) k) (first-5 n (m .value) (m .flag) (m .round) (m .kind) k v)
+    (together n m (proposals n (m .round) (Only (m .value)) Any) c d h (spread-value n m v c) (go (second n m c) refl))
+  where
+    go : (b : Bool) → second n m c ≡ b → rest-holds n m c d ≡ true
+    go true e =
+        let w = two-out (m .kind) (m .value) (m .round) (some-D-GET c) v e in
+        some-rest n m c d e (rw (second-5 n (m .value) (m .round) v) (s w))
+    go false e =
+        let z : d ≡ [] = o (λ w. never (second n m c) e (two-D (m .kind) (m .value) (m .round) (some-D-GET c) k (w .0) (w .1))) in
+        rw z (none-rest n m c e)
+backed-rule n m c (rule-6 k v r h b) =
+    in-rest n m c _ (λ e. omega arith) (voted (m .kind) (m .flag) (m .round) k) (first-6 n (m .value) (m .flag) (m .round) (m .kind) k v r)
+    (single-in n m (proposals n 1 Any (Only D-GET)) c (one-early (m .kind) (m .value) (m .round) (some-D-GET c) r) h (spread-in n m c b))
+backed-rule n m _ (rule-7 {c} {d} k v r h b s) =
+    in-rest n m (c ++ d) _ (λ e. omega arith) (voted (m .kind) (m .flag) (m .round) k) (first-7 n (m .value) (m .flag) (m .round) (m .kind) k v r)
+    (together n m (proposals n (m .round) Any Any) c d h (spread-in n m c b)
+    (some-rest n m c d (two-none (m .kind) (m .value) (m .round) (some-D-GET c) k v r) (rw (second-7 n (m .value) (m .round) v) s)))

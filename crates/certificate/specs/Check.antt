@@ -1,0 +1,40 @@
+-- The validity check's answer: "The validity check alone tests 2 (n), 3, 4, 5, 6 and answers 0." Each test goes over the whole bundle before the next.
+use Prim.Native.Nat.{ℕ, suc}
+use mathlib.Core.Bool.{Bool, true, _&&_}
+use mathlib.Core.List.{List, [], _∷_}
+use lib.Dec.{eqb}
+use Rattle.laws.specs.Refusals.{Test, test, first-failed}
+use Rattle.format.specs.Numbers.{out-of-range, malformed, other-question, wrong-code, no-certificate}
+use Rattle.format.specs.Group.{size-fits}
+use Rattle.format.specs.Statement.{Statement, statements, hmac-code, verifies}
+use Rattle.format.specs.Bundle.{count-in, main-of, certificate-of, bundle-fits}
+use Rattle.certificate.specs.Rules.{rule}
+
+unfoldable pub every : (Statement → Bool) → List Statement → Bool
+every p [] = true
+every p (s ∷ c) = p s && every p c
+
+-- "all of the main statement's question"
+abbrev pub one-question : Statement → List Statement → Bool
+one-question m c = every (λ s. eqb (s .question) (m .question)) c
+
+-- "all codes verified", the main statement's too
+abbrev pub all-verify : (List ℕ → List ℕ) → List Statement → Bool
+all-verify code c = every (verifies code) c
+
+-- for a code function: what is tested, in this order
+abbrev pub check-tests : (List ℕ → List ℕ) → ℕ → List ℕ → List Test
+check-tests code n ws =
+    test (size-fits n) out-of-range
+    ∷ test (bundle-fits n ws) malformed
+    ∷ test (one-question (main-of ws) (certificate-of ws)) other-question
+    ∷ test (all-verify code (statements ws 1 (suc (count-in ws)))) wrong-code
+    ∷ test (rule n (main-of ws) (certificate-of ws)) no-certificate
+    ∷ []
+
+unfoldable pub check-by : (List ℕ → List ℕ) → ℕ → List ℕ → ℕ
+check-by code n ws = first-failed (check-tests code n ws)
+
+-- the answer under a group's key and n
+unfoldable pub checked : List ℕ → ℕ → List ℕ → ℕ
+checked key n ws = check-by (hmac-code key) n ws

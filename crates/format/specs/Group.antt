@@ -1,0 +1,75 @@
+-- The group and its thresholds, for any n, with the laws that they are chosen for.
+use mathlib.Core.Path.{_≡_, refl}
+use mathlib.Core.Bool.{Bool, true, not, _&&_}
+use mathlib.Core.List.{List, [], _∷_}
+use Prim.Native.Nat.{ℕ, _+_, _-_, _*_, _/_, _≤_, _<_}
+use native.Mathlib.Omega.{arith}
+use lib.Dec.{leb, eqb}
+use borrow.Author.Tests.{not-true}
+use Rattle.laws.specs.Pick.{pick}
+use Rattle.laws.specs.Refusals.{All}
+use Rattle.laws.specs.Count.{count, Shared, meet, count-not}
+
+-- "A group has n stations, 2 to 31, numbered 1 to n."
+abbrev pub size-fits : ℕ → Bool
+size-fits n = leb 2 n && leb n 31
+
+-- "At most (n − 1)/2 rounded down are faulty."
+abbrev pub most-faulty : ℕ → ℕ
+most-faulty n = (n - 1) / 2
+
+-- "The quorum q is n/2 rounded down, plus 1."
+abbrev pub quorum : ℕ → ℕ
+quorum n = n / 2 + 1
+
+-- "for value 0 it is n/4 rounded down, plus 1; for value 1 it is (n + 2)/4 rounded down, plus 1"
+unfoldable pub backing : ℕ → ℕ → ℕ
+backing n v = pick (eqb v 0) (n / 4 + 1) ((n + 2) / 4 + 1)
+
+-- ---- why these numbers
+
+-- two quorums share a station
+pub quorums-meet : (n : ℕ) (f g : ℕ → Bool) → quorum n ≤ count f n → quorum n ≤ count g n → Shared f g n
+quorums-meet n f g p q = meet f g n (omega arith)
+
+-- a quorum holds a station outside any set of at most (n − 1)/2
+pub quorum-sound : (n : ℕ) (f faulty : ℕ → Bool) → 1 ≤ n → quorum n ≤ count f n → count faulty n ≤ most-faulty n → Shared f (λ i. not (faulty i)) n
+quorum-sound n f faulty one p q = meet f (λ i. not (faulty i)) n (omega (arith, count-not faulty n))
+
+-- a quorum can be had without the faulty
+pub quorum-there : (n : ℕ) → 1 ≤ n → quorum n ≤ n - most-faulty n
+quorum-there n h = omega arith
+
+-- "0 if at least half of the q are 0, else 1": the backing of each value is the least number of INITs with which it is proposed
+pub backing-0 : (n : ℕ) → backing n 0 ≡ (quorum n + 1) / 2
+unfolding backing pick
+backing-0 n = omega arith
+
+pub backing-1 : (n : ℕ) → backing n 1 ≡ quorum n / 2 + 1
+unfolding backing pick
+backing-1 n = omega arith
+
+-- among any q INITs the proposed value has its backing
+pub proposed-0 : (n zeros ones : ℕ) → zeros + ones ≡ quorum n → quorum n ≤ 2 * zeros → backing n 0 ≤ zeros
+proposed-0 n zeros ones all half = omega (arith, backing-0 n)
+
+pub proposed-1 : (n zeros ones : ℕ) → zeros + ones ≡ quorum n → 2 * zeros < quorum n → backing n 1 ≤ ones
+proposed-1 n zeros ones all half = omega (arith, backing-1 n)
+
+-- ---- the marked examples of the count
+pub record Counts : Type 0 where
+  pub n : ℕ
+  pub q : ℕ
+  pub of-0 : ℕ
+  pub of-1 : ℕ
+
+abbrev pub counts : ℕ → ℕ → ℕ → ℕ → Counts
+counts n q a b = record { n = n; q = q; of-0 = a; of-1 = b }
+
+-- "n 2: q 2, backings 1 and 2; n 6: q 4, backings 2 and 3; n 31: q 16, backings 8 and 9"
+abbrev pub marked : List Counts
+marked = counts 2 2 1 2 ∷ counts 6 4 2 3 ∷ counts 31 16 8 9 ∷ []
+
+pub marked-hold : All (λ r. (quorum (r .n) ≡ r .q) × (backing (r .n) 0 ≡ r .of-0) × (backing (r .n) 1 ≡ r .of-1)) marked
+unfolding backing pick
+marked-hold = ((refl, refl, refl), ((refl, refl, refl), ((refl, refl, refl), tt)))
