@@ -38,7 +38,7 @@ statement-words = 10
 abbrev pub bundle-words : ℕ → ℕ
 bundle-words count = 1 + statement-words * (1 + count)
 
--- the table of returns, as far as the validity check goes
+-- the table of returns
 abbrev pub valid : ℕ
 valid = 0
 
@@ -56,3 +56,40 @@ wrong-code = 5
 
 abbrev pub no-certificate : ℕ
 no-certificate = 6
+
+abbrev pub kept : ℕ
+kept = 0
+
+abbrev pub sent : ℕ
+sent = 20
+
+abbrev pub sent-decided : ℕ
+sent-decided = 21
+
+abbrev pub closed-now : ℕ
+closed-now = 22
+
+abbrev pub short-output : ℕ
+short-output = 1
+
+abbrev pub too-early : ℕ
+too-early = 8
+
+abbrev pub too-late : ℕ
+too-late = 7
+
+abbrev pub already-held : ℕ
+already-held = 9
+
+abbrev pub conflicting : ℕ
+conflicting = 10
+
+abbrev pub station-closed : ℕ
+station-closed = 11
+
+abbrev pub not-above : ℕ
+not-above = 12
+
+-- "lent output below 331 words"
+abbrev pub output-words : ℕ
+output-words = bundle-words most-statements

@@ -1,0 +1,89 @@
+-- Opening and giving: what the public calls promise, from words to words (document 01, "Table of returns").
+use Prim.Native.Nat.{ℕ, suc, _+_, _*_}
+use mathlib.Core.Bool.{Bool, true, false, not, _&&_}
+use mathlib.Core.List.{List, [], _∷_, _++_}
+use lib.Dec.{eqb, ltb, leb}
+use lib.ListN.{length, drop, replicate}
+use Rattle.laws.specs.Pick.{pick}
+use Rattle.laws.specs.Refusals.{Test, test, first-failed}
+use Rattle.format.specs.Numbers.{short-output, output-words, out-of-range, malformed, other-question, wrong-code, no-certificate, station-closed, bundle-words}
+use Rattle.format.specs.Statement.{Statement, statements, hmac-code, step}
+use Rattle.format.specs.Bundle.{count-in, main-of, certificate-of, bundle-fits}
+use Rattle.certificate.specs.Rules.{rule}
+use Rattle.certificate.specs.Check.{one-question, all-verify}
+use Rattle.sealed.specs.declared.Module.{Module}
+use Rattle.sealed.specs.Sealed.{module-fits, last-for, advanced}
+use Rattle.station.specs.declared.Stage.the-variants.{Gathering}
+use Rattle.station.specs.declared.Station.{Station}
+use Rattle.station.specs.Machine.{State, Outcome, refused, keeps, sends, opened, taken, step-tests}
+use Rattle.station.specs.Words.{state-of, station-of, bundle-of, over}
+use Rattle.station.specs.Fit.{fits}
+
+-- all that a call returns: the number, the word count, the station, the module, and the lent output
+pub record Returned : Type 0 where
+  pub number : ℕ
+  pub count : ℕ
+  pub station : Station
+  pub after : Module
+  pub lent : List ℕ
+
+-- "Where no bundle is written the word count is zero. At a refusal station, module and lent words keep their values."
+unfoldable pub returned : Module → Station → List ℕ → Outcome → Returned
+returned m t out (refused k) = record { number = k; count = 0; station = t; after = m; lent = out }
+returned m t out (keeps k s) = record { number = k; count = 0; station = station-of (m .n) (m .number) s; after = m; lent = out }
+returned m t out (sends k s c u) =
+    record {
+      number = k;
+      count = bundle-words (length c);
+      station = station-of (m .n) (m .number) u;
+      after = advanced m (s .question) (step s);
+      lent = over (bundle-of s c) out;
+    }
+
+-- what is done unless a test fails
+abbrev pub unless : List Test → Outcome → Outcome
+unless l o = pick (eqb (first-failed l) 0) o (refused (first-failed l))
+
+-- a refused opening returns this station, closed and all zero, which every call refuses by 2
+abbrev pub no-station : Station
+no-station =
+    record {
+      identity = record { n = 0; number = 0; question = 0 };
+      stage = Gathering;
+      closed = true;
+      decision = 0;
+      held = record { heard = 0; slots = replicate 310 0 };
+      groups = record { first = replicate 160 0; second = replicate 160 0 };
+    }
+
+module _ (mac : List ℕ → List ℕ → List ℕ) where
+  -- "Opening tests 1, 2, 12."
+  abbrev pub open-tests : Module → ℕ → List ℕ → List Test
+  open-tests m proposal out = test (leb output-words (length out)) short-output ∷ test (module-fits m && ltb proposal 2) out-of-range ∷ []
+
+  abbrev pub opening-outcome : Module → ℕ → ℕ → List ℕ → Outcome
+  opening-outcome m question proposal out =
+      unless (open-tests m proposal out) (opened (mac (m .key)) (m .n) (m .number) (last-for m question) question proposal)
+
+  unfoldable pub opening : Module → ℕ → ℕ → List ℕ → Returned
+  opening m question proposal out = returned m no-station out (opening-outcome m question proposal out)
+
+  -- "A station given a bundle tests 1, 2, 11, 3, 4, 5, 6, 7, 8, 9, 10 and, only where a bundle would be written, 12."
+  abbrev pub give-tests : Module → Station → List ℕ → ℕ → List ℕ → List Test
+  give-tests m t ws coin out =
+      test (leb output-words (length out)) short-output
+      ∷ test (module-fits m && ltb coin 2 && fits (m .n) (m .number) t) out-of-range
+      ∷ test (not (t .closed)) station-closed
+      ∷ test (bundle-fits (m .n) ws) malformed
+      ∷ test (one-question (main-of ws) (certificate-of ws) && eqb (main-of ws .question) (t .identity .question)) other-question
+      ∷ test (all-verify (mac (m .key)) (statements ws 1 (suc (count-in ws)))) wrong-code
+      ∷ test (rule (m .n) (main-of ws) (certificate-of ws)) no-certificate
+      ∷ step-tests (state-of t) (main-of ws)
+
+  abbrev pub giving-outcome : Module → Station → List ℕ → ℕ → List ℕ → Outcome
+  giving-outcome m t ws coin out =
+      unless (give-tests m t ws coin out)
+      (taken (mac (m .key)) (m .n) (m .number) (last-for m (t .identity .question)) (state-of t) (main-of ws) (certificate-of ws) coin)
+
+  unfoldable pub giving : Module → Station → List ℕ → ℕ → List ℕ → Returned
+  giving m t ws coin out = returned m t out (giving-outcome m t ws coin out)

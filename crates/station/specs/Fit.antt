@@ -1,0 +1,79 @@
+-- "A station fits if, unless closed, it holds fewer than q well-formed statements of its question and step, its own among them, and the set names
+-- exactly their stations; docs/ lists what its other kept words need": docs/STATION.md.
+use Prim.Native.Nat.{ℕ, zero, suc, _+_, _-_, _*_, _/_, _%_, _^_}
+use mathlib.Core.Bool.{Bool, true, false, _&&_, _||_}
+use mathlib.Core.List.{List, [], _∷_}
+use lib.Count.{ones}
+use lib.Dec.{eqb, leb, ltb}
+use lib.ListN.{length, getD, take, drop}
+use Rattle.laws.specs.Pick.{pick}
+use Rattle.format.specs.Numbers.{none, last-round}
+use Rattle.format.specs.Group.{quorum}
+use Rattle.format.specs.Words.{flag-of, formed, fields-of, step-of, kind-of, round-of, station-of}
+use Rattle.format.specs.Statement.{Statement, statements}
+use Rattle.format.specs.Bundle.{all-formed}
+use Rattle.certificate.specs.declared.Group.{Group}
+use Rattle.certificate.specs.Rules.{holds}
+use Rattle.certificate.specs.Check.{every}
+use Rattle.sealed.specs.declared.Module.{Module}
+use Rattle.sealed.specs.Sealed.{module-fits}
+use Rattle.station.specs.declared.Stage.{Stage}
+use Rattle.station.specs.declared.Stage.the-variants.{Gathering, Proposing, Voting}
+use Rattle.station.specs.declared.Station.{Station}
+use Rattle.station.specs.Machine.{stage-step}
+use Rattle.station.specs.Words as W
+use Rattle.station.specs.Words.{bit, sites, held-by, kept-first, kept-second}
+
+-- k words from a place on, all zero
+unfoldable pub zeros : List ℕ → ℕ → ℕ → Bool
+zeros ws at zero = true
+zeros ws at (suc k) = eqb (getD ws at 0) 0 && zeros ws (suc at) k
+
+-- a slot whose bit is set: a well-formed statement of its station, of the question and of the step
+abbrev pub slot-fits : ℕ → ℕ → ℕ → ℕ → List ℕ → Bool
+slot-fits n question step i slots =
+    formed n (fields-of (getD slots (i * 10) 0))
+    && eqb (station-of (getD slots (i * 10) 0)) (i + 1)
+    && eqb (getD slots (i * 10 + 1) 0) question
+    && eqb (step-of (kind-of (getD slots (i * 10) 0)) (round-of (getD slots (i * 10) 0))) step
+
+-- k slots from slot i on: as above where the bit is set, zero elsewhere
+unfoldable pub slots-fit : ℕ → ℕ → ℕ → ℕ → List ℕ → ℕ → ℕ → Bool
+slots-fit n question step set slots i zero = true
+slots-fit n question step set slots i (suc k) =
+    pick (bit set i) (slot-fits n question step i slots) (zeros slots (i * 10) 10) && slots-fit n question step set slots (suc i) k
+
+-- the stage's round is in range; a proposing station's flag is its own proposal's, whose word 0 this is
+abbrev pub stage-fits : Stage → ℕ → Bool
+stage-fits Gathering w = true
+stage-fits (Proposing r f) w = leb 1 (r .0) && leb (r .0) last-round && eqb f (flag-of w)
+stage-fits (Voting r) w = leb 1 (r .0) && leb (r .0) last-round
+
+-- a kept group: well-formed statements of the question, as the group asks, and zeros behind them
+abbrev pub group-fits : ℕ → ℕ → Group → List ℕ → Bool
+group-fits n question g ws =
+    holds g (statements ws 0 (g .size))
+    && all-formed n ws 0 (g .size)
+    && every (λ s. eqb (s .question) question) (statements ws 0 (g .size))
+    && zeros ws (g .size * 10) (160 - g .size * 10)
+
+-- the held statements: no bit behind the last slot, fewer than q, the own among them, and each slot as its bit says
+abbrev pub held-fits : ℕ → ℕ → Station → Bool
+held-fits n number t =
+    ltb (t .held .heard) (2 ^ sites)
+    && ltb (ones (t .held .heard)) (quorum n)
+    && bit (t .held .heard) (number - 1)
+    && slots-fit n (t .identity .question) (stage-step (t .stage)) (t .held .heard) (t .held .slots) 0 sites
+
+-- the other kept words
+abbrev pub rest-fits : ℕ → ℕ → Station → Bool
+rest-fits n number t =
+    stage-fits (t .stage) (getD (t .held .slots) ((number - 1) * 10) 0)
+    && leb (t .decision) none
+    && group-fits n (t .identity .question) (kept-first n (t .stage) (held-by t)) (t .groups .first)
+    && group-fits n (t .identity .question) (kept-second n (t .stage) (held-by t)) (t .groups .second)
+
+-- "a station whose n or number isn't the given module's, or whose stage, set and held statements don't fit one another"
+unfoldable pub fits : ℕ → ℕ → Station → Bool
+fits n number t =
+    eqb (t .identity .n) n && eqb (t .identity .number) number && (t .closed || (held-fits n number t && rest-fits n number t))

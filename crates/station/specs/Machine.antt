@@ -1,0 +1,244 @@
+-- What a station does with statements that are read already (document 01, "The station"). No word is looked into here.
+use Prim.Native.Nat.{ℕ, zero, suc, _+_, _-_, _*_, _≤_, _<_}
+use mathlib.Core.Bool.{Bool, true, false, not, _&&_, _||_}
+use mathlib.Core.List.{List, [], _∷_, _++_}
+use lib.Dec.{eqb, ltb, leb}
+use lib.ListN.{length, take, drop}
+use Rattle.laws.specs.Pick.{pick}
+use Rattle.laws.specs.Refusals.{Test, test, first-failed}
+use Rattle.format.specs.Numbers.{kind-INIT, kind-P, kind-V, none, D-GET, R-GET, last-round, kept, sent, sent-decided, closed-now, too-early, too-late, already-held, conflicting, not-above}
+use Rattle.format.specs.Group.{quorum, backing}
+use Rattle.format.specs.Words.{step-of}
+use Rattle.format.specs.Statement.{Statement, step}
+use Rattle.certificate.specs.declared.Which.the-variants.{Any, Only}
+use Rattle.certificate.specs.declared.Group.{Group}
+use Rattle.certificate.specs.Rules.{group, proposals, none-votes, some, some-D-GET, some-value}
+use Rattle.certificate.specs.Check.{every}
+use Rattle.sealed.specs.declared.Last.{Last}
+use Rattle.sealed.specs.Sealed.{above, signed}
+use Rattle.station.specs.declared.Stage.{Stage}
+use Rattle.station.specs.declared.Stage.the-variants.{Gathering, Proposing, Voting}
+
+-- ---- the stage
+abbrev pub kind-in : Stage → ℕ
+kind-in Gathering = kind-INIT
+kind-in (Proposing r f) = kind-P
+kind-in (Voting r) = kind-V
+
+abbrev pub round-in : Stage → ℕ
+round-in Gathering = 0
+round-in (Proposing r f) = r .0
+round-in (Voting r) = r .0
+
+abbrev pub stage-step : Stage → ℕ
+stage-step g = step-of (kind-in g) (round-in g)
+
+abbrev pub proposing : ℕ → ℕ → Stage
+proposing r f = Proposing (record { 0 = r }) f
+
+abbrev pub voting : ℕ → Stage
+voting r = Voting (record { 0 = r })
+
+-- what a station knows: the question, its stage, whether it is closed, its decision (2 = none), the statements of its step by rising station,
+-- and the two groups that it keeps
+pub record State : Type 0 where
+  pub question : ℕ
+  pub stage : Stage
+  pub closed : Bool
+  pub decision : ℕ
+  pub held : List Statement
+  pub first : List Statement
+  pub second : List Statement
+
+-- ---- which held bundle can supply which group
+-- the first kept group: a D-GET proposal's certificate, which a vote for its value needs behind the proposals; a vote's own first group, which
+-- the next round's D-GET proposal needs
+abbrev pub supplies-first : Stage → Statement → Bool
+supplies-first Gathering s = false
+supplies-first (Proposing r f) s = ltb 1 (r .0) && eqb (s .flag) D-GET
+supplies-first (Voting r) s = ltb (s .value) none
+
+-- the second kept group: an R-GET proposal's certificate, which a none vote needs behind the proposals
+abbrev pub supplies-second : Stage → Statement → Bool
+supplies-second Gathering s = false
+supplies-second (Proposing r f) s = ltb 1 (r .0) && eqb (s .flag) R-GET
+supplies-second (Voting r) s = false
+
+-- "the lowest-numbered station's is taken": a new bundle's, unless a lower-numbered station supplies it already
+abbrev pub takes : (Statement → Bool) → List Statement → Statement → Bool
+takes p held m = p m && not (some (λ s. p s && ltb (s .station) (m .station)) held)
+
+-- a statement among those held, by rising station
+unfoldable pub insert : Statement → List Statement → List Statement
+insert m [] = m ∷ []
+insert m (s ∷ h) = pick (ltb (m .station) (s .station)) (m ∷ s ∷ h) (s ∷ insert m h)
+
+-- the state with one bundle more: its main statement held, its first q certificate statements kept where they are to be
+abbrev pub keeping : ℕ → State → Statement → List Statement → State
+keeping n t m c =
+    record {
+      question = t .question;
+      stage = t .stage;
+      closed = t .closed;
+      decision = t .decision;
+      held = insert m (t .held);
+      first = pick (takes (supplies-first (t .stage)) (t .held) m) (take (quorum n) c) (t .first);
+      second = pick (takes (supplies-second (t .stage)) (t .held) m) (take (quorum n) c) (t .second);
+    }
+
+-- ---- the end of a step
+unfoldable pub number-of : (Statement → Bool) → List Statement → ℕ
+number-of p [] = 0
+number-of p (s ∷ h) = pick (p s) (suc (number-of p h)) (number-of p h)
+
+abbrev pub has-value : ℕ → Statement → Bool
+has-value v s = eqb (s .value) v
+
+-- "INITs: 0 if at least half of the q are 0, else 1"
+unfoldable pub first-value : List Statement → ℕ
+first-value h = pick (leb (length h) (2 * number-of (has-value 0) h)) 0 1
+
+-- those that a test takes, in order
+unfoldable pub those : (Statement → Bool) → List Statement → List Statement
+those p [] = []
+those p (s ∷ h) = pick (p s) (s ∷ those p h) (those p h)
+
+-- "P: all q equal gives V with that value; else V none."
+unfoldable pub vote-value : List Statement → ℕ
+vote-value h = pick (every (has-value 0) h) 0 (pick (every (has-value 1) h) 1 none)
+
+-- "V: all q the same 0 or 1 decides it."
+unfoldable pub decided : List Statement → ℕ
+decided h = vote-value h
+
+-- "At least one with 0 or 1: P of the next round with it": that value, or none where all are none
+unfoldable pub carried : List Statement → ℕ
+carried h = pick (some-value 0 h) 0 (pick (some-value 1 h) 1 none)
+
+-- "The first decision is kept"
+abbrev pub decision-after : ℕ → ℕ → ℕ
+decision-after old new = pick (ltb old none) old new
+
+-- the statement that follows a step, but for its station, question and code; its certificate; and the next stage
+pub record Next : Type 0 where
+  pub kind : ℕ
+  pub value : ℕ
+  pub flag : ℕ
+  pub round : ℕ
+  pub first : List Statement
+  pub second : List Statement
+  pub stage : Stage
+
+abbrev pub next : ℕ → ℕ → ℕ → ℕ → List Statement → List Statement → Stage → Next
+next k v f r c d g = record { kind = k; value = v; flag = f; round = r; first = c; second = d; stage = g }
+
+-- "P of round 1 follows, D-GET. Of the INITs with that value, the lowest-numbered go into the certificate."
+abbrev pub after-inits : ℕ → List Statement → Next
+after-inits n h =
+    next kind-P (first-value h) D-GET 1 (take (backing n (first-value h)) (those (has-value (first-value h)) h)) [] (proposing 1 D-GET)
+
+-- the vote, with the proposals as its first group; its second group is that of rule 5 or of rule 7
+abbrev pub after-proposals : ℕ → State → Next
+after-proposals r t =
+    next kind-V (vote-value (t .held)) D-GET r (t .held)
+    (pick (ltb 1 r) (pick (ltb (vote-value (t .held)) none) (pick (some-D-GET (t .held)) (t .first) []) (t .second)) [])
+    (voting r)
+
+-- "At least one with 0 or 1: P of the next round with it, D-GET. All none: P flagged R-GET with the call's coin."
+abbrev pub after-votes : ℕ → State → ℕ → Next
+after-votes r t coin =
+    pick (ltb (carried (t .held)) none)
+    (next kind-P (carried (t .held)) D-GET (r + 1) (t .first) [] (proposing (r + 1) D-GET))
+    (next kind-P coin R-GET (r + 1) (t .held) [] (proposing (r + 1) R-GET))
+
+unfoldable pub follows : ℕ → Stage → State → ℕ → Next
+follows n Gathering t coin = after-inits n (t .held)
+follows n (Proposing r f) t coin = after-proposals (r .0) t
+follows n (Voting r) t coin = after-votes (r .0) t coin
+
+-- "The votes of round 65,535 are counted, then the station closes without a bundle."
+abbrev pub closes : Stage → Bool
+closes Gathering = false
+closes (Proposing r f) = false
+closes (Voting r) = eqb (r .0) last-round
+
+-- the decision behind the end of a step: only votes decide
+abbrev pub decision-at : Stage → ℕ → List Statement → ℕ
+decision-at Gathering old h = old
+decision-at (Proposing r f) old h = old
+decision-at (Voting r) old h = decision-after old (decided h)
+
+-- ---- what a call does
+pub data Outcome : Type 0 where
+  refused : ℕ → Outcome
+  keeps : ℕ → State → Outcome
+  sends : ℕ → Statement → List Statement → State → Outcome
+
+-- a statement of the module's station, with its code
+abbrev pub own : (List ℕ → List ℕ) → ℕ → ℕ → ℕ → ℕ → ℕ → ℕ → Statement
+own code number question kind value flag round =
+    signed code (record { kind = kind; value = value; flag = flag; station = number; round = round; question = question; code = [] })
+
+-- the state of a station that has just sent: its own statement held, its own certificate kept where a later bundle needs it
+abbrev pub began : ℕ → Stage → ℕ → Statement → List Statement → State
+began question g decision s c =
+    record {
+      question = question;
+      stage = g;
+      closed = false;
+      decision = decision;
+      held = s ∷ [];
+      first = pick (supplies-first g s) c [];
+      second = pick (supplies-second g s) c [];
+    }
+
+-- "only where a bundle would be written, 12"
+abbrev pub sending : Last → ℕ → Statement → List Statement → List Statement → State → Outcome
+sending last number s c d t = pick (above last (s .question) (step s)) (sends number s (c ++ d) t) (refused not-above)
+
+module _ (code : List ℕ → List ℕ) (n number : ℕ) (last : Last) where
+  -- opening: an INIT is sent, and the station gathers
+  abbrev pub opened : ℕ → ℕ → Outcome
+  opened question proposal =
+      let s = own code number question kind-INIT proposal D-GET 0 in
+      sending last sent s [] [] (began question Gathering none s [])
+
+  -- the step of t has ended
+  abbrev pub moved : State → Next → ℕ → Outcome
+  moved t x d =
+      let s = own code number (t .question) (x .kind) (x .value) (x .flag) (x .round) in
+      sending last (pick (ltb (t .decision) none || eqb d none) sent sent-decided) s (x .first) (x .second) (began (t .question) (x .stage) d s (x .first))
+
+  abbrev pub shut : State → ℕ → State
+  shut t d =
+      record { question = t .question; stage = t .stage; closed = true; decision = d; held = []; first = []; second = [] }
+
+  unfoldable pub ended : State → ℕ → Outcome
+  ended t coin =
+      let d = decision-at (t .stage) (t .decision) (t .held) in
+      pick (closes (t .stage)) (keeps closed-now (shut t d)) (moved t (follows n (t .stage) t coin) d)
+
+  -- "The q-th statement ends the step in that call."
+  unfoldable pub taken : State → Statement → List Statement → ℕ → Outcome
+  taken t m c coin =
+      let k = keeping n t m c in
+      pick (ltb (length (k .held)) (quorum n)) (keeps kept k) (ended k coin)
+
+-- ---- refusals of a bundle whose main statement is m, behind those of the validity check
+abbrev pub held-of : ℕ → List Statement → Bool
+held-of station h = some (λ s. eqb (s .station) station) h
+
+-- "the held and the new would have votes for both 0 and 1, or, in a round over 1, D-GET of both values"
+unfoldable pub conflict : Stage → List Statement → Bool
+conflict Gathering h = false
+conflict (Proposing r f) h =
+    ltb 1 (r .0) && (some (λ s. eqb (s .flag) D-GET && has-value 0 s) h && some (λ s. eqb (s .flag) D-GET && has-value 1 s) h)
+conflict (Voting r) h = some (has-value 0) h && some (has-value 1) h
+
+abbrev pub step-tests : State → Statement → List Test
+step-tests t m =
+    test (leb (stage-step (t .stage)) (step m)) too-late
+    ∷ test (leb (step m) (stage-step (t .stage))) too-early
+    ∷ test (not (held-of (m .station) (t .held))) already-held
+    ∷ test (not (conflict (t .stage) (m ∷ t .held))) conflicting
+    ∷ []
