@@ -13,8 +13,8 @@ use Rattle.laws.specs.Pick.{pick}
 use Rattle.laws.specs.Bools.{never, both, join, either, left, right, is-false}
 use Rattle.laws.specs.Refusals.{All}
 use Rattle.format.specs.Numbers.{kind-INIT, kind-P, kind-V, none, D-GET, R-GET, last-round}
-use Rattle.format.specs.Words.{shaped, of-group}
-use Rattle.format.specs.Statement.{Statement, well-formed}
+use Rattle.format.specs.Statement.{Statement}
+use Rattle.format.specs.Shape.{Shape, init, proposal, vote}
 use Rattle.certificate.specs.declared.Which.the-variants.{Any, Only}
 use Rattle.certificate.specs.declared.Group.{Group}
 use Rattle.certificate.specs.Rules.{wanted, matches, Rising, Holds, in-order, holds, inits, proposals, none-votes, some, some-D-GET, some-value, BothValues, NeedsSecond, Backed, rule-1, rule-2, rule-3, rule-4, rule-5, rule-6, rule-7, first-group, second-group, has-second, early-toss, rest-holds, spread, groups-hold, rule}
@@ -192,48 +192,6 @@ module _ (n : ℕ) (m : Statement) where
       go true = refl
       go false = refl
 
--- ---- the shape of a well-formed statement
-pub data Shape (m : Statement) : Type 0 where
-  init : m .kind ≡ kind-INIT → Shape m
-  proposal : m .kind ≡ kind-P → 1 ≤ m .round → m .flag < 2 → Shape m
-  vote : m .kind ≡ kind-V → 1 ≤ m .round → m .value ≤ none → Shape m
-
-pub shape-of : (n : ℕ) (m : Statement) → well-formed n m ≡ true → Shape m
-unfolding well-formed
-shape-of n m h = go (either _ _ (both (of-group n (m .station)) _ h .1))
-  where
-    as-init : (eqb (m .kind) kind-INIT && (eqb (m .round) 0 && ltb (m .value) 2 && eqb (m .flag) D-GET)) ≡ true → Shape m
-    as-init e = init (eqb-true _ _ (both (eqb (m .kind) kind-INIT) _ e .0))
-
-    as-proposal : (eqb (m .kind) kind-P && (leb 1 (m .round) && leb (m .round) last-round && ltb (m .value) 2 && ltb (m .flag) 2)) ≡ true → Shape m
-    as-proposal e =
-        let a = both (eqb (m .kind) kind-P) _ e in
-        let b = both (leb 1 (m .round) && leb (m .round) last-round && ltb (m .value) 2) _ (a .1) in
-        let c = both (leb 1 (m .round) && leb (m .round) last-round) _ (b .0) in
-        let d = both (leb 1 (m .round)) _ (c .0) in
-        proposal (eqb-true _ _ (a .0)) (leb-true _ _ (d .0)) (ltb-true _ _ (b .1))
-
-    as-vote : (eqb (m .kind) kind-V && (leb 1 (m .round) && leb (m .round) last-round && leb (m .value) none && eqb (m .flag) D-GET)) ≡ true → Shape m
-    as-vote e =
-        let a = both (eqb (m .kind) kind-V) _ e in
-        let b = both (leb 1 (m .round) && leb (m .round) last-round && leb (m .value) none) _ (a .1) in
-        let c = both (leb 1 (m .round) && leb (m .round) last-round) _ (b .0) in
-        let d = both (leb 1 (m .round)) _ (c .0) in
-        vote (eqb-true _ _ (a .0)) (leb-true _ _ (d .0)) (leb-true _ _ (c .1))
-
-    first : (x y : Bool) → (x ≡ true → Shape m) → (y ≡ true → Shape m) → (x || y) ≡ true → Shape m
-    first x y f g e = pair (either x y e)
-      where
-        pair : (x ≡ true) ⊎ (y ≡ true) → Shape m
-        pair (inl p) = f p
-        pair (inr p) = g p
-
-    go : ((eqb (m .kind) kind-INIT && (eqb (m .round) 0 && ltb (m .value) 2 && eqb (m .flag) D-GET))
-        || (eqb (m .kind) kind-P && (leb 1 (m .round) && leb (m .round) last-round && ltb (m .value) 2 && ltb (m .flag) 2)) ≡ true)
-        ⊎ ((eqb (m .kind) kind-V && (leb 1 (m .round) && leb (m .round) last-round && leb (m .value) none && eqb (m .flag) D-GET)) ≡ true) → Shape m
-    go (inl e) = first _ _ as-init as-proposal e
-    go (inr e) = as-vote e
-
 -- ---- the two directions
 module _ (n : ℕ) (m : Statement) (c : List Statement) where
   abbrev held-rest : Bool
@@ -315,9 +273,9 @@ module _ (n : ℕ) (m : Statement) (c : List Statement) where
 
 -- the test holds: a rule backs the statement
 pub rule-backed : (n : ℕ) (m : Statement) (c : List Statement) → Shape m → rule n m c ≡ true → Backed n m c
-rule-backed n m c (init k) h = out-init n m c k h
-rule-backed n m c (proposal k r f) h = out-P n m c k r f (rw (not-init n m c (λ e. omega arith)) at h)
-rule-backed n m c (vote k r v) h = out-V n m c k r v (rw (not-init n m c (λ e. omega arith)) at h)
+rule-backed n m c (init k z v g) h = out-init n m c k h
+rule-backed n m c (proposal k r l v f) h = out-P n m c k r f (rw (not-init n m c (λ e. omega arith)) at h)
+rule-backed n m c (vote k r l v g) h = out-V n m c k r v (rw (not-init n m c (λ e. omega arith)) at h)
 
 in-rest : (n : ℕ) (m : Statement) (c : List Statement) (g : Group) → (m .kind ≡ kind-INIT → ⊥) → early-toss (m .kind) (m .flag) (m .round) ≡ false
     → first-group n (m .kind) (m .value) (m .flag) (m .round) ≡ g → groups-hold n m g c ≡ true → rule n m c ≡ true

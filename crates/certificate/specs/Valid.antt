@@ -18,7 +18,8 @@ use Rattle.format.specs.Bundle.{head-fits, count-in, laid-out, main-of, certifi
 use Rattle.format.specs.Layout.{formed-well}
 use Rattle.certificate.specs.Rules.{Backed, rule}
 use Rattle.certificate.specs.Check.{every, one-question, all-verify, check-tests, check-by, checked}
-use Rattle.certificate.specs.Backed.{shape-of, rule-backed, backed-rule}
+use Rattle.format.specs.Shape.{formed-out}
+use Rattle.certificate.specs.Backed.{rule-backed, backed-rule}
 
 -- "A bundle is a head word (bits 31..30 are 3, bits 29..16 zero, bits 15..0 the count of certificate statements, 0 to 32), one main statement, then
 -- the certificate. It has 1 + 10 × (1 + count) words", and each statement's word 0 has its fields in place
@@ -90,7 +91,7 @@ module _ (code : List ℕ → List ℕ) (n : ℕ) (ws : List ℕ) where
         bundle = b;
         question = all-map (λ s e. eqb-true _ _ e) (certificate-of ws) (every-out (λ s. eqb (s .question) (main-of ws .question)) (certificate-of ws) (t .1 .1 .0));
         codes = every-out (verifies code) (statements ws 1 (suc (count-in ws))) (t .1 .1 .1 .0);
-        backed = rule-backed n (main-of ws) (certificate-of ws) (shape-of n (main-of ws) (main-formed n ws (count-in ws) (b .fields))) (t .1 .1 .1 .1 .0);
+        backed = rule-backed n (main-of ws) (certificate-of ws) (formed-out n (main-of ws) (main-formed n ws (count-in ws) (b .fields)) .shape) (t .1 .1 .1 .1 .0);
       }
 
   pub valid-found : Valid code n ws → check-by code n ws ≡ 0

@@ -4,3 +4,4 @@ pub mod Words
 pub mod Statement
 pub mod Bundle
 pub mod Layout
+pub mod Shape

@@ -3,3 +3,4 @@ pub mod Bools
 pub mod Refusals
 pub mod Count
 pub mod Fill
+pub mod Sets

@@ -7,6 +7,7 @@ use lib.Count.{ones}
 use lib.Dec.{eqb, leb, ltb}
 use lib.ListN.{length, getD, take, drop}
 use Rattle.laws.specs.Pick.{pick}
+use Rattle.laws.specs.Sets.{bit}
 use Rattle.format.specs.Numbers.{none, last-round}
 use Rattle.format.specs.Group.{quorum}
 use Rattle.format.specs.Words.{flag-of, formed, fields-of, step-of, kind-of, round-of, station-of}
@@ -21,8 +22,7 @@ use Rattle.station.specs.declared.Stage.{Stage}
 use Rattle.station.specs.declared.Stage.the-variants.{Gathering, Proposing, Voting}
 use Rattle.station.specs.declared.Station.{Station}
 use Rattle.station.specs.Machine.{stage-step}
-use Rattle.station.specs.Words as W
-use Rattle.station.specs.Words.{bit, sites, held-by, kept-first, kept-second}
+use Rattle.station.specs.Words.{sites, held-by, kept-first, kept-second}
 
 -- k words from a place on, all zero
 unfoldable pub zeros : List ℕ → ℕ → ℕ → Bool

@@ -5,6 +5,7 @@ use mathlib.Core.List.{List, [], _∷_, _++_}
 use lib.Dec.{eqb}
 use lib.ListN.{length, getD, take, drop, replicate}
 use Rattle.laws.specs.Pick.{pick}
+use Rattle.laws.specs.Sets.{bit}
 use Rattle.format.specs.Group.{quorum}
 use Rattle.format.specs.Statement.{Statement, statement, statements, written}
 use Rattle.certificate.specs.declared.Group.{Group}
@@ -16,9 +17,6 @@ use Rattle.station.specs.declared.Station.{Station}
 use Rattle.station.specs.Machine.{State, supplies-first, supplies-second, round-in}
 
 -- "a set of stations heard, one bit for each": station s has bit s − 1, and the slot of ten words with that number
-abbrev pub bit : ℕ → ℕ → Bool
-bit set i = eqb (set / 2 ^ i % 2) 1
-
 -- the statements of k slots from slot i on whose bit is set, by rising station
 unfoldable pub held-in : ℕ → List ℕ → ℕ → ℕ → List Statement
 held-in set slots i zero = []
@@ -68,7 +66,7 @@ state-of t =
 -- ---- writing
 unfoldable pub set-of : List Statement → ℕ
 set-of [] = 0
-set-of (s ∷ h) = 2 ^ (s .station - 1) + set-of h
+set-of (s ∷ h) = set-of h + 2 ^ (s .station - 1)
 
 -- the ten words of station i's statement, or ten zeros
 unfoldable pub slot-of : List Statement → ℕ → List ℕ
