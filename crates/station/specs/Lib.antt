@@ -6,3 +6,7 @@ pub mod ReadBack
 pub mod Slots
 pub mod Sane
 pub mod FitSane
+pub mod Insert
+pub mod Keep
+pub mod Pieces
+pub mod End
