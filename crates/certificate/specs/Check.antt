@@ -8,7 +8,9 @@ use Rattle.format.specs.Numbers.{out-of-range, malformed, other-question, wrong
 use Rattle.format.specs.Group.{size-fits}
 use Rattle.format.specs.Statement.{Statement, statements, hmac-code, verifies}
 use Rattle.format.specs.Bundle.{count-in, main-of, certificate-of, bundle-fits}
-use Rattle.certificate.specs.Rules.{rule}
+use Rattle.certificate.specs.declared.Which.{Which}
+use Rattle.certificate.specs.declared.Which.the-variants.{Any}
+use Rattle.certificate.specs.Rules.{which, rule}
 
 unfoldable pub every : (Statement → Bool) → List Statement → Bool
 every p [] = true
@@ -22,19 +24,26 @@ one-question m c = every (λ s. eqb (s .question) (m .question)) c
 abbrev pub all-verify : (List ℕ → List ℕ) → List Statement → Bool
 all-verify code c = every (verifies code) c
 
+-- 4: "a question differs from the main statement's", or the main statement's from the one that is asked for, if one is
+abbrev pub question-fits : Which → Statement → List Statement → Bool
+question-fits asked m c = one-question m c && which asked (m .question)
+
 -- for a code function: what is tested, in this order
-abbrev pub check-tests : (List ℕ → List ℕ) → ℕ → List ℕ → List Test
-check-tests code n ws =
+abbrev pub check-tests : (List ℕ → List ℕ) → ℕ → Which → List ℕ → List Test
+check-tests code n asked ws =
     test (size-fits n) out-of-range
     ∷ test (bundle-fits n ws) malformed
-    ∷ test (one-question (main-of ws) (certificate-of ws)) other-question
+    ∷ test (question-fits asked (main-of ws) (certificate-of ws)) other-question
     ∷ test (all-verify code (statements ws 1 (suc (count-in ws)))) wrong-code
     ∷ test (rule n (main-of ws) (certificate-of ws)) no-certificate
     ∷ []
 
-unfoldable pub check-by : (List ℕ → List ℕ) → ℕ → List ℕ → ℕ
-check-by code n ws = first-failed (check-tests code n ws)
+unfoldable pub check-by : (List ℕ → List ℕ) → ℕ → Which → List ℕ → ℕ
+check-by code n asked ws = first-failed (check-tests code n asked ws)
 
--- the answer under a group's key and n
+-- the answer under a group's key and n, of bundles of one question or of any
+unfoldable pub judged : List ℕ → ℕ → Which → List ℕ → ℕ
+judged key n asked ws = check-by (hmac-code key) n asked ws
+
 unfoldable pub checked : List ℕ → ℕ → List ℕ → ℕ
-checked key n ws = check-by (hmac-code key) n ws
+checked key n ws = judged key n Any ws

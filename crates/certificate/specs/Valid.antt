@@ -16,8 +16,9 @@ use Rattle.format.specs.Words.{formed, fields-of}
 use Rattle.format.specs.Statement.{Statement, statement, statements, hmac-code, verifies, well-formed}
 use Rattle.format.specs.Bundle.{head-fits, count-in, laid-out, main-of, certificate-of, all-formed, bundle-fits}
 use Rattle.format.specs.Layout.{formed-well}
+use Rattle.certificate.specs.declared.Which.the-variants.{Any}
 use Rattle.certificate.specs.Rules.{Backed, rule}
-use Rattle.certificate.specs.Check.{every, one-question, all-verify, check-tests, check-by, checked}
+use Rattle.certificate.specs.Check.{every, one-question, all-verify, check-tests, check-by, judged, checked}
 use Rattle.format.specs.Shape.{formed-out}
 use Rattle.certificate.specs.Backed.{rule-backed, backed-rule}
 
@@ -79,39 +80,37 @@ unfolding all-formed
 main-formed n ws k h = formed-well n ws 1 (both (formed n (fields-of (getD ws 1 0))) _ h .0)
 
 module _ (code : List ℕ → List ℕ) (n : ℕ) (ws : List ℕ) where
-  pub found-valid : check-by code n ws ≡ 0 → Valid code n ws
+  pub found-valid : check-by code n Any ws ≡ 0 → Valid code n ws
   unfolding check-by
   found-valid h =
-      let t = all-passed (check-tests code n ws) (omega arith, (omega arith, (omega arith, (omega arith, (omega arith, tt))))) h in
+      let t = all-passed (check-tests code n Any ws) (omega arith, (omega arith, (omega arith, (omega arith, (omega arith, tt))))) h in
       let size = both (leb 2 n) (leb n 31) (t .0) in
       let b = bundle-out n ws (t .1 .0) in
       record {
         at-least-2 = leb-true 2 n (size .0);
         at-most-31 = leb-true n 31 (size .1);
         bundle = b;
-        question = all-map (λ s e. eqb-true _ _ e) (certificate-of ws) (every-out (λ s. eqb (s .question) (main-of ws .question)) (certificate-of ws) (t .1 .1 .0));
+        question = all-map (λ s e. eqb-true _ _ e) (certificate-of ws) (every-out (λ s. eqb (s .question) (main-of ws .question)) (certificate-of ws) (both (one-question (main-of ws) (certificate-of ws)) true (t .1 .1 .0) .0));
         codes = every-out (verifies code) (statements ws 1 (suc (count-in ws))) (t .1 .1 .1 .0);
         backed = rule-backed n (main-of ws) (certificate-of ws) (formed-out n (main-of ws) (main-formed n ws (count-in ws) (b .fields)) .shape) (t .1 .1 .1 .1 .0);
       }
 
-  pub valid-found : Valid code n ws → check-by code n ws ≡ 0
+  pub valid-found : Valid code n ws → check-by code n Any ws ≡ 0
   unfolding check-by
   valid-found v =
-      none-failed (check-tests code n ws) (
+      none-failed (check-tests code n Any ws) (
         join (leb 2 n) (leb n 31) (le-leb 2 n (v .at-least-2)) (le-leb n 31 (v .at-most-31)),
         (
           bundle-in n ws (v .bundle),
           (
-            every-in (λ s. eqb (s .question) (main-of ws .question)) (certificate-of ws) (all-map (λ s e. eq-eqb _ _ e) (certificate-of ws) (v .question)),
-            (
-              every-in (verifies code) (statements ws 1 (suc (count-in ws))) (v .codes),
-              (backed-rule n (main-of ws) (certificate-of ws) (v .backed), tt),
-            ),
+            join (one-question (main-of ws) (certificate-of ws)) true
+                (every-in (λ s. eqb (s .question) (main-of ws .question)) (certificate-of ws) (all-map (λ s e. eq-eqb _ _ e) (certificate-of ws) (v .question))) refl,
+            (every-in (verifies code) (statements ws 1 (suc (count-in ws))) (v .codes), (backed-rule n (main-of ws) (certificate-of ws) (v .backed), tt)),
           ),
         ),
       )
 
 -- the theorem, of the answer that the public check promises
 pub check-exact : (key : List ℕ) (n : ℕ) (ws : List ℕ) → (checked key n ws ≡ 0 → Valid (hmac-code key) n ws) × (Valid (hmac-code key) n ws → checked key n ws ≡ 0)
-unfolding checked
+unfolding checked judged
 check-exact key n ws = (found-valid (hmac-code key) n ws, valid-found (hmac-code key) n ws)

@@ -1,5 +1,19 @@
-// The types that the certificate rules are stated over (document 01, "Validity"). The definitions stand in specs/.
+// The certificate rules and the validity check (document 01, "Validity"). The contracts cite specs/.
+use format::Fields;
 use format::Round;
+use hmac::Prepared;
+ghost use mathlib.Core.Path.{_≡_};
+ghost use mathlib.Core.Bool.{_&&_};
+ghost use Prim.Native.Nat.{ℕ, _+_, _-_, _*_, _≤_, _<_};
+ghost use lib.ListN.{length, getD, take, drop};
+ghost use Rattle.hmac.specs.Hmac.{code-from};
+ghost use Rattle.format.specs.Words.{fields-of, spare-of};
+ghost use Rattle.format.specs.Statement.{statement, statements, same-words, hmac-code, verifies};
+ghost use Rattle.format.specs.Bundle.{laid-out, all-formed, main-of};
+ghost use Rattle.certificate.specs.Rules.{which, wanted, some, holds, inits as Inits, proposals as Proposals, none-votes, first-group, second-group, has-second, early-toss, rest-holds, spread as Spread, groups-hold, rule};
+ghost use Rattle.certificate.specs.Parts.{least};
+ghost use Rattle.certificate.specs.Groups.{proposal-group, vote-group};
+ghost use Rattle.certificate.specs.Check.{one-question, all-verify, question-fits, judged, checked};
 
 // What a group asks of a value or a flag.
 pub enum Which {
@@ -14,4 +28,373 @@ pub struct Group {
     pub round: Round,
     pub value: Which,
     pub flag: Which,
+}
+
+fn allows(w: Which, x: u32) -> bool
+    ensures { λ r. ⌜ r ≡ which w x ⌝ }
+{
+    match w {
+        Which::Any => true,
+        Which::Only(v) => x == v,
+    }
+}
+
+// Whether a statement with these fields is one that the group asks for.
+fn is_wanted(g: Group, f: Fields) -> bool
+    ensures { λ r. ⌜ r ≡ wanted g (f .kind) (f .value) (f .flag) (f .round .0) ⌝ }
+{
+    let a = g.round;
+    let b = f.round;
+    let v = g.value;
+    let w = g.flag;
+    (f.kind == g.kind) & (b.0 == a.0) & allows(v, f.value) & allows(w, f.flag)
+}
+
+// Whether the `have` statements from word `at` on are the group.
+fn group_holds(ws: &[u32], at: usize, have: usize, g: Group) -> bool
+    requires { ⌜ (have ≤ 32) × (at + have * 10 ≤ length (now ws)) ⌝ }
+    ensures { λ r. ⌜ r ≡ holds g (statements (now (ws .entry)) at have) ⌝ }
+{
+    if have as u64 != g.size as u64 {
+        return false;
+    }
+    let mut i: usize = 0;
+    let mut last: u32 = 0;
+    while i < have {
+        let f = format::read_fields(ws[at + i * 10]);
+        let station = f.station;
+        if !(is_wanted(g, f) & (last < station)) {
+            return false;
+        }
+        last = station;
+        i += 1;
+    }
+    true
+}
+
+// Whether one of the `have` statements from word `at` on has such a value and such a flag.
+fn some_with(ws: &[u32], at: usize, have: usize, value: Which, flag: Which) -> bool
+    requires { ⌜ (have ≤ 32) × (at + have * 10 ≤ length (now ws)) ⌝ }
+    ensures { λ r. ⌜ r ≡ some (λ s. which value (s .value) && which flag (s .flag)) (statements (now (ws .entry)) at have) ⌝ }
+{
+    let mut i: usize = 0;
+    while i < have {
+        let f = format::read_fields(ws[at + i * 10]);
+        if allows(value, f.value) & allows(flag, f.flag) {
+            return true;
+        }
+        i += 1;
+    }
+    false
+}
+
+// The round before, as the definitions count it: 0 before round 0.
+fn round_before(r: u32) -> u32
+    ensures { λ b. ⌜ b ≡ r - 1 ⌝ }
+{
+    if r == 0 { 0 } else { r - 1 }
+}
+
+// The INITs that back a first proposal of v.
+fn inits(n: u32, v: u32) -> Group
+    ensures { λ g. ⌜ g ≡ Inits n v ⌝ }
+{
+    let needed = format::backing(n, v);
+    Group {
+        size: needed,
+        kind: 0,
+        round: Round(0),
+        value: Which::Only(v),
+        flag: Which::Any,
+    }
+}
+
+// A quorum of P.
+fn proposals(n: u32, r: u32, value: Which, flag: Which) -> Group
+    ensures { λ g. ⌜ g ≡ Proposals n r value flag ⌝ }
+{
+    let q = format::quorum(n);
+    Group {
+        size: q,
+        kind: 1,
+        round: Round(r),
+        value: value,
+        flag: flag,
+    }
+}
+
+// A quorum of V with none.
+fn votes_for_none(n: u32, r: u32) -> Group
+    ensures { λ g. ⌜ g ≡ none-votes n r ⌝ }
+{
+    let votes = format::quorum(n);
+    Group {
+        size: votes,
+        kind: 2,
+        round: Round(r),
+        value: Which::Only(2),
+        flag: Which::Any,
+    }
+}
+
+// The group of a P by rules 2, 3 and 4.
+fn group_of_proposal(n: u32, value: u32, flag: u32, r: u32) -> Group
+    ensures { λ g. ⌜ g ≡ proposal-group n value flag r ⌝ }
+{
+    if r == 1 {
+        return inits(n, value);
+    }
+    if flag == 0 {
+        return proposals(n, round_before(r), Which::Only(value), Which::Any);
+    }
+    votes_for_none(n, round_before(r))
+}
+
+// The first group of a V by rules 5, 6 and 7.
+fn group_of_vote(n: u32, value: u32, r: u32) -> Group
+    ensures { λ g. ⌜ g ≡ vote-group n value r ⌝ }
+{
+    if value < 2 {
+        return proposals(n, r, Which::Only(value), Which::Any);
+    }
+    if r == 1 {
+        return proposals(n, 1, Which::Any, Which::Only(0));
+    }
+    proposals(n, r, Which::Any, Which::Any)
+}
+
+// The first group that the rules ask of a P or a V with these fields.
+fn first_group(n: u32, f: Fields) -> Group
+    ensures { λ g. ⌜ g ≡ first-group n (f .kind) (f .value) (f .flag) (f .round .0) ⌝ }
+{
+    let t = f.round;
+    let r = t.0;
+    if f.kind == 1 {
+        return group_of_proposal(n, f.value, f.flag, r);
+    }
+    group_of_vote(n, f.value, r)
+}
+
+// The second group of rules 5 and 7.
+fn second_group(n: u32, value: u32, r: u32) -> Group
+    ensures { λ g. ⌜ g ≡ second-group n value r ⌝ }
+{
+    let b = round_before(r);
+    if value < 2 {
+        return proposals(n, b, Which::Only(value), Which::Any);
+    }
+    votes_for_none(n, b)
+}
+
+// Whether rules 5 and 7 ask for a second group; dget says that one of the first group is D-GET.
+fn has_second(kind: u32, value: u32, r: u32, dget: bool) -> bool
+    ensures { λ b. ⌜ b ≡ has-second kind value r dget ⌝ }
+{
+    (kind == 2) & (1 < r) & ((value == 2) | dget)
+}
+
+// Whether it is an R-GET of round 1, for which there is no coin.
+fn early_toss(kind: u32, flag: u32, r: u32) -> bool
+    ensures { λ b. ⌜ b ≡ early-toss kind flag r ⌝ }
+{
+    (kind == 1) & (r == 1) & (flag == 1)
+}
+
+// Whether the first `have` statements of the certificate are spread over both values, where the main statement m is a V with none.
+fn spread(ws: &[u32], m: Fields, have: usize) -> bool
+    requires { ⌜ (have ≤ 32) × (11 + have * 10 ≤ length (now ws)) × (m ≡ fields-of (getD (now ws) 1 0)) ⌝ }
+    ensures { λ r. ⌜ r ≡ Spread (main-of (now (ws .entry))) (statements (now (ws .entry)) 11 have) ⌝ }
+{
+    let zero = some_with(ws, 11, have, Which::Only(0), Which::Any);
+    let one = some_with(ws, 11, have, Which::Only(1), Which::Any);
+    !((m.kind == 2) & (m.value == 2)) | (zero & one)
+}
+
+// Whether the `rest` statements behind the first `have` of the certificate are the second group, or none where m has no second group.
+fn rest_holds(ws: &[u32], n: u32, m: Fields, have: usize, rest: usize) -> bool
+    requires { ⌜ (have + rest ≤ 32) × (11 + (have + rest) * 10 ≤ length (now ws)) × (m ≡ fields-of (getD (now ws) 1 0)) ⌝ }
+    ensures { λ r. ⌜ r ≡ rest-holds n (main-of (now (ws .entry))) (statements (now (ws .entry)) 11 have) (statements (now (ws .entry)) (11 + have * 10) rest) ⌝ }
+{
+    let t = m.round;
+    let r = t.0;
+    let dget = some_with(ws, 11, have, Which::Any, Which::Only(0));
+    if has_second(m.kind, m.value, r, dget) {
+        return group_holds(ws, 11 + have * 10, rest, second_group(n, m.value, r));
+    }
+    rest == 0
+}
+
+// The smaller of two numbers.
+fn smaller(a: usize, b: usize) -> usize
+    ensures { λ r. ⌜ r ≡ least a b ⌝ }
+{
+    if a < b { a } else { b }
+}
+
+// Whether the certificate is the first group g with what the rules ask of it, and behind it the second group.
+fn groups_hold(ws: &[u32], n: u32, m: Fields, g: Group, count: usize) -> bool
+    requires { ⌜ (count ≤ 32) × (11 + count * 10 ≤ length (now ws)) × (m ≡ fields-of (getD (now ws) 1 0)) ⌝ }
+    ensures { λ r. ⌜ r ≡ groups-hold n (main-of (now (ws .entry))) g (statements (now (ws .entry)) 11 count) ⌝ }
+{
+    let have = smaller(g.size as usize, count);
+    let first = group_holds(ws, 11, have, g);
+    let both = spread(ws, m, have);
+    let rest = rest_holds(ws, n, m, have, count - have);
+    first & both & rest
+}
+
+// Whether the certificate of `count` statements is as the rules ask.
+fn rule_holds(ws: &[u32], n: u32, count: usize) -> bool
+    requires { ⌜ (count ≤ 32) × (11 + count * 10 ≤ length (now ws)) ⌝ }
+    ensures { λ r. ⌜ r ≡ rule n (main-of (now (ws .entry))) (statements (now (ws .entry)) 11 count) ⌝ }
+{
+    let m = format::read_fields(ws[1]);
+    let t = m.round;
+    if m.kind == 0 {
+        return count == 0;
+    }
+    if early_toss(m.kind, m.flag, t.0) {
+        return false;
+    }
+    groups_hold(ws, n, m, first_group(n, m), count)
+}
+
+// Whether the words are laid out as a bundle.
+fn layout(ws: &[u32]) -> bool
+    ensures { λ r. ⌜ r ≡ laid-out (now (ws .entry)) ⌝ }
+{
+    if ws.len() == 0 {
+        return false;
+    }
+    let h = ws[0];
+    let count = (h % 65536) as usize;
+    (h / 1073741824 == 3)
+        & (h / 65536 % 16384 == 0)
+        & (h % 65536 <= 32)
+        & (ws.len() == 1 + 10 * (1 + count))
+}
+
+// Whether each of the first k statements, the main statement among them, has its fields in place.
+fn all_well_formed(ws: &[u32], n: u32, k: usize) -> bool
+    requires { ⌜ 1 + k * 10 ≤ length (now ws) ⌝ }
+    ensures { λ r. ⌜ r ≡ all-formed n (now (ws .entry)) 1 k ⌝ }
+{
+    let mut i: usize = 0;
+    while i < k {
+        let f = format::read_fields(ws[1 + i * 10]);
+        if !format::well_formed(f, n) {
+            return false;
+        }
+        i += 1;
+    }
+    true
+}
+
+// Whether the certificate's statements are of the main statement's question.
+fn same_question(ws: &[u32], count: usize) -> bool
+    requires { ⌜ 11 + count * 10 ≤ length (now ws) ⌝ }
+    ensures { λ r. ⌜ r ≡ one-question (main-of (now (ws .entry))) (statements (now (ws .entry)) 11 count) ⌝ }
+{
+    let q = ws[2];
+    let mut i: usize = 0;
+    while i < count {
+        if ws[11 + i * 10 + 1] != q {
+            return false;
+        }
+        i += 1;
+    }
+    true
+}
+
+// Whether the statement at word `at` has this code. All eight words are compared before the answer, so that its time says nothing of where
+// a forged code differs.
+fn code_matches(ws: &[u32], at: usize, code: [u32; 8]) -> bool
+    requires { ⌜ at + 10 ≤ length (now ws) ⌝ }
+    ensures { λ r. ⌜ r ≡ same-words (take 8 (drop (at + 2) (now (ws .entry)))) code ⌝ }
+{
+    let mut same = true;
+    let mut i: usize = 0;
+    while i < 8 {
+        same = same & (ws[at + 2 + i] == code[i]);
+        i += 1;
+    }
+    same
+}
+
+// Whether the code of the statement at word `at` verifies under a prepared key. Bits 26..24 of its word 0 are zero, so the words read are
+// those that the code covers.
+fn verifies_at(key: Prepared, ws: &[u32], at: usize) -> bool
+    requires { ⌜ (at + 10 ≤ length (now ws)) × (spare-of (getD (now ws) at 0) ≡ 0) ⌝ }
+    ensures { λ r. ⌜ r ≡ verifies (code-from key) (statement (now (ws .entry)) at) ⌝ }
+{
+    let end = at + 2;
+    let code = hmac::code_words(key, &ws[at..end]);
+    let words = code.words;
+    code_matches(ws, at, words)
+}
+
+// Whether the codes of the first k statements verify under a prepared key.
+fn codes_verify(key: Prepared, ws: &[u32], k: usize) -> bool
+    requires { ⌜ (1 + k * 10 ≤ length (now ws)) × ((i : ℕ) → i < k → spare-of (getD (now ws) (1 + i * 10) 0) ≡ 0) ⌝ }
+    ensures { λ r. ⌜ r ≡ all-verify (code-from key) (statements (now (ws .entry)) 1 k) ⌝ }
+{
+    let mut i: usize = 0;
+    while i < k {
+        if !verifies_at(key, ws, 1 + i * 10) {
+            return false;
+        }
+        i += 1;
+    }
+    true
+}
+
+// Whether the codes of the first k statements verify under the group's key, which is prepared once for all of them.
+fn all_codes_verify(key: [u8; 32], ws: &[u32], k: usize) -> bool
+    requires { ⌜ (1 + k * 10 ≤ length (now ws)) × ((i : ℕ) → i < k → spare-of (getD (now ws) (1 + i * 10) 0) ≡ 0) ⌝ }
+    ensures { λ r. ⌜ r ≡ all-verify (hmac-code key) (statements (now (ws .entry)) 1 k) ⌝ }
+{
+    let keyed = hmac::prepare(&key);
+    let states = keyed.key;
+    codes_verify(states, ws, k)
+}
+
+// Whether they are, and that question is the one asked for.
+fn question_fits(ws: &[u32], count: usize, asked: Which) -> bool
+    requires { ⌜ 11 + count * 10 ≤ length (now ws) ⌝ }
+    ensures { λ r. ⌜ r ≡ question-fits asked (main-of (now (ws .entry))) (statements (now (ws .entry)) 11 count) ⌝ }
+{
+    same_question(ws, count) & allows(asked, ws[2])
+}
+
+// The answer for the words given, under the group's key and n, where the question is to be one or may be any.
+pub fn judge(key: [u8; 32], n: u32, asked: Which, ws: &[u32]) -> u32
+    ensures { λ r. ⌜ r ≡ judged key n asked (now (ws .entry)) ⌝ }
+{
+    if !format::size_fits(n) {
+        return 2;
+    }
+    if !layout(ws) {
+        return 3;
+    }
+    let count = (ws[0] % 65536) as usize;
+    if !all_well_formed(ws, n, count + 1) {
+        return 3;
+    }
+    if !question_fits(ws, count, asked) {
+        return 4;
+    }
+    if !all_codes_verify(key, ws, count + 1) {
+        return 5;
+    }
+    if !rule_holds(ws, n, count) {
+        return 6;
+    }
+    0
+}
+
+// The validity check: valid or not, whatever the question.
+pub fn check(key: [u8; 32], n: u32, ws: &[u32]) -> u32
+    ensures { λ r. ⌜ r ≡ checked key n (now (ws .entry)) ⌝ }
+{
+    judge(key, n, Which::Any, ws)
 }

@@ -126,7 +126,7 @@ held-count set slots (suc k) i h =
     go false e o ih = omega (arith, eqb-false (set / 2 ^ i % 2) 1 e)
 
 -- ---- the kept groups
-eights : (ws : List ℕ) (k at : ℕ) → at + k * 10 ≤ length ws → All (λ s. length (s .code) ≡ 8) (statements ws at k)
+pub eights : (ws : List ℕ) (k at : ℕ) → at + k * 10 ≤ length ws → All (λ s. length (s .code) ≡ 8) (statements ws at k)
 unfolding statements
 eights ws zero at h = tt
 eights ws (suc k) at h = (code-eight ws at (omega arith), eights ws k (at + 10) (omega arith))

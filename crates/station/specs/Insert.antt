@@ -13,7 +13,10 @@ use Rattle.laws.specs.Refusals.{All, all-map}
 use Rattle.format.specs.Statement.{Statement}
 use Rattle.certificate.specs.Rules.{Rising, some}
 use Rattle.certificate.specs.Check.{every}
-use Rattle.station.specs.Machine.{insert, held-of, number-of, takes}
+use Rattle.format.specs.Numbers.{D-GET}
+use Rattle.station.specs.declared.Stage.{Stage}
+use Rattle.station.specs.declared.Stage.the-variants.{Gathering, Proposing, Voting}
+use Rattle.station.specs.Machine.{insert, held-of, takes, has-value, conflict}
 use Rattle.station.specs.Words.{leading}
 use Rattle.station.specs.Slots.{rising-above}
 
@@ -141,3 +144,10 @@ module _ (p : Statement → Bool) (m : Statement) where
       go : (c : Bool) → ((c && ltb (s .station) (m .station)) || some lower h) ≡ true → (some lower h ≡ true → some p h ≡ true) → (c || some p h) ≡ true
       go true z ih = refl
       go false z ih = ih z
+
+pub conflict-insert : (g : Stage) (m : Statement) (h : List Statement) → conflict g (insert m h) ≡ conflict g (m ∷ h)
+unfolding conflict some
+conflict-insert Gathering m h = refl
+conflict-insert (Proposing r f) m h =
+    rw (some-insert (λ s. eqb (s .flag) D-GET && has-value 0 s) m h, some-insert (λ s. eqb (s .flag) D-GET && has-value 1 s) m h)
+conflict-insert (Voting r) m h = rw (some-insert (has-value 0) m h, some-insert (has-value 1) m h)

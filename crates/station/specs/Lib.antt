@@ -10,3 +10,5 @@ pub mod Insert
 pub mod Keep
 pub mod Pieces
 pub mod End
+pub mod Views
+pub mod Fits

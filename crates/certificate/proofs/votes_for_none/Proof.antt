@@ -1,0 +1,18 @@
+-- The fields are those of the definition.
+use Prim.Native.Nat.{ℕ}
+use mathlib.Core.Path.{ap}
+use Rattle.format.specs.Numbers.{kind-V, none}
+use Rattle.certificate.specs.declared.Which.the-variants.{Any, Only}
+use Rattle.certificate.specs.Rules.{group}
+use borrow.Author.Needs.{needs}
+use Rattle.certificate.proofs.votes_for_none.Statement.{statement}
+use Rattle.certificate.proofs.votes_for_none.Tie as tie
+
+quorum-requires : tie.Need-quorum-requires
+quorum-requires c κs = search needs
+
+returns : tie.Need-returns
+returns c = ap (λ (q : ℕ). group q kind-V (c .before .args .r) (Only none) Any) (c .quorum .ensures)
+
+pub votes-for-none-spec : {M : Type 1} → statement M
+votes-for-none-spec = tie.close (tie.spec quorum-requires returns)

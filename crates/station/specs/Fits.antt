@@ -1,0 +1,122 @@
+-- Fit: each station that an unrefused opening or giving returns fits, whatever station was handed in. A refusal returns what it was given.
+use Prim.Native.Nat.{ℕ, zero, suc, _+_, _-_, _*_, _≤_, _<_}
+use mathlib.Core.Bool.{Bool, true, false, not, _&&_, _||_}
+use mathlib.Core.List.{List, [], _∷_, _++_}
+use mathlib.Core.Path.{_≡_, refl, sym, ap, _∙_, subst}
+use native.Mathlib.Omega.{arith}
+use lib.Dec.{eqb, ltb, leb}
+use lib.ListN.{length, replicate, length-append, length-replicate}
+use borrow.Author.Tests.{eqb-true, eqb-false, eq-eqb, ltb-true, ltb-false}
+use Rattle.laws.specs.Pick.{pick}
+use Rattle.laws.specs.Bools.{never, both, join, left}
+use Rattle.laws.specs.Refusals.{All, all-map}
+use Rattle.format.specs.Numbers.{kind-INIT, kind-P, kind-V, none, D-GET, R-GET, last-round, kept, sent, sent-decided, closed-now}
+use Rattle.format.specs.Group.{quorum}
+use Rattle.format.specs.Words.{step-of}
+use Rattle.format.specs.Statement.{Statement, well-formed, step}
+use Rattle.format.specs.Shape.{Shape, init, proposal, vote, formed-in}
+use Rattle.certificate.specs.declared.Group.{Group}
+use Rattle.certificate.specs.Rules.{Rising, Holds, some, none-votes, Backed}
+use Rattle.sealed.specs.declared.Module.{Module}
+use Rattle.station.specs.declared.Stage.{Stage}
+use Rattle.station.specs.declared.Stage.the-variants.{Gathering, Proposing, Voting}
+use Rattle.station.specs.declared.Station.{Station}
+use Rattle.station.specs.Machine.{State, Outcome, refused, keeps, sends, Next, own, began, shut, keeping, kind-in, round-in, stage-step, supplies-first, supplies-second, closes, decision-at, decision-after, decided, vote-value, follows, after-inits, after-votes, carried, has-value}
+use Rattle.station.specs.Words as W
+use Rattle.station.specs.Words.{kept-first, kept-second, first-of-round, leading, no-group, state-of, group-words, slots-of, all-written, sites}
+use Rattle.station.specs.Fit.{fits}
+use Rattle.station.specs.Calls.{Returned, returned, opening, giving, opening-outcome, giving-outcome, no-station}
+use Rattle.station.specs.ReadBack.{Proper, length-all}
+use Rattle.station.specs.Slots.{slots-length}
+use Rattle.station.specs.Sane.{Kept, InRounds, FlagOf, Sane, sane-fits}
+use Rattle.station.specs.FitSane.{Lengths, first-size, second-size}
+use Rattle.station.specs.Keep.{keep-sane}
+use Rattle.station.specs.End.{Full, Given, Ready, inits-ready, inits-backed, votes-ready, votes-backed, proposals-ready, proposals-backed}
+use Rattle.station.specs.Views.{unrefused, InRange, Accepted, after, decision-then, sent-statement, Gives, refuses, holds-on, shuts, goes-on, gives-view, sane-before, full-after, init-statement, Opens, no-opening, begins, opens-view}
+
+-- ---- a station that has just sent
+module _ (n number question d : ℕ) (g : Stage) (s : Statement) (c : List Statement) (big : 2 ≤ n) (p : Proper n s) (mine : s .station ≡ number)
+    (low : 1 ≤ s .station) (asked : s .question ≡ question) (steps : step s ≡ stage-step g) (r : InRounds g) (f : FlagOf g s) (e : d ≤ none)
+    (cp : All (Proper n) c) (ca : All (λ s. s .question ≡ question) c)
+    (one : supplies-first g s ≡ true → Holds (first-of-round n g (s .value)) c)
+    (two : supplies-second g s ≡ true → Holds (none-votes n (round-in g - 1)) c) where
+  nothing : Kept n question no-group []
+  nothing = record { as-asked = record { size = refl; rising = tt; each = tt }; proper = tt; alike = tt }
+
+  first-kept : Kept n question (kept-first n g (s ∷ [])) (pick (supplies-first g s) c [])
+  unfolding kept-first some leading pick
+  first-kept = go (supplies-first g s) refl
+    where
+      go : (b : Bool) → supplies-first g s ≡ b → Kept n question (pick (b || false) (first-of-round n g (pick b (s .value) 2)) no-group) (pick b c [])
+      go true x = record { as-asked = one x; proper = cp; alike = ca }
+      go false x = nothing
+
+  second-kept : Kept n question (kept-second n g (s ∷ [])) (pick (supplies-second g s) c [])
+  unfolding kept-second some pick
+  second-kept = go (supplies-second g s) refl
+    where
+      go : (b : Bool) → supplies-second g s ≡ b → Kept n question (pick (b || false) (none-votes n (round-in g - 1)) no-group) (pick b c [])
+      go true x = record { as-asked = two x; proper = cp; alike = ca }
+      go false x = nothing
+
+  pub began-sane : Sane n number (began question g d s c)
+  unfolding some
+  began-sane =
+      record {
+        still-open = refl;
+        rising = (low, tt);
+        proper = (p, tt);
+        alike = ((asked, steps), tt);
+        few = omega arith;
+        mine = left (eqb (s .station) number) false (eq-eqb _ _ mine);
+        rounds = r;
+        flag = ((λ z. f), tt);
+        decision = e;
+        first = first-kept;
+        second = second-kept;
+      }
+
+-- ---- decisions are 0, 1 or none
+vote-low : (h : List Statement) → vote-value h ≤ none
+unfolding vote-value pick
+vote-low h = go (Rattle.certificate.specs.Check.every (has-value 0) h) (Rattle.certificate.specs.Check.every (has-value 1) h)
+  where
+    go : (x y : Bool) → pick x 0 (pick y 1 none) ≤ none
+    go true y = omega arith
+    go false true = omega arith
+    go false false = omega arith
+
+pub decision-low : (g : Stage) (old : ℕ) (h : List Statement) → old ≤ none → decision-at g old h ≤ none
+unfolding pick decided
+decision-low Gathering old h e = e
+decision-low (Proposing r f) old h e = e
+decision-low (Voting r) old h e = go (ltb old none)
+  where
+    go : (b : Bool) → pick b old (vote-value h) ≤ none
+    go true = e
+    go false = vote-low h
+
+-- ---- what follows is ready, and backed
+module _ (n : ℕ) (k : State) (F : Full n k) (coin : ℕ) (bit : coin < 2) where
+  pub ready : (g : Stage) → k .stage ≡ g → closes g ≡ false → Ready n (k .question) (follows n g k coin)
+  unfolding follows
+  ready Gathering e c = inits-ready n k F e
+  ready (Proposing r f) e c = votes-ready n k F (r .0) f e
+  ready (Voting r) e c = proposals-ready n k F (r .0) e (more (r .0) (subst InRounds e (F .rounds) .1) c) coin bit
+    where
+      more : (r : ℕ) → r ≤ last-round → eqb r last-round ≡ false → r < last-round
+      more r x y = omega (arith, eqb-false r last-round y)
+
+  pub backed : Given (k .held) → (g : Stage) → k .stage ≡ g → closes g ≡ false → (s : Statement)
+      → s .kind ≡ follows n g k coin .kind → s .value ≡ follows n g k coin .value → s .flag ≡ follows n g k coin .flag → s .round ≡ follows n g k coin .round
+      → Backed n s (follows n g k coin .first ++ follows n g k coin .second)
+  unfolding follows
+  backed early Gathering e c s a b d r = inits-backed n k F e s a b d r
+  backed early (Proposing p f) e c s a b d r = votes-backed n k F (p .0) f e early s a b r
+  backed early (Voting p) e c s a b d r = go (ltb (carried (k .held)) none) refl
+    where
+      more : (r : ℕ) → r ≤ last-round → eqb r last-round ≡ false → r < last-round
+      more r x y = omega (arith, eqb-false r last-round y)
+
+      go : (z : Bool) → ltb (carried (k .held)) none ≡ z → Backed n s (after-votes (p .0) k coin .first ++ after-votes (p .0) k coin .second)
+      go z q = ?
