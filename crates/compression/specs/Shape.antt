@@ -10,7 +10,7 @@ use Rattle.compression.specs.Compression.{plus, next, extended, constant
 abbrev pub Below : List ℕ → Type 0
 Below ws = (i : ℕ) → getD ws i 0 < 2 ^ 32
 
-extended-length : (n : ℕ) (ws : List ℕ) → length (extended n ws) ≡ n + length ws
+pub extended-length : (n : ℕ) (ws : List ℕ) → length (extended n ws) ≡ n + length ws
 unfolding extended
 extended-length zero ws = omega arith
 extended-length (suc n) ws =

@@ -1,7 +1,26 @@
 // The compression function of SHA-256 (FIPS 180-4). The contracts cite specs/Compression.antt.
 ghost use mathlib.Core.Path.{_≡_};
-ghost use lib.ListN.{take};
+ghost use lib.ListN.{take, drop};
 ghost use Rattle.compression.specs.Compression.{plus, Ch, Maj, Σ0, Σ1, σ0, σ1, T1, T2, extended, roundsFrom, compressed};
+ghost use Rattle.compression.specs.Steps.{stepped, onward, listed};
+
+// The eight working variables.
+struct Working {
+    a: u32,
+    b: u32,
+    c: u32,
+    d: u32,
+    e: u32,
+    f: u32,
+    g: u32,
+    h: u32,
+}
+
+// After forty-eight rounds: the whole schedule, and the working variables.
+struct Half {
+    words: [u32; 64],
+    v: Working,
+}
 
 // 4.2.2: the round constants.
 const K: [u32; 64] = [
@@ -147,55 +166,81 @@ fn opened(block: [u32; 16]) -> [u32; 64]
     w
 }
 
-// The message schedule of a block.
-fn schedule(block: [u32; 16]) -> [u32; 64]
-    ensures { λ r. ⌜ r ≡ extended 48 block ⌝ }
+// One round.
+fn round(v: Working, k: u32, w: u32) -> Working
+    ensures { λ r. ⌜ r ≡ stepped v k w ⌝ }
+{
+    let t1 = first_sum(v.e, v.f, v.g, v.h, k, w);
+    let t2 = second_sum(v.a, v.b, v.c);
+    Working {
+        a: add(t1, t2),
+        b: v.a,
+        c: v.b,
+        d: v.c,
+        e: add(v.d, t1),
+        f: v.e,
+        g: v.f,
+        h: v.g,
+    }
+}
+
+// Forty-eight rounds, and with each one more word of the schedule: a processor does the two side by side.
+fn first_rounds(k: [u32; 64], s: Working, block: [u32; 16]) -> Half
+    ensures { λ r. ⌜ (r .words ≡ extended 48 block) × (onward (drop 48 k) (drop 48 (r .words)) (r .v) ≡ onward k (extended 48 block) s) ⌝ }
 {
     let mut w = opened(block);
-    let mut i = 16;
-    while i < 64 {
-        w[i] = word(w[i - 2], w[i - 7], w[i - 15], w[i - 16]);
+    let mut v = s;
+    let mut i = 0;
+    while i < 48 {
+        let next = round(v, k[i], w[i]);
+        v = next;
+        w[i + 16] = word(w[i + 14], w[i + 9], w[i + 1], w[i]);
         i += 1;
     }
-    w
+    Half { words: w, v: v }
+}
+
+// The last sixteen rounds.
+fn last_rounds(k: [u32; 64], w: [u32; 64], s: Working) -> Working
+    ensures { λ r. ⌜ listed r ≡ onward (drop 48 k) (drop 48 w) s ⌝ }
+{
+    let mut v = s;
+    let mut i = 48;
+    while i < 64 {
+        let next = round(v, k[i], w[i]);
+        v = next;
+        i += 1;
+    }
+    v
 }
 
 // The sixty-four rounds. The table is copied once, since each use of a constant array copies it.
-fn all_rounds(w: [u32; 64], s: [u32; 8]) -> [u32; 8]
-    ensures { λ r. ⌜ r ≡ roundsFrom w s ⌝ }
+fn all_rounds(s: [u32; 8], block: [u32; 16]) -> [u32; 8]
+    ensures { λ r. ⌜ r ≡ roundsFrom (extended 48 block) s ⌝ }
 {
     let k = K;
-    let mut a = s[0];
-    let mut b = s[1];
-    let mut c = s[2];
-    let mut d = s[3];
-    let mut e = s[4];
-    let mut f = s[5];
-    let mut g = s[6];
-    let mut h = s[7];
-    let mut i = 0;
-    while i < 64 {
-        let t1 = first_sum(e, f, g, h, k[i], w[i]);
-        let t2 = second_sum(a, b, c);
-        h = g;
-        g = f;
-        f = e;
-        e = add(d, t1);
-        d = c;
-        c = b;
-        b = a;
-        a = add(t1, t2);
-        i += 1;
-    }
-    [a, b, c, d, e, f, g, h]
+    let start = Working {
+        a: s[0],
+        b: s[1],
+        c: s[2],
+        d: s[3],
+        e: s[4],
+        f: s[5],
+        g: s[6],
+        h: s[7],
+    };
+    let m = first_rounds(k, start, block);
+    let words = m.words;
+    let half = m.v;
+    let v = last_rounds(k, words, half);
+    [v.a, v.b, v.c, v.d, v.e, v.f, v.g, v.h]
 }
 
 // The state after one block.
 pub fn compress(s: [u32; 8], block: [u32; 16]) -> [u32; 8]
     ensures { λ r. ⌜ r ≡ compressed s block ⌝ }
 {
-    let w = schedule(block);
-    let r = all_rounds(w, s);
+    let r = all_rounds(s, block);
     [
         add(s[0], r[0]),
         add(s[1], r[1]),

@@ -1,19 +1,10 @@
-use mathlib.Core.Path.{_≡_, sym, ap, _∙_}
-use mathlib.Core.List.{List}
-use Prim.Native.Nat.{ℕ}
-use Rattle.compression.specs.Compression.{summed, roundsFrom, compressed}
+-- Each sum is a word of the definition.
+use mathlib.Core.Path.{ap, _∙_}
+use Rattle.compression.specs.Compression.{summed, compressed}
 use Rattle.compression.proofs.Sums.{sums}
 use borrow.Author.Needs.{needs}
 use Rattle.compression.proofs.compress.Statement.{statement}
 use Rattle.compression.proofs.compress.Tie as tie
-use Rattle.compression.proofs.compress.Reads as reads
-use Rattle.compression.proofs.compress.Lts as lts
-use Rattle.compression.proofs.add.Reads as add-reads
-use Rattle.compression.proofs.all_rounds.Reads as all-rounds-reads
-use Rattle.compression.proofs.schedule.Reads as schedule-reads
-
-schedule-requires : tie.Need-schedule-requires
-schedule-requires c κs = search needs
 
 all-rounds-requires : tie.Need-all-rounds-requires
 all-rounds-requires c κs = search needs
@@ -94,17 +85,15 @@ returns : tie.Need-returns
 unfolding compressed
 returns c =
     let r = c .before .before .before .before .before .before .before .before .all-rounds in
-    let w = c .before .before .before .before .before .before .before .before .before .schedule in
-    let s = c .before .before .before .before .before .before .before .before .before .before .args .t1 in
+    let s = c .before .before .before .before .before .before .before .before .before .args .t1 in
     sums s (r .result) _ _ _ _ _ _ _ _ (search needs) (search needs)
     (c .before .before .before .before .before .before .before .add .ensures) (c .before .before .before .before .before .before .add2 .ensures) (c .before .before .before .before .before .add3 .ensures) (c .before .before .before .before .add4 .ensures) (c .before .before .before .add5 .ensures) (c .before .before .add6 .ensures) (c .before .add7 .ensures) (c .add8 .ensures)
-    ∙ ap (summed s) (r .ensures ∙ ap (λ (l : List ℕ). roundsFrom l s) (w .ensures))
+    ∙ ap (summed s) (r .ensures)
 
 pub compress-spec : {M : Type 1} → statement M
 compress-spec =
     tie.close
     (tie.spec
-    schedule-requires
     all-rounds-requires
     array-read-add
     array-read-add-2

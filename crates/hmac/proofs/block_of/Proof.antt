@@ -20,14 +20,14 @@ zero-fill-hash-requires c κs = search needs
 
 returns : tie.Need-returns
 unfolding key-block pick
-returns c = rw (le-leb _ _ (c .before .if1 .taken)) (c .zero-fill .ensures)
+returns c = rw (le-leb _ 64 (c .before .if1 .taken)) (c .zero-fill .ensures)
 
 returns-2 : tie.Need-returns-2
 unfolding key-block pick
 returns-2 c =
     let a = c .before .before .before .before .before in
     let d = c .before .before .sha256 .ensures in
-    rw (lt-leb _ _ (c .before .before .before .if1 .left))
+    rw (lt-leb _ 64 (c .before .before .before .if1 .left))
     (c .zero-fill-hash .ensures ∙ ap zero-filled (ap (λ (d : Digest). d .bytes) d ∙ digest-short (a .args .k .now) (a .pre)))
 
 pub block-of-spec : {M : Type 1} → statement M
