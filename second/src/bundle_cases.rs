@@ -1,0 +1,478 @@
+//! Bundles for each rule, valid and with each single fault, as a script of checks.
+
+use crate::author::Author;
+use crate::group::{backing, quorum, LAST_ROUND, MOST_CERTIFICATE, STATEMENT_WORDS};
+use crate::hmac::code;
+use crate::samples::{both_values, bundle, init, none_votes, p, proposals, some, v};
+use crate::samples::{D, KEY, QUESTION, R};
+use crate::script::Command;
+use crate::words::{head, Bundle, Flag, Kind, Statement, NONE};
+
+const SIZES: [u32; 5] = [2, 3, 4, 6, 31];
+/// Registers: the group's module, modules that differ, the valid bundle, its damaged copy.
+const GROUP: usize = 0;
+const VALID: usize = 0;
+const DAMAGED: usize = 1;
+
+struct Cases {
+    author: Author,
+    n: u32,
+}
+
+// ---- valid bundles ------------------------------------------------------------------------
+
+/// A valid bundle for each rule and sub-case at this n.
+fn valid_bundles(n: u32) -> Vec<(&'static str, Bundle)> {
+    let inits = |value| -> Vec<Statement> {
+        let stations = some(n, backing(n, value), value == 0);
+        stations.iter().map(|s| init(*s, value)).collect()
+    };
+    let mut all = vec![
+        ("rule 1, 0", bundle(init(1, 0), &[])),
+        ("rule 1, 1", bundle(init(n, 1), &[])),
+        ("rule 2, 0", bundle(p(n, 1, 0, D), &[inits(0)])),
+        ("rule 2, 1", bundle(p(1, 1, 1, D), &[inits(1)])),
+    ];
+    for (round, front) in [(2, true), (LAST_ROUND, false)] {
+        all.extend(proposal_bundles(n, round, front));
+    }
+    all.extend(vote_bundles(n));
+    all
+}
+
+fn proposal_bundles(n: u32, round: u32, front: bool) -> Vec<(&'static str, Bundle)> {
+    let before = round - 1;
+    vec![
+        (
+            "rule 3",
+            bundle(
+                p(1, round, 1, D),
+                &[proposals(n, before, 1, &[D, R], front)],
+            ),
+        ),
+        (
+            "rule 4",
+            bundle(p(n, round, 0, R), &[none_votes(n, before, front)]),
+        ),
+    ]
+}
+
+fn vote_bundles(n: u32) -> Vec<(&'static str, Bundle)> {
+    let group = |round, flags: &[Flag], front| proposals(n, round, 1, flags, front);
+    let mut all = vec![
+        (
+            "rule 5, round 1",
+            bundle(v(1, 1, 1), &[group(1, &[D], true)]),
+        ),
+        (
+            "rule 5, round 1 with an R-GET",
+            bundle(v(2, 1, 1), &[group(1, &[R, D], false)]),
+        ),
+        (
+            "rule 6",
+            bundle(v(1, 1, NONE), &[both_values(n, 1, &[D], true)]),
+        ),
+    ];
+    for (round, front) in [(2, true), (LAST_ROUND, false)] {
+        let before = round - 1;
+        all.push((
+            "rule 5, R-GET only",
+            bundle(v(n, round, 1), &[group(round, &[R], front)]),
+        ));
+        all.push((
+            "rule 5 with a second group",
+            bundle(
+                v(1, round, 1),
+                &[group(round, &[R, D], front), group(before, &[D, R], !front)],
+            ),
+        ));
+        all.push((
+            "rule 7",
+            bundle(
+                v(2, round, NONE),
+                &[
+                    both_values(n, round, &[D, R], front),
+                    none_votes(n, before, !front),
+                ],
+            ),
+        ));
+    }
+    all
+}
+
+// ---- single faults ------------------------------------------------------------------------
+
+/// The words of a bundle with statement i (0 is the main one) given new words 0 and 1, and the
+/// code of these or the code as it was.
+fn with_words(bundle: &Bundle, i: usize, word0: u32, word1: u32, coded: bool) -> Vec<u32> {
+    let mut words = bundle.words();
+    let at = 1 + STATEMENT_WORDS * i;
+    words[at] = word0;
+    words[at + 1] = word1;
+    if coded {
+        words[at + 2..at + STATEMENT_WORDS].copy_from_slice(&code(&KEY, word0, word1));
+    }
+    words
+}
+
+/// Each way to change one field of word 0, with the number where the field alone fixes it.
+fn field_faults(n: u32, word0: u32) -> Vec<(u32, Option<u32>)> {
+    let mut faults = Vec::new();
+    for kind in 0..4 {
+        let ill = (kind == 3).then_some(3);
+        faults.push((word0 & !(3 << 30) | kind << 30, ill));
+    }
+    for value in 0..4 {
+        let ill = (value == 3).then_some(3);
+        faults.push((word0 & !(3 << 28) | value << 28, ill));
+    }
+    faults.push((word0 ^ 1 << 27, None));
+    for bit in 24..27 {
+        faults.push((word0 ^ 1 << bit, Some(3)));
+    }
+    for station in [0, n + 1, 128, 255] {
+        faults.push((word0 & !(255 << 16) | station << 16, Some(3)));
+    }
+    for station in [1, 2, n] {
+        faults.push((word0 & !(255 << 16) | station << 16, None));
+    }
+    let round = word0 & 0xffff;
+    for round in [0, 1, 2, round.wrapping_sub(1), round + 1, LAST_ROUND] {
+        faults.push((word0 & !0xffff | round & 0xffff, None));
+    }
+    faults.retain(|(fault, _)| *fault != word0);
+    faults.sort();
+    faults.dedup_by_key(|(fault, _)| *fault);
+    faults
+}
+
+/// The statements looked at: main, first and last; at n 4 the first and last of each group.
+fn positions(n: u32, bundle: &Bundle) -> Vec<usize> {
+    let count = bundle.certificate.len();
+    let q = quorum(n);
+    let mut all = vec![0, 1, q, q + 1, count];
+    if n != 4 {
+        all = vec![0, 1, count];
+    }
+    all.retain(|i| *i <= count);
+    all.sort();
+    all.dedup();
+    all
+}
+
+impl Cases {
+    /// Checks the words against the valid bundle in its register: only what differs is put.
+    fn case(&mut self, module: usize, words: &[u32], expected: Option<u32>) {
+        self.author.put_like(DAMAGED, VALID, words);
+        let report = self.author.call(Command::Check(module, DAMAGED));
+        if let Some(expected) = expected {
+            assert_eq!(
+                report.number,
+                expected,
+                "{:?}",
+                self.author.machine.buffers[DAMAGED].seen()
+            );
+        }
+    }
+
+    fn check(&mut self, words: &[u32], expected: u32) {
+        self.case(GROUP, words, Some(expected));
+    }
+
+    fn any(&mut self, words: &[u32]) {
+        self.case(GROUP, words, None);
+    }
+
+    /// All faults of one bundle.
+    fn faults_of(&mut self, name: &str, bundle: &Bundle) {
+        self.author.comment(&format!("n {}: {name}", self.n));
+        let words = bundle.words();
+        self.author.put_all(VALID, &words);
+        let report = self.author.call(Command::Check(GROUP, VALID));
+        assert_eq!(report.number, 0, "n {} {name}", self.n);
+        self.head_faults(&words);
+        for i in positions(self.n, bundle) {
+            self.statement_faults(bundle, i);
+        }
+        self.code_faults(bundle);
+        self.group_faults(bundle);
+        self.full_certificates(bundle);
+        self.value_faults(bundle);
+        self.order_of_tests(bundle);
+        self.other_sizes(&words);
+    }
+
+    fn head_faults(&mut self, words: &[u32]) {
+        let with_head = |head: u32| [&[head], &words[1..]].concat();
+        for fault in [
+            0,
+            1 << 31,
+            1 << 30,
+            3 << 30 | 1 << 16,
+            3 << 30 | 1 << 29,
+            3 << 30 | 1 << 22,
+        ] {
+            self.check(&with_head(fault | words[0] & 0xffff), 3);
+        }
+        for count in [
+            words[0] + 1,
+            words[0].wrapping_sub(1),
+            head(MOST_CERTIFICATE + 1),
+        ] {
+            self.check(&with_head(count), 3);
+        }
+        self.check(&[], 3);
+        self.check(&words[..1], 3);
+        self.check(&words[..10], 3);
+        self.check(&words[..words.len() - 1], 3);
+        self.check(&[words, &[0]].concat(), 3);
+        let cut = words.len() - STATEMENT_WORDS;
+        self.check(&words[..cut], 3);
+    }
+
+    fn statement_faults(&mut self, bundle: &Bundle, i: usize) {
+        let at = 1 + STATEMENT_WORDS * i;
+        let words = bundle.words();
+        let (word0, word1) = (words[at], words[at + 1]);
+        for (fault, ill) in field_faults(self.n, word0) {
+            let coded = ill.is_none();
+            self.case(GROUP, &with_words(bundle, i, fault, word1, coded), ill);
+            if ill.is_none() && i < 2 {
+                self.any(&with_words(bundle, i, fault, word1, false));
+            }
+        }
+        let alone = i == 0 && bundle.certificate.is_empty();
+        let expected = if alone { 0 } else { 4 };
+        self.check(&with_words(bundle, i, word0, word1 ^ 1, true), expected);
+        self.check(
+            &with_words(bundle, i, word0, word1 ^ 1 << 31, true),
+            expected,
+        );
+    }
+
+    /// "a code that doesn't verify": each of its words, in the main, first and last statement.
+    fn code_faults(&mut self, bundle: &Bundle) {
+        let count = bundle.certificate.len();
+        let mut looked_at = vec![0, 1.min(count), count];
+        looked_at.dedup();
+        for i in looked_at {
+            for word in 2..STATEMENT_WORDS {
+                let mut words = bundle.words();
+                words[1 + STATEMENT_WORDS * i + word] ^= 1 << ((3 * word + i) % 32);
+                self.check(&words, 5);
+            }
+        }
+    }
+
+    fn try_certificate(&mut self, bundle: &Bundle, certificate: Vec<Statement>) {
+        let main = bundle.main;
+        let expected = if certificate.len() > MOST_CERTIFICATE {
+            3
+        } else {
+            6
+        };
+        self.check(&Bundle { main, certificate }.words(), expected);
+    }
+
+    /// Sizes and stations: one too few, one too many, twice, falling, a group missing or extra.
+    fn group_faults(&mut self, bundle: &Bundle) {
+        let all = &bundle.certificate;
+        let count = all.len();
+        let q = quorum(self.n);
+        let large = self.n == 31;
+        for i in [0, q - 1, count.saturating_sub(1)] {
+            if i < count && (i > 0 || !large) {
+                let mut fewer = all.clone();
+                fewer.remove(i);
+                self.try_certificate(bundle, fewer);
+                let mut twice = all.clone();
+                twice.insert(i, all[i]);
+                self.try_certificate(bundle, twice);
+            }
+        }
+        if count > 1 {
+            let mut falling = all.clone();
+            falling.swap(count - 2, count - 1);
+            self.try_certificate(bundle, falling);
+            let mut repeated = all.clone();
+            repeated[1] = all[0];
+            self.try_certificate(bundle, repeated);
+        }
+        self.one_too_many(bundle);
+        if count == 2 * q {
+            self.try_certificate(bundle, all[..q].to_vec());
+            self.try_certificate(bundle, all[q..].to_vec());
+            self.try_certificate(bundle, [&all[q..], &all[..q]].concat());
+            self.try_certificate(bundle, [&all[..q], &all[..q]].concat());
+        } else if count > 0 {
+            self.try_certificate(bundle, Vec::new());
+            self.try_certificate(bundle, [&all[..], &all[..]].concat());
+        }
+    }
+
+    /// Counts of 32 and 33.
+    fn full_certificates(&mut self, bundle: &Bundle) {
+        let filler = bundle.certificate.first().unwrap_or(&bundle.main);
+        let mut full = bundle.certificate.clone();
+        full.resize(MOST_CERTIFICATE, *filler);
+        if full != bundle.certificate {
+            self.try_certificate(bundle, full.clone());
+        }
+        full.push(*filler);
+        self.try_certificate(bundle, full);
+    }
+
+    /// A further statement like the last, of a station that is not yet there; and a second group
+    /// where none is wanted.
+    fn one_too_many(&mut self, bundle: &Bundle) {
+        let (n, all) = (self.n, &bundle.certificate);
+        let main = bundle.main;
+        let Some(last) = all.last() else {
+            self.try_certificate(bundle, vec![init(1, 0)]);
+            self.try_certificate(bundle, vec![init(main.station, main.value)]);
+            return;
+        };
+        for station in (1..=n).filter(|s| all.iter().all(|held| held.station != *s)) {
+            let mut more = all.clone();
+            more.push(Statement { station, ..*last }.coded(&KEY));
+            more.sort_by_key(|s| s.station);
+            self.try_certificate(bundle, more);
+            if station > 3 {
+                break;
+            }
+        }
+        if all.len() == quorum(n) && main.round < LAST_ROUND && main.kind != Kind::Init {
+            for round in [main.round, main.round.max(2) - 1] {
+                let p_group = proposals(n, round, main.value & 1, &[D], true);
+                self.try_certificate(bundle, [&all[..], &p_group[..]].concat());
+                let v_group = none_votes(n, round, true);
+                self.try_certificate(bundle, [&all[..], &v_group[..]].concat());
+            }
+        }
+    }
+
+    /// All statements of a group changed alike: value, round, kind or flag.
+    fn value_faults(&mut self, bundle: &Bundle) {
+        let q = quorum(self.n).min(bundle.certificate.len());
+        let ways: [fn(Statement) -> Statement; 7] = [
+            |s| Statement { value: 0, ..s },
+            |s| Statement { value: 1, ..s },
+            |s| Statement {
+                value: NONE,
+                kind: Kind::V,
+                flag: D,
+                round: s.round.max(1),
+                ..s
+            },
+            |s| Statement {
+                round: (s.round + 1).min(LAST_ROUND),
+                ..s
+            },
+            |s| Statement {
+                round: s.round.max(2) - 1,
+                ..s
+            },
+            |s| Statement { flag: D, ..s },
+            |s| Statement {
+                flag: if s.kind == Kind::P { R } else { D },
+                ..s
+            },
+        ];
+        // at n 31 a few of them, since each is long
+        let tried = if self.n == 31 { &ways[..3] } else { &ways[..] };
+        for way in tried {
+            for range in [0..q, q..bundle.certificate.len()] {
+                let mut certificate = bundle.certificate.clone();
+                for statement in &mut certificate[range] {
+                    *statement = way(*statement).coded(&KEY);
+                }
+                if certificate != bundle.certificate {
+                    let main = bundle.main;
+                    let one_value = certificate.iter().all(|s| s.value != 0)
+                        || certificate.iter().all(|s| s.value != 1);
+                    // rules 6 and 7: "both values present"
+                    let expected = (main.value == NONE && one_value).then_some(6);
+                    self.case(GROUP, &Bundle { main, certificate }.words(), expected);
+                }
+            }
+        }
+    }
+
+    /// Pairs of faults that show the order 3, 4, 5, 6, each over the whole bundle.
+    fn order_of_tests(&mut self, bundle: &Bundle) {
+        let count = bundle.certificate.len();
+        let last = 1 + STATEMENT_WORDS * count;
+        let words = bundle.words();
+        if count > 0 {
+            let mut three_and_four = with_words(bundle, 0, words[1], QUESTION + 1, true);
+            three_and_four[last] |= 3 << 30;
+            self.check(&three_and_four, 3);
+            let mut four_and_five = words.clone();
+            four_and_five[3] ^= 1;
+            four_and_five[last + 1] ^= 1;
+            self.check(&four_and_five, 4);
+            let mut four_and_six = bundle.clone();
+            four_and_six.certificate[0].question ^= 1;
+            four_and_six.certificate[0] = four_and_six.certificate[0].coded(&KEY);
+            four_and_six.certificate.pop();
+            let expected = if count > 1 { 4 } else { 6 };
+            self.check(&four_and_six.words(), expected);
+        }
+        let mut three_and_five = words.clone();
+        three_and_five[STATEMENT_WORDS] ^= 1;
+        three_and_five[last] |= 1 << 25;
+        self.check(&three_and_five, 3);
+        let mut five_and_six = bundle.clone();
+        five_and_six.certificate.push(init(1, 0));
+        if five_and_six.certificate.len() <= MOST_CERTIFICATE {
+            let mut five_and_six = five_and_six.words();
+            let end = five_and_six.len() - 1;
+            five_and_six[end] ^= 1;
+            self.check(&five_and_six, 5);
+        }
+    }
+
+    /// The same words at other sizes of the group, in range and out of it, and another key.
+    fn other_sizes(&mut self, words: &[u32]) {
+        for module in 1..=4 {
+            self.case(module, words, Some(2));
+            self.case(module, &[], Some(2));
+        }
+        for module in 5..=8 {
+            self.case(module, words, None);
+        }
+        self.case(9, words, Some(5));
+    }
+
+    /// Modules for the checks: only key and n are looked at.
+    fn modules(&mut self) {
+        let n = self.n;
+        let smaller = if n > 2 { n - 1 } else { 3 };
+        let sizes = [n, 0, 1, 32, u32::MAX, smaller, n % 31 + 2, 2, 31, n];
+        for (register, size) in sizes.into_iter().enumerate() {
+            let mut words = [0; 13];
+            words[..8].copy_from_slice(&KEY);
+            words[8] = size;
+            if register == 9 {
+                words[7] ^= 1;
+            }
+            self.author.set(Command::Raw(register, words));
+        }
+    }
+}
+
+/// The script of checks and what it prints.
+pub fn bundles() -> (String, String) {
+    let mut cases = Cases {
+        author: Author::recording(),
+        n: 0,
+    };
+    for n in SIZES {
+        cases.n = n;
+        cases.modules();
+        for (name, bundle) in valid_bundles(n) {
+            cases.faults_of(name, &bundle);
+        }
+    }
+    cases.author.record.expect("it was recorded")
+}

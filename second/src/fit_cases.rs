@@ -1,0 +1,278 @@
+//! Stations that fit and stations that do not: from stations of every stage, each with one part
+//! changed.
+
+use crate::call_cases::{setups, Calls, Setup};
+use crate::group::{quorum, LAST_ROUND, STATEMENT_WORDS};
+use crate::station::{StationWords, FIRST_START, HEARD_WORD, HELD_START, SECOND_START};
+
+/// A changed station, and the number where it is known without looking at the rest.
+type Changed = (StationWords, Option<u32>);
+
+/// The number that a station is refused by if it does not fit.
+const UNFIT: Option<u32> = Some(2);
+
+struct Changes {
+    from: StationWords,
+    /// What the giving returns where the change does not matter.
+    number: Option<u32>,
+    all: Vec<Changed>,
+}
+
+impl Changes {
+    fn put(&mut self, index: usize, word: u32, expected: Option<u32>) {
+        let mut words = self.from;
+        words[index] = word;
+        if words != self.from {
+            self.all.push((words, expected));
+        }
+    }
+
+    /// Exchanges two statements of ten words.
+    fn swap(&mut self, one: usize, other: usize, expected: Option<u32>) {
+        let mut words = self.from;
+        for i in 0..STATEMENT_WORDS {
+            words.swap(one + i, other + i);
+        }
+        self.all.push((words, expected));
+    }
+
+    /// Copies ten words over ten others.
+    fn copy(&mut self, to: usize, from: usize, expected: Option<u32>) {
+        let mut words = self.from;
+        words.copy_within(from..from + STATEMENT_WORDS, to);
+        self.all.push((words, expected));
+    }
+
+    fn zero(&mut self, range: std::ops::Range<usize>, expected: Option<u32>) {
+        let mut words = self.from;
+        words[range].fill(0);
+        self.all.push((words, expected));
+    }
+
+    /// n, number, question and decision.
+    fn identity(&mut self, n: u32) {
+        for other in [0, n - 1, n + 1, 32, u32::MAX] {
+            self.put(0, other, UNFIT);
+        }
+        for other in [0, 1, n + 1, n, u32::MAX] {
+            self.put(1, other, if other == 2 { self.number } else { UNFIT });
+        }
+        self.put(2, self.from[2] ^ 1, UNFIT);
+        self.put(2, self.from[2] ^ 1 << 31, UNFIT);
+        for decision in [3, 4, u32::MAX] {
+            self.put(7, decision, UNFIT);
+        }
+    }
+
+    /// Every other stage.
+    fn stages(&mut self) {
+        let round = self.from[4];
+        let late = [
+            0,
+            1,
+            2,
+            round,
+            round + 1,
+            LAST_ROUND,
+            LAST_ROUND + 1,
+            u32::MAX,
+        ];
+        let mut stages = vec![[0, 0, 0]];
+        for round in late {
+            stages.extend([[1, round, 0], [1, round, 1], [2, round, 0]]);
+        }
+        stages.sort();
+        stages.dedup();
+        for stage in stages {
+            let mut words = self.from;
+            words[3..6].copy_from_slice(&stage);
+            if words != self.from {
+                self.all.push((words, UNFIT));
+            }
+        }
+    }
+
+    /// The set: without one that is held, with one that is not, with one over n.
+    fn set(&mut self, n: u32) {
+        let set = self.from[HEARD_WORD];
+        for bit in 0..32 {
+            if bit < n + 2 || bit == 31 {
+                self.put(HEARD_WORD, set ^ 1 << bit, UNFIT);
+            }
+        }
+        self.put(HEARD_WORD, 0, UNFIT);
+        self.put(HEARD_WORD, u32::MAX, UNFIT);
+    }
+
+    /// The held statements: fields, place, codes; and slots that must be zero.
+    fn held(&mut self, n: u32) {
+        let set = self.from[HEARD_WORD];
+        let slot = |station: u32| HELD_START + STATEMENT_WORDS * (station as usize - 1);
+        let held: Vec<u32> = (1..=n).filter(|s| set >> (s - 1) & 1 == 1).collect();
+        let looked_at = [2, held[0], held[held.len() - 1]];
+        for station in looked_at {
+            self.fields(slot(station));
+            self.put(
+                slot(station) + 2,
+                self.from[slot(station) + 2] ^ 1,
+                self.number,
+            );
+            self.put(slot(station) + 9, 0, self.number);
+            self.zero(slot(station)..slot(station) + STATEMENT_WORDS, UNFIT);
+        }
+        for station in [1, n, n + 1, 31] {
+            let empty = station > n || set >> (station - 1) & 1 == 0;
+            if station <= 31 && empty {
+                self.put(slot(station), 1, UNFIT);
+                self.put(slot(station) + 9, 1 << 31, UNFIT);
+                self.swap(slot(station), slot(2), UNFIT);
+                self.one_more(slot(station), slot(2), station);
+            }
+        }
+        if held.len() > 1 {
+            self.swap(slot(held[0]), slot(held[1]), UNFIT);
+            self.copy(slot(held[0]), slot(held[1]), UNFIT);
+        }
+    }
+
+    /// A further statement held, well-formed and in the set: then there are q, or one over n.
+    fn one_more(&mut self, to: usize, from: usize, station: u32) {
+        let mut words = self.from;
+        words.copy_within(from..from + STATEMENT_WORDS, to);
+        words[to] = words[to] & !(255 << 16) | station << 16;
+        words[HEARD_WORD] |= 1 << (station - 1);
+        self.all.push((words, UNFIT));
+    }
+
+    /// Each bit of a statement's first word, and its question.
+    fn fields(&mut self, at: usize) {
+        for bit in 0..32 {
+            // value and flag may change into what still fits
+            let sure = !(27..30).contains(&bit);
+            let expected = if sure { UNFIT } else { None };
+            self.put(at, self.from[at] ^ 1 << bit, expected);
+        }
+        self.put(at + 1, self.from[at + 1] ^ 1 << 7, UNFIT);
+    }
+
+    /// A kept group: there or not, its size, order, fields, and what is behind it.
+    fn group(&mut self, start: usize, n: u32) {
+        let end = start + STATEMENT_WORDS * 16;
+        let behind = start + STATEMENT_WORDS * quorum(n);
+        if self.from[start] == 0 {
+            self.put(start, 1, UNFIT);
+            self.put(end - 1, 1, UNFIT);
+            self.foreign_group(start, n);
+            return;
+        }
+        let last = behind - STATEMENT_WORDS;
+        self.zero(start..end, UNFIT);
+        self.zero(start..start + STATEMENT_WORDS, UNFIT);
+        self.zero(last..behind, UNFIT);
+        self.swap(start, last, UNFIT);
+        self.copy(start, last, UNFIT);
+        self.copy(start + STATEMENT_WORDS, start, UNFIT);
+        for at in [start, last] {
+            self.group_fields(at);
+        }
+        if behind < end {
+            self.put(behind, 1, UNFIT);
+            self.put(end - 1, 1, UNFIT);
+            self.copy(behind, last, UNFIT);
+        }
+        let mut words = self.from;
+        words[start + 2..start + STATEMENT_WORDS].fill(0);
+        self.all.push((words, self.number));
+    }
+
+    fn group_fields(&mut self, at: usize) {
+        let is_p = self.from[at] >> 30 == 1;
+        for bit in 0..32 {
+            let is_station = (16..24).contains(&bit);
+            let is_flag = bit == 27;
+            let expected = match (is_station, is_flag && is_p) {
+                // another station may still rise, another flag of a proposal may be there
+                (true, _) => None,
+                (_, true) => self.number,
+                _ => UNFIT,
+            };
+            self.put(at, self.from[at] ^ 1 << bit, expected);
+        }
+        self.put(at + 1, self.from[at + 1] ^ 1 << 31, UNFIT);
+    }
+
+    /// A group where nobody supplies one.
+    fn foreign_group(&mut self, start: usize, n: u32) {
+        let other = if start == FIRST_START {
+            SECOND_START
+        } else {
+            FIRST_START
+        };
+        let size = STATEMENT_WORDS * quorum(n);
+        if self.from[other] != 0 {
+            let mut words = self.from;
+            words.copy_within(other..other + size, start);
+            self.all.push((words, UNFIT));
+            words[other..other + size].fill(0);
+            self.all.push((words, UNFIT));
+        }
+    }
+}
+
+fn changes(setup: &Setup, number: u32) -> Vec<Changed> {
+    let n = setup.module.n;
+    let mut changes = Changes {
+        from: setup.station,
+        number: Some(number),
+        all: Vec::new(),
+    };
+    changes.identity(n);
+    changes.stages();
+    changes.set(n);
+    changes.held(n);
+    changes.group(FIRST_START, n);
+    changes.group(SECOND_START, n);
+    changes.all
+}
+
+/// Stations of every stage at n 2, 4 and 31, changed, given a bundle that would be kept.
+pub fn fit_cases(calls: &mut Calls) {
+    for n in [2, 4, 31] {
+        let all = setups(n);
+        let chosen = all.iter().enumerate().filter(|(i, (_, _, number))| {
+            let some = match n {
+                2 => i % 5 == 0,
+                4 => i % 2 == 0,
+                _ => i % 12 == 4,
+            };
+            some && *number != 10
+        });
+        for (_, (name, setup, number)) in chosen {
+            calls.base(&format!("fit, {name}"), setup);
+            for (station, expected) in changes(setup, *number) {
+                let mut changed = setup.clone();
+                changed.station = station;
+                calls.give(&changed, expected);
+            }
+            closed_cases(calls, setup);
+        }
+    }
+}
+
+/// "A station fits if, unless closed, ...": a closed one fits whatever else it holds, but its n
+/// and number are compared.
+fn closed_cases(calls: &mut Calls, setup: &Setup) {
+    let mut closed = setup.clone();
+    closed.station[6] = 1;
+    calls.give(&closed, Some(11));
+    closed.station[HEARD_WORD] = u32::MAX;
+    closed.station[7] = 9;
+    calls.give(&closed, Some(11));
+    closed.station[1] = 1;
+    calls.give(&closed, Some(2));
+    closed.station[1] = 2;
+    closed.station[0] += 1;
+    calls.give(&closed, Some(2));
+    closed.station = crate::station::refused_station();
+    calls.give(&closed, Some(2));
+}

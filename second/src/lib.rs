@@ -1,0 +1,29 @@
+//! A second implementation of Trusted Ben-Or stations for relay sites.
+//!
+//! It is written from document 01 (and the paper, 004) alone, to be held against 01 sentence by
+//! sentence. Sentences of 01 stand in quotes at the code that renders them.
+
+pub mod check;
+pub mod group;
+pub mod hmac;
+pub mod returns;
+pub mod sealed;
+pub mod sha256;
+pub mod station;
+pub mod valley;
+pub mod words;
+
+pub mod script;
+
+pub mod adversary;
+pub mod random;
+pub mod rng;
+pub mod world;
+
+pub mod author;
+pub mod bundle_cases;
+pub mod call_cases;
+pub mod fit_cases;
+pub mod generate;
+pub mod samples;
+pub mod valley_cases;

@@ -1,0 +1,88 @@
+//! The second implementation as a program.
+
+use std::io::{Read, Write};
+use std::path::{Path, PathBuf};
+use std::process::ExitCode;
+
+use second::random::{many_lists, missing};
+use second::returns::TABLE;
+
+const USAGE: &str = "second run FILE | valley | random [--seed S] [--runs N] | generate [DIR]";
+
+/// The fixed seed and number of lists of the random tester.
+const SEED: u64 = 20_181_217;
+const RUNS: u64 = 2_800;
+
+fn run_script(path: &str) -> Result<(), String> {
+    let bytes = std::fs::read(path).map_err(|error| format!("{path}: {error}"))?;
+    let script = String::from_utf8(bytes).map_err(|_| format!("{path}: not a script"))?;
+    print!("{}", second::script::run(&script));
+    Ok(())
+}
+
+fn run_valley() -> Result<(), String> {
+    let mut input = Vec::new();
+    let mut stdin = std::io::stdin();
+    stdin.read_to_end(&mut input).map_err(|e| e.to_string())?;
+    let output = second::valley::run(&input);
+    std::io::stdout()
+        .write_all(&output)
+        .map_err(|e| e.to_string())
+}
+
+/// The repository that this crate stands in.
+fn repository() -> PathBuf {
+    Path::new(env!("CARGO_MANIFEST_DIR")).join("..")
+}
+
+/// The number behind an option, or what is taken without it.
+fn option(arguments: &[String], name: &str, default: u64) -> Result<u64, String> {
+    match arguments.iter().position(|argument| argument == name) {
+        None => Ok(default),
+        Some(at) => {
+            let number = arguments.get(at + 1).and_then(|text| text.parse().ok());
+            number.ok_or(format!("{name} needs a number"))
+        }
+    }
+}
+
+fn run_random(arguments: &[String]) -> Result<(), String> {
+    let seed = option(arguments, "--seed", SEED)?;
+    let runs = option(arguments, "--runs", RUNS)?;
+    let counts = many_lists(seed, runs)?;
+    println!("seed {seed}, {runs} lists, {} calls", counts.calls);
+    for number in TABLE {
+        let count = counts.returned.get(&number).unwrap_or(&0);
+        println!("returned {number:2}: {count}");
+    }
+    println!("10 at a forged station: {}", counts.forged_conflicts);
+    println!("bundles of sound sites: {}", counts.sound_bundles);
+    println!("R-GET proposals of sound sites: {}", counts.tosses);
+    println!("decisions of sound sites: {}", counts.decisions);
+    println!("deepest round of a sound site: {}", counts.deepest_round);
+    let missing = missing(&counts);
+    match missing.is_empty() && counts.forged_conflicts > 0 {
+        true => Ok(()),
+        false => Err(format!("never returned: {missing:?}")),
+    }
+}
+
+fn main() -> ExitCode {
+    let arguments: Vec<String> = std::env::args().skip(1).collect();
+    let words: Vec<&str> = arguments.iter().map(String::as_str).collect();
+    let result = match words[..] {
+        ["run", file] => run_script(file),
+        ["valley"] => run_valley(),
+        ["random", ..] => run_random(&arguments[1..]),
+        ["generate"] => second::generate::generate(&repository()),
+        ["generate", directory] => second::generate::generate(Path::new(directory)),
+        _ => Err(USAGE.to_string()),
+    };
+    match result {
+        Ok(()) => ExitCode::SUCCESS,
+        Err(message) => {
+            eprintln!("{message}");
+            ExitCode::FAILURE
+        }
+    }
+}

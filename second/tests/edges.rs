@@ -1,0 +1,270 @@
+//! The edges that 01 lists, and the readings of 01 that decide numbers.
+
+mod common;
+use common::*;
+use second::check::check;
+use second::group::{backing, quorum, LAST_ROUND};
+use second::sealed::{code_coin, code_plain, make};
+use second::station::{fits, give, open, refused_station};
+use second::words::{Bundle, Kind, Statement, Step, NONE};
+use second::world::{least_backing, meeting_number};
+
+/// The thresholds against their meaning, at every n.
+#[test]
+fn thresholds_by_their_meaning() {
+    for n in 2..=31 {
+        assert_eq!(quorum(n), meeting_number(n));
+        assert_eq!(backing(n, 0), least_backing(n, 0));
+        assert_eq!(backing(n, 1), least_backing(n, 1));
+    }
+}
+
+#[test]
+fn sizes_1_and_32() {
+    for (n, number, returned) in [
+        (1, 1, 2),
+        (2, 1, 0),
+        (31, 31, 0),
+        (32, 1, 2),
+        (31, 32, 2),
+        (2, 0, 2),
+    ] {
+        let (answer, module) = make(&KEY, n, number);
+        assert_eq!(answer, returned);
+        assert_eq!(module.words() == [0; 13], returned == 2);
+    }
+    let words = bundle(init(1, 0), &[]);
+    for (n, returned) in [(0, 2), (1, 2), (2, 0), (31, 0), (32, 2), (u32::MAX, 2)] {
+        assert_eq!(check(&KEY, n, &words), returned);
+    }
+}
+
+#[test]
+fn output_of_330_and_331_words() {
+    let (mut module, mut station) = opened(3, 1, 0);
+    let given = bundle(init(2, 1), &[]);
+    let before = (module.clone(), station);
+    let mut short = [7; 330];
+    assert_eq!(
+        give(&mut module, &mut station, &given, 0, &mut short).number,
+        1
+    );
+    assert_eq!(
+        (module.clone(), station, short),
+        (before.0, before.1, [7; 330])
+    );
+    let mut enough = [7; 331];
+    let answer = give(&mut module, &mut station, &given, 0, &mut enough);
+    assert_eq!((answer.number, answer.count), (20, 21));
+    assert!(enough[21..].iter().all(|word| *word == 7));
+    let (answer, closed) = open(&mut module, QUESTION + 1, 0, &mut short);
+    assert_eq!((answer.number, closed), (1, refused_station()));
+}
+
+/// Reading 5: count 33 is 3 at every n; count 32 of the right length is well-formed.
+#[test]
+fn counts_of_32_and_33() {
+    let many = |count: usize| vec![init(1, 0); count];
+    for n in [2, 4, 31] {
+        assert_eq!(check(&KEY, n, &bundle(v(1, 2, 0), &[&many(32)])), 6);
+        assert_eq!(check(&KEY, n, &bundle(v(1, 2, 0), &[&many(33)])), 3);
+    }
+    let stations: Vec<u32> = (1..=16).collect();
+    let groups = [ps(&stations, 2, 0, D), ps(&stations, 1, 0, D)];
+    let full = bundle(v(31, 2, 0), &[&groups[0], &groups[1]]);
+    assert_eq!((full.len(), check(&KEY, 31, &full)), (331, 0));
+}
+
+#[test]
+fn no_words_and_groups_of_q_less_1() {
+    assert_eq!(check(&KEY, 4, &[]), 3);
+    let valid = bundle(v(1, 1, 0), &[&ps(&[1, 2, 3], 1, 0, D)]);
+    assert_eq!(check(&KEY, 4, &valid), 0);
+    let fewer = bundle(v(1, 1, 0), &[&ps(&[1, 2], 1, 0, D)]);
+    assert_eq!(check(&KEY, 4, &fewer), 6);
+    let more = bundle(v(1, 1, 0), &[&ps(&[1, 2, 3, 4], 1, 0, D)]);
+    assert_eq!(check(&KEY, 4, &more), 6);
+    let twice = bundle(v(1, 1, 0), &[&ps(&[1, 2, 2], 1, 0, D)]);
+    assert_eq!(check(&KEY, 4, &twice), 6);
+}
+
+/// A station of 3 voting in the last round holds its own vote and is given another.
+fn last_votes(own: u32, other: u32, decision: u32) -> (u32, u32, u32) {
+    let mut module = module(3, 1);
+    // reading 8: 12 is not tested where no bundle would be written
+    module.last = Some((u32::MAX, Step(131_071)));
+    let group = ps(&[1, 2], LAST_ROUND, 0, R);
+    let first: &[Statement] = if own == 0 { &group } else { &[] };
+    let mut words = station(3, v(1, LAST_ROUND, own), &[], [first, &[]]);
+    words[7] = decision;
+    let certificate = match other {
+        NONE => vec![
+            p(1, LAST_ROUND, 0, R),
+            p(2, LAST_ROUND, 1, R),
+            v(1, LAST_ROUND - 1, NONE),
+            v(3, LAST_ROUND - 1, NONE),
+        ],
+        _ => group.clone(),
+    };
+    let given = bundle(v(2, LAST_ROUND, other), &[&certificate]);
+    let (answer, _) = give_words(&mut module, &mut words, &given, 0);
+    assert_eq!(answer.count, 0);
+    let expected_front = [3, 1, QUESTION, 2, LAST_ROUND, 0, 1];
+    assert_eq!(words[..7], expected_front);
+    assert!(words[8..].iter().all(|word| *word == 0));
+    let again = give_words(&mut module, &mut words, &given, 0).0.number;
+    // reading 6: a coin out of range is 2 even at a closed station
+    assert_eq!(give_words(&mut module, &mut words, &given, 2).0.number, 2);
+    (answer.number, words[7], again)
+}
+
+#[test]
+fn closing_behind_the_last_round() {
+    assert_eq!(last_votes(0, 0, NONE), (22, 0, 11));
+    assert_eq!(last_votes(0, NONE, NONE), (22, NONE, 11));
+    assert_eq!(last_votes(NONE, NONE, NONE), (22, NONE, 11));
+    assert_eq!(last_votes(0, 0, 1), (22, 1, 11));
+    assert_eq!(last_votes(NONE, 0, 0), (22, 0, 11));
+}
+
+/// Reading 2: a P of round 1 flagged R-GET is well-formed.
+#[test]
+fn first_round_r_get() {
+    let mut coder = module(3, 1);
+    let mut lent = p(1, 1, 0, R).words();
+    assert_eq!(code_coin(&mut coder, &mut lent, 1), 0);
+    assert_eq!(lent, p(1, 1, 1, R).words());
+    assert_eq!(check(&KEY, 3, &bundle(p(1, 1, 0, R), &[])), 6);
+    assert_eq!(check(&KEY, 3, &bundle(p(1, 1, 0, R), &[&[init(1, 0)]])), 6);
+    let group = [p(1, 1, 0, R), p(2, 1, 0, D)];
+    assert_eq!(check(&KEY, 3, &bundle(v(1, 1, 0), &[&group])), 0);
+    assert_eq!(check(&KEY, 3, &bundle(p(1, 2, 0, D), &[&group])), 0);
+    let both = [p(1, 1, 0, R), p(2, 1, 1, D)];
+    assert_eq!(check(&KEY, 3, &bundle(v(1, 1, NONE), &[&both])), 6);
+    let both = [p(1, 1, 0, D), p(2, 1, 1, D)];
+    assert_eq!(check(&KEY, 3, &bundle(v(1, 1, NONE), &[&both])), 0);
+}
+
+/// Reading 3: a second group that rule 5 does not ask for is one too many.
+#[test]
+fn second_group_only_where_asked() {
+    let before = ps(&[1, 2], 1, 0, D);
+    let r_only = ps(&[1, 2], 2, 0, R);
+    let with_d = [p(1, 2, 0, R), p(2, 2, 0, D)];
+    assert_eq!(check(&KEY, 3, &bundle(v(1, 2, 0), &[&r_only])), 0);
+    assert_eq!(check(&KEY, 3, &bundle(v(1, 2, 0), &[&r_only, &before])), 6);
+    assert_eq!(check(&KEY, 3, &bundle(v(1, 2, 0), &[&with_d])), 6);
+    assert_eq!(check(&KEY, 3, &bundle(v(1, 2, 0), &[&with_d, &before])), 0);
+    assert_eq!(check(&KEY, 3, &bundle(v(1, 1, 0), &[&before, &before])), 6);
+}
+
+/// Readings 4 and 7.
+#[test]
+fn coding_stations_and_coins() {
+    let mut fresh = module(4, 2);
+    for (station, number) in [(0, 3), (5, 3), (255, 3), (1, 5), (4, 5), (2, 0)] {
+        let statement = Statement {
+            station,
+            ..init(2, 1)
+        };
+        assert_eq!(
+            code_plain(&mut fresh, &mut statement.words()),
+            number,
+            "{station}"
+        );
+    }
+    for value in [0, 1, 2, 3] {
+        let mut fresh = module(4, 2);
+        let mut lent = Statement {
+            value,
+            ..p(2, 2, 0, R)
+        }
+        .words();
+        let expected = if value <= 1 { 0 } else { 3 };
+        assert_eq!(code_coin(&mut fresh, &mut lent, 1), expected);
+    }
+    let mut fresh = module(4, 2);
+    assert_eq!(code_plain(&mut fresh, &mut p(2, 2, 0, R).words()), 3);
+    assert_eq!(code_coin(&mut fresh, &mut p(2, 2, 0, D).words(), 0), 3);
+    assert_eq!(code_coin(&mut fresh, &mut p(2, 2, 0, R).words(), 2), 2);
+    assert_eq!(code_coin(&mut fresh, &mut v(2, 2, 0).words(), 0), 3);
+    assert_eq!(fresh, module(4, 2));
+}
+
+/// Reading 9: 10 is judged before it is known whether the step ends; not in round 1.
+#[test]
+fn conflicts() {
+    let mut own = module(7, 1);
+    let first = ps(&[1, 2, 3, 4], 1, 0, D);
+    let mut words = station(7, p(1, 2, 0, D), &[], [&first, &[]]);
+    let given = bundle(p(2, 2, 1, D), &[&ps(&[4, 5, 6, 7], 1, 1, D)]);
+    assert_eq!(give_words(&mut own, &mut words, &given, 0).0.number, 10);
+    let votes = ps(&[1, 2, 3, 4], 1, 0, D);
+    let mut words = station(7, v(1, 1, 0), &[], [&votes, &[]]);
+    let given = bundle(v(2, 1, 1), &[&ps(&[4, 5, 6, 7], 1, 1, D)]);
+    assert_eq!(give_words(&mut own, &mut words, &given, 0).0.number, 10);
+    let mut words = station(7, p(1, 1, 0, D), &[], [&[], &[]]);
+    let given = bundle(p(2, 1, 1, D), &[&[init(1, 1), init(2, 1), init(3, 1)]]);
+    assert_eq!(give_words(&mut own, &mut words, &given, 0).0.number, 0);
+    // held already: any further one is 10
+    let group = ps(&[1, 2, 3, 4], 1, 1, D);
+    let mut words = station(7, v(2, 1, 0), &[v(1, 1, 1)], [&group, &[]]);
+    let both = [p(1, 1, 0, D), p(2, 1, 1, D), p(3, 1, 0, D), p(4, 1, 0, D)];
+    let given = bundle(v(3, 1, NONE), &[&both]);
+    let mut second = module(7, 2);
+    assert_eq!(give_words(&mut second, &mut words, &given, 0).0.number, 10);
+}
+
+/// Reading 10: codes and conflicts are no part of fit, and a closed station fits whatever its set
+/// says; its n and number are compared all the same.
+#[test]
+fn what_fit_does_not_ask() {
+    let group = ps(&[1, 2, 3, 4], 1, 1, D);
+    let mut words = station(7, v(2, 1, 0), &[v(1, 1, 1)], [&group, &[]]);
+    assert!(fits(&words, &module(7, 2)));
+    words[11] ^= 1;
+    words[321] ^= 1;
+    assert!(fits(&words, &module(7, 2)));
+    let mut closed = words;
+    closed[6] = 1;
+    closed[8] = u32::MAX;
+    closed[3..6].copy_from_slice(&[1, 0, 0]);
+    assert!(fits(&closed, &module(7, 2)));
+    assert!(!fits(&closed, &module(7, 1)));
+    assert!(!fits(&closed, &module(6, 2)));
+    let round_1_r_get = station(7, p(2, 1, 0, D), &[p(3, 1, 0, R)], [&[], &[]]);
+    assert!(fits(&round_1_r_get, &module(7, 2)));
+    assert!(!fits(&refused_station(), &module(7, 2)));
+}
+
+/// Reading 11: after an opening on a later question an earlier station keeps and may close; where
+/// it would write, the module says 12.
+#[test]
+fn earlier_questions() {
+    let (mut module, mut station) = opened(5, 1, 0);
+    let (answer, _) = open(&mut module, QUESTION + 1, 1, &mut [0; 331]);
+    assert_eq!(answer.number, 20);
+    let mut given = |number| {
+        let words = bundle(init(number, 1), &[]);
+        give_words(&mut module, &mut station, &words, 0).0.number
+    };
+    assert_eq!(given(2), 0);
+    assert_eq!(given(2), 9);
+    assert_eq!(given(3), 12);
+    assert_eq!(given(4), 12);
+}
+
+/// Reading 1: the own certificate can supply a group.
+#[test]
+fn own_certificate_supplies() {
+    let mut module = module(3, 1);
+    let own_group = ps(&[1, 3], 1, 0, D);
+    let other_group = ps(&[2, 3], 1, 0, D);
+    let mut words = station(3, p(1, 2, 0, D), &[], [&own_group, &[]]);
+    let given = bundle(p(2, 2, 0, D), &[&other_group]);
+    let (answer, written) = give_words(&mut module, &mut words, &given, 0);
+    assert_eq!(answer.number, 20);
+    let made = Bundle::read(&written, 3).unwrap();
+    assert_eq!((made.main.kind, made.main.value), (Kind::V, 0));
+    assert_eq!(made.certificate[2..], own_group);
+}

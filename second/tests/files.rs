@@ -1,0 +1,115 @@
+//! The script runner, and the files in the repository against what is generated.
+
+use std::path::Path;
+
+use second::generate::files;
+use second::script::{read_line, run};
+
+#[test]
+fn settings_print_nothing_and_calls_a_line() {
+    let script = "# a comment\n\
+                  make 0 0 0 0 0 0 0 0 0 3 1\n\
+                  fill 0 14b a5\n\
+                  open 0 0 1 0 0\n\
+                  length 0 b\n\
+                  check 0 0\n\
+                  words 0 0 0\n\
+                  check 0 0\n";
+    let output = run(script);
+    let lines: Vec<&str> = output.lines().collect();
+    assert_eq!(lines.len(), 4);
+    assert_eq!(lines[0], "0 0 m @8 3 1 s = w =");
+    assert!(lines[1].starts_with("14 b m @a 1 1 s @0 3 1 1 @7 2 1 10000 1 "));
+    assert!(lines[1].contains(" w @0 c0000000 10000 1 "));
+    assert_eq!(lines[2], "0 0 m = s = w =");
+    assert_eq!(lines[3], "3 0 m = s = w =");
+}
+
+/// The example of docs/SCRIPT.md, whose dots stand for the eight words of the code.
+#[test]
+fn the_documented_example() {
+    let page = Path::new(env!("CARGO_MANIFEST_DIR")).join("../docs/SCRIPT.md");
+    let page = std::fs::read_to_string(page).unwrap();
+    let blocks: Vec<&str> = page.split("```\n").collect();
+    let script = blocks
+        .iter()
+        .find(|block| block.starts_with("make "))
+        .unwrap();
+    let at = blocks.iter().position(|block| block == script).unwrap();
+    let code = second::hmac::code(&[0; 8], 0x10000, 1);
+    let code: Vec<String> = code.iter().map(|word| format!("{word:x}")).collect();
+    let expected = blocks[at + 2].replace("...", &code.join(" "));
+    assert_eq!(run(script), expected);
+}
+
+#[test]
+fn a_malformed_line_stops_the_run() {
+    for line in [
+        "",
+        " ",
+        "chec 0 0",
+        "check 0",
+        "check 0 0 0",
+        "check 0  0",
+        "check 0 0 ",
+        "check 20 0",
+        "check 0 80",
+        "check 0 G",
+        "check 0 A",
+        "check 0 000000000",
+        "fill 0 191 0",
+        "words 0 18f 1 2",
+        "words 0 0",
+        "station 0 27e 1 2",
+        "raw 0 0",
+        "give 0 0 1 0 1",
+    ] {
+        assert_eq!(read_line(line), None, "{line:?}");
+        let script = format!("fill 0 0 0\n{line}\ncheck 0 0\n");
+        assert_eq!(run(&script), "stop 2\n", "{line:?}");
+    }
+    assert_eq!(run("check 0 0"), "stop 1\n");
+}
+
+/// Lines have at most 80 tokens, and come back as they are written.
+#[test]
+fn scripts_are_as_described() {
+    for (place, content) in files() {
+        if !place.ends_with("stdin") || place.contains("valley") {
+            continue;
+        }
+        let script = String::from_utf8(content).unwrap();
+        for line in script.lines().filter(|line| !line.starts_with('#')) {
+            assert!(line.split(' ').count() <= 80);
+            let command = read_line(line).expect("a command");
+            assert_eq!(command.line().trim_end(), line);
+        }
+    }
+}
+
+/// What the scripts print when they are run from their text alone.
+#[test]
+fn scripts_print_what_was_recorded() {
+    let all = files();
+    let content = |place: &str| {
+        let file = all.iter().find(|file| file.0.ends_with(place)).unwrap();
+        String::from_utf8(file.1.clone()).unwrap()
+    };
+    for directory in ["bundles", "calls"] {
+        let output = run(&content(&format!("{directory}/stdin")));
+        assert!(
+            output == content(&format!("{directory}/stdout")),
+            "{directory}"
+        );
+    }
+}
+
+/// The files in the repository are the generated ones.
+#[test]
+fn files_are_up_to_date() {
+    let repository = Path::new(env!("CARGO_MANIFEST_DIR")).join("..");
+    for (place, content) in files() {
+        let kept = std::fs::read(repository.join(place)).unwrap_or_default();
+        assert!(kept == content, "{place} is not what is generated");
+    }
+}
