@@ -5,3 +5,4 @@ pub mod Statement
 pub mod Bundle
 pub mod Layout
 pub mod Shape
+pub mod Codes

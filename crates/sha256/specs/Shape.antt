@@ -10,7 +10,7 @@ use Rattle.compression.specs.Shape.{Below, compressed-length, compressed-below}
 use Rattle.sha256.specs.Sha256.{words, bytes, padding, initial, blocks, hashed, sha256}
 use Rattle.sha256.specs.Words.{length-bytes}
 
-words-length : (n : ℕ) (m : List ℕ) → length m ≡ n * 4 → length (words m) ≡ n
+pub words-length : (n : ℕ) (m : List ℕ) → length m ≡ n * 4 → length (words m) ≡ n
 unfolding words
 words-length zero [] p = refl
 words-length zero (a ∷ m) p = absurd (omega arith)

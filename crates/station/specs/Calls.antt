@@ -45,7 +45,7 @@ abbrev pub unless : List Test → Outcome → Outcome
 unless l o = pick (eqb (first-failed l) 0) o (refused (first-failed l))
 
 -- a refused opening returns this station, closed and all zero, which every call refuses by 2
-abbrev pub no-station : Station
+unfoldable pub no-station : Station
 no-station =
     record {
       identity = record { n = 0; number = 0; question = 0 };

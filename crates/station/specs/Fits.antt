@@ -14,10 +14,12 @@ use Rattle.format.specs.Numbers.{kind-INIT, kind-P, kind-V, none, D-GET, R-GET,
 use Rattle.format.specs.Group.{quorum}
 use Rattle.format.specs.Words.{step-of}
 use Rattle.format.specs.Statement.{Statement, well-formed, step}
+use Rattle.format.specs.Bundle.{main-of, certificate-of}
 use Rattle.format.specs.Shape.{Shape, init, proposal, vote, formed-in}
 use Rattle.certificate.specs.declared.Group.{Group}
 use Rattle.certificate.specs.Rules.{Rising, Holds, some, none-votes, Backed}
 use Rattle.sealed.specs.declared.Module.{Module}
+use Rattle.sealed.specs.Sealed.{last-for}
 use Rattle.station.specs.declared.Stage.{Stage}
 use Rattle.station.specs.declared.Stage.the-variants.{Gathering, Proposing, Voting}
 use Rattle.station.specs.declared.Station.{Station}
@@ -96,6 +98,10 @@ decision-low (Voting r) old h e = go (ltb old none)
     go true = e
     go false = vote-low h
 
+decision-before : (n number : ℕ) (t : Station) → Sane n number (state-of t) → t .decision ≤ none
+unfolding state-of
+decision-before n number t S = S .decision
+
 -- ---- what follows is ready, and backed
 module _ (n : ℕ) (k : State) (F : Full n k) (coin : ℕ) (bit : coin < 2) where
   pub ready : (g : Stage) → k .stage ≡ g → closes g ≡ false → Ready n (k .question) (follows n g k coin)
@@ -110,7 +116,7 @@ module _ (n : ℕ) (k : State) (F : Full n k) (coin : ℕ) (bit : coin < 2) wher
   pub backed : Given (k .held) → (g : Stage) → k .stage ≡ g → closes g ≡ false → (s : Statement)
       → s .kind ≡ follows n g k coin .kind → s .value ≡ follows n g k coin .value → s .flag ≡ follows n g k coin .flag → s .round ≡ follows n g k coin .round
       → Backed n s (follows n g k coin .first ++ follows n g k coin .second)
-  unfolding follows
+  unfolding follows pick
   backed early Gathering e c s a b d r = inits-backed n k F e s a b d r
   backed early (Proposing p f) e c s a b d r = votes-backed n k F (p .0) f e early s a b r
   backed early (Voting p) e c s a b d r = go (ltb (carried (k .held)) none) refl
@@ -118,5 +124,97 @@ module _ (n : ℕ) (k : State) (F : Full n k) (coin : ℕ) (bit : coin < 2) wher
       more : (r : ℕ) → r ≤ last-round → eqb r last-round ≡ false → r < last-round
       more r x y = omega (arith, eqb-false r last-round y)
 
+      top : p .0 < last-round
+      top = more (p .0) (subst InRounds e (F .rounds) .1) c
+
       go : (z : Bool) → ltb (carried (k .held)) none ≡ z → Backed n s (after-votes (p .0) k coin .first ++ after-votes (p .0) k coin .second)
-      go z q = ?
+      go true q =
+          rw q (rw q at (proposals-backed n k F (p .0) e top coin s (rw q at a) (rw q (rw q at b)) (rw q (rw q at d)) (rw q at r)))
+      go false q =
+          rw q (rw q at (proposals-backed n k F (p .0) e top coin s (rw q at a) (rw q (rw q at b)) (rw q (rw q at d)) (rw q at r)))
+
+-- ---- the returned stations
+module _ (mac : List ℕ → List ℕ → List ℕ) (eight : (key ws : List ℕ) → length (mac key ws) ≡ 8) where
+  -- a statement of the module's own station is proper
+  pub own-proper : (m : Module) (question kind value flag round : ℕ) → InRange m
+      → Shape (own (mac (m .key)) (m .number) question kind value flag round) → Proper (m .n) (own (mac (m .key)) (m .number) question kind value flag round)
+  own-proper m question kind value flag round r s =
+      record {
+        formed = formed-in (m .n) (own (mac (m .key)) (m .number) question kind value flag round) (record { low = r .low; high = r .high; shape = s });
+        eight = eight (m .key) _;
+      }
+
+  pub init-sane : (m : Module) (question proposal : ℕ) → InRange m → proposal < 2
+      → Sane (m .n) (m .number) (began question Gathering none (init-statement mac m question proposal []) [])
+  unfolding step
+  init-sane m question p r v =
+      began-sane (m .n) (m .number) question none Gathering (init-statement mac m question p []) [] (r .at-least-2)
+      (own-proper m question kind-INIT p D-GET 0 r (init refl refl v refl)) refl (r .low) refl refl tt tt (omega arith) tt tt
+      (λ e. never false refl e) (λ e. never false refl e)
+
+  module _ (m : Module) (t : Station) (ws : List ℕ) (coin : ℕ) (out : List ℕ) (L : Lengths t) (A : Accepted mac m t ws coin out) where
+    abbrev k : State
+    k = after mac m t ws coin out
+
+    stage-same : k .stage ≡ t .stage
+    unfolding state-of
+    stage-same = refl
+
+    question-same : k .question ≡ t .identity .question
+    unfolding state-of
+    question-same = refl
+
+    pub next-ready : length (k .held) ≡ quorum (m .n) → closes (t .stage) ≡ false → Ready (m .n) (t .identity .question) (follows (m .n) (t .stage) k coin)
+    next-ready size c =
+        subst (λ (q : ℕ). Ready (m .n) q (follows (m .n) (t .stage) k coin)) question-same
+        (ready (m .n) k (full-after mac m t ws coin out L A size) coin (A .coin-bit) (t .stage) stage-same c)
+
+    pub sent-proper : length (k .held) ≡ quorum (m .n) → closes (t .stage) ≡ false → Proper (m .n) (sent-statement mac m t ws coin out)
+    sent-proper size c =
+        let x = follows (m .n) (t .stage) k coin in
+        own-proper m (t .identity .question) (x .kind) (x .value) (x .flag) (x .round) (A .range)
+        (next-ready size c .shape (sent-statement mac m t ws coin out) refl refl refl refl)
+
+    pub sent-sane : length (k .held) ≡ quorum (m .n) → closes (t .stage) ≡ false
+        → Sane (m .n) (m .number) (began (t .identity .question) (follows (m .n) (t .stage) k coin .stage) (decision-then mac m t ws coin out)
+        (sent-statement mac m t ws coin out) (follows (m .n) (t .stage) k coin .first))
+    unfolding step
+    sent-sane size c =
+        let x = follows (m .n) (t .stage) k coin in
+        let R = next-ready size c in
+        began-sane (m .n) (m .number) (t .identity .question) (decision-then mac m t ws coin out) (x .stage) (sent-statement mac m t ws coin out) (x .first)
+        (A .range .at-least-2) (sent-proper size c) refl (A .range .low) refl (λ i. step-of (R .kind i) (R .round i)) (R .rounds) (R .flag (sent-statement mac m t ws coin out) refl)
+        (decision-low (t .stage) (t .decision) (k .held) (decision-before (m .n) (m .number) t (sane-before mac m t ws coin out L A))) (R .proper) (R .alike)
+        (R .first (sent-statement mac m t ws coin out) refl refl) (R .second (sent-statement mac m t ws coin out) refl refl)
+
+    pub kept-sane : length (k .held) < quorum (m .n) → Sane (m .n) (m .number) k
+    kept-sane few = keep-sane (m .n) (m .number) (state-of t) (main-of ws) (certificate-of ws) (sane-before mac m t ws coin out L A) (A .fitting) (A .new) few
+
+  -- each station that is returned is one of these three
+  shut-fits : (n number : ℕ) (t : State) → t .closed ≡ true → fits n number (W.station-of n number t) ≡ true
+  unfolding fits W.station-of
+  shut-fits n number t e = join (eqb n n && eqb number number) _ (join (eqb n n) _ (eq-eqb n n refl) (eq-eqb number number refl)) (rw e)
+
+  pub giving-fits : (m : Module) (t : Station) (ws : List ℕ) (coin : ℕ) (out : List ℕ) → Lengths t
+      → unrefused (giving mac m t ws coin out .number) ≡ true → fits (m .n) (m .number) (giving mac m t ws coin out .station) ≡ true
+  unfolding giving returned
+  giving-fits m t ws coin out L = go (giving-outcome mac m t ws coin out) (gives-view mac m t ws coin out L)
+    where
+      go : (o : Outcome) → Gives mac m t ws coin out o → unrefused (returned m t out o .number) ≡ true → fits (m .n) (m .number) (returned m t out o .station) ≡ true
+      go _ (refuses e) u = never _ e u
+      go _ (holds-on A few) u =
+          sane-fits (m .n) (m .number) (after mac m t ws coin out) (A .range .at-most-31) (A .range .low) (A .range .high) (kept-sane m t ws coin out L A few)
+      go _ (shuts A size c) u =
+          shut-fits (m .n) (m .number) (shut (mac (m .key)) (m .n) (m .number) (last-for m (t .identity .question)) (after mac m t ws coin out) (decision-then mac m t ws coin out)) refl
+      go _ (goes-on A size c above k) u = sane-fits (m .n) (m .number) _ (A .range .at-most-31) (A .range .low) (A .range .high) (sent-sane m t ws coin out L A size c)
+
+  pub opening-fits : (m : Module) (question v : ℕ) (out : List ℕ) → unrefused (opening mac m question v out .number) ≡ true
+      → fits (m .n) (m .number) (opening mac m question v out .station) ≡ true
+  unfolding opening returned
+  opening-fits m question v out = go (opening-outcome mac m question v out) (opens-view mac m question v out)
+    where
+      go : (o : Outcome) → Opens mac m question v out o → unrefused (returned m no-station out o .number) ≡ true
+          → fits (m .n) (m .number) (returned m no-station out o .station) ≡ true
+      go _ (no-opening e) u = never _ e u
+      go _ (begins room r p a) u =
+          sane-fits (m .n) (m .number) (began question Gathering none (init-statement mac m question v out) []) (r .at-most-31) (r .low) (r .high) (init-sane m question v r p)

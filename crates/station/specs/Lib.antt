@@ -12,3 +12,5 @@ pub mod Pieces
 pub mod End
 pub mod Views
 pub mod Fits
+pub mod Bundles
+pub mod Written

@@ -173,7 +173,7 @@ module _ (n question st : ℕ) (h : List Statement) (top : n ≤ 31) (r : Rising
       (slot-fit i (omega arith)) (slots-ok k (suc i) (omega arith))
 
 -- ---- a kept group fits
-all-formed-drop : (n : ℕ) (ws : List ℕ) (at k : ℕ) → all-formed n ws at k ≡ all-formed n (drop at ws) 0 k
+pub all-formed-drop : (n : ℕ) (ws : List ℕ) (at k : ℕ) → all-formed n ws at k ≡ all-formed n (drop at ws) 0 k
 unfolding all-formed
 all-formed-drop n ws at zero = refl
 all-formed-drop n ws at (suc k) =

@@ -1,0 +1,357 @@
+-- Demand 2: "every message that a station writes is valid to every station of its group". For a station made by opening and changed only by these
+-- calls, with modules of one key and one n, each bundle that is written is answered 0 by the check under that key and n, and its word count is its
+-- length.
+use Prim.Native.Nat.{ℕ, zero, suc, _+_, _-_, _*_, _≤_, _<_}
+use mathlib.Core.Bool.{Bool, true, false, not, _&&_, _||_}
+use mathlib.Core.List.{List, [], _∷_, _++_, append-nil}
+use mathlib.Core.Path.{_≡_, refl, sym, ap, _∙_, subst}
+use native.Mathlib.Omega.{arith}
+use lib.Dec.{eqb, ltb, leb}
+use lib.ListN.{length, take, drop, replicate, length-append, length-replicate}
+use lib.Seq.{take-at}
+use borrow.Author.Tests.{eqb-true, eqb-false, eq-eqb, ltb-true, ltb-false}
+use Rattle.laws.specs.Pick.{pick}
+use Rattle.laws.specs.Bools.{never, both, join}
+use Rattle.laws.specs.Refusals.{All, all-map}
+use Rattle.format.specs.Numbers.{kind-INIT, kind-P, none, D-GET, R-GET, sent, sent-decided, bundle-words, output-words, most-statements}
+use Rattle.format.specs.Group.{quorum, backing}
+use Rattle.format.specs.Statement.{Statement, statements, covered, same-words, verifies, hmac-code}
+use Rattle.format.specs.Bundle.{count-in, main-of, certificate-of}
+use Rattle.format.specs.Shape.{init}
+use Rattle.format.specs.Codes.{hmac-eight}
+use Rattle.certificate.specs.declared.Which.the-variants.{Any}
+use Rattle.certificate.specs.Rules.{Backed, rule-1, rule-2, rule-3, rule-4, rule-5, rule-6, rule-7, some-D-GET}
+use Rattle.certificate.specs.Check.{check-by, judged, checked}
+use Rattle.certificate.specs.Valid.{Valid, valid-found}
+use Rattle.sealed.specs.declared.Module.{Module}
+use Rattle.sealed.specs.Sealed.{last-for}
+use Rattle.station.specs.declared.Stage.{Stage}
+use Rattle.station.specs.declared.Stage.the-variants.{Gathering, Proposing, Voting}
+use Rattle.station.specs.declared.Station.{Station}
+use Rattle.station.specs.Machine.{State, Outcome, refused, keeps, sends, Next, own, began, shut, keeping, insert, supplies-first, supplies-second, takes, closes, those, has-value, first-value, vote-value, carried, follows, after-votes}
+use Rattle.station.specs.Words as W
+use Rattle.station.specs.Words.{state-of, slots-of, all-written, group-words, sites, bundle-of, over, kept-first, kept-second}
+use Rattle.station.specs.Fit.{fits}
+use Rattle.station.specs.Calls.{Returned, returned, opening, giving, opening-outcome, giving-outcome, no-station}
+use Rattle.station.specs.ReadBack.{Proper, length-all}
+use Rattle.station.specs.Slots.{slots-length}
+use Rattle.station.specs.Insert.{insert-all}
+use Rattle.station.specs.Sane.{Kept, Sane, sane-fits, state-back}
+use Rattle.station.specs.FitSane.{Lengths, first-size, second-size}
+use Rattle.station.specs.Keep.{Fitting, all-take}
+use Rattle.station.specs.Pieces.{those-all}
+use Rattle.station.specs.End.{Full, Given, Ready}
+use Rattle.station.specs.Views.{unrefused, InRange, Accepted, after, decision-then, sent-statement, Gives, refuses, holds-on, shuts, goes-on, gives-view, sane-before, full-after, init-statement, Opens, no-opening, begins, opens-view}
+use Rattle.station.specs.Fits.{backed, own-proper, init-sane, next-ready, sent-proper, sent-sane, kept-sane, giving-fits, opening-fits}
+use Rattle.station.specs.Bundles.{bundle-valid, backed-few, ws-length}
+
+pub all-append : (P : Statement → Type 0) (c d : List Statement) → All P c → All P d → All P (c ++ d)
+all-append P [] d a b = b
+all-append P (s ∷ c) d a b = (a .0, all-append P c d (a .1) b)
+
+-- ---- the lengths of a station that is written from a state
+pub lengths-of : (n number : ℕ) (t : State) → n ≤ 31 → Sane n number t → Lengths (W.station-of n number t)
+unfolding W.station-of
+lengths-of n number t top S =
+    record {
+      slots = slots-length n (t .held) 1 sites (S .proper);
+      first = group-length (t .first) (S .first .proper) (omega (arith, S .first .as-asked .size, first-size n (t .stage) (t .held) top));
+      second = group-length (t .second) (S .second .proper) (omega (arith, S .second .as-asked .size, second-size n (t .stage) (t .held) top));
+    }
+  where
+    group-length : (c : List Statement) → All (Proper n) c → length c ≤ 16 → length (group-words c) ≡ 160
+    group-length c p few =
+        length-append (all-written c) (replicate (160 - length c * 10) 0) ∙ omega (arith, length-all n c p, length-replicate {A = ℕ} (160 - length c * 10) 0)
+
+pub shut-lengths : (n number : ℕ) (t : State) → t .held ≡ [] → t .first ≡ [] → t .second ≡ [] → Lengths (W.station-of n number t)
+unfolding W.station-of W.slots-of W.slot-of W.all-written
+shut-lengths n number t a b c = record { slots = rw a; first = rw b; second = rw c }
+
+-- ---- what is held and kept verifies
+same-self : (l : List ℕ) → same-words l l ≡ true
+unfolding same-words
+same-self [] = refl
+same-self (x ∷ l) = join (eqb x x) _ (eq-eqb x x refl) (same-self l)
+
+pub own-verifies : (code : List ℕ → List ℕ) (number question kind value flag round : ℕ) → verifies code (own code number question kind value flag round) ≡ true
+unfolding verifies
+own-verifies code number question kind value flag round = same-self (code (covered (own code number question kind value flag round)))
+
+pub record Certain (code : List ℕ → List ℕ) (t : State) : Type 0 where
+  pub held : All (λ s. verifies code s ≡ true) (t .held)
+  pub first : All (λ s. verifies code s ≡ true) (t .first)
+  pub second : All (λ s. verifies code s ≡ true) (t .second)
+  pub given : Given (t .held)
+
+-- what holds of all that is held and kept holds of the certificate that follows
+module _ (P : Statement → Type 0) (n : ℕ) (k : State) (coin : ℕ) (h : All P (k .held)) (f : All P (k .first)) (s : All P (k .second)) where
+  pub next-all : (g : Stage) → All P (follows n g k coin .first) × All P (follows n g k coin .second)
+  unfolding follows pick
+  next-all Gathering =
+      let v = first-value (k .held) in
+      (all-take P (backing n v) (those (has-value v) (k .held)) (all-map (λ x p. p .0) (those (has-value v) (k .held)) (those-all P (has-value v) (k .held) h)), tt)
+  next-all (Proposing r x) = (h, go (ltb 1 (r .0)) (ltb (vote-value (k .held)) none) (some-D-GET (k .held)))
+    where
+      go : (a b c : Bool) → All P (pick a (pick b (pick c (k .first) []) (k .second)) [])
+      go true true true = f
+      go true true false = tt
+      go true false c = s
+      go false b c = tt
+  next-all (Voting r) = go (ltb (carried (k .held)) none)
+    where
+      go : (a : Bool) → All P (pick {A = Next} a
+          (record { kind = kind-P; value = carried (k .held); flag = D-GET; round = r .0 + 1; first = k .first; second = []; stage = Proposing (record { 0 = r .0 + 1 }) D-GET })
+          (record { kind = kind-P; value = coin; flag = R-GET; round = r .0 + 1; first = k .held; second = []; stage = Proposing (record { 0 = r .0 + 1 }) R-GET }) .first)
+          × All P (pick {A = Next} a
+          (record { kind = kind-P; value = carried (k .held); flag = D-GET; round = r .0 + 1; first = k .first; second = []; stage = Proposing (record { 0 = r .0 + 1 }) D-GET })
+          (record { kind = kind-P; value = coin; flag = R-GET; round = r .0 + 1; first = k .held; second = []; stage = Proposing (record { 0 = r .0 + 1 }) R-GET }) .second)
+      go true = (f, tt)
+      go false = (h, tt)
+
+-- a proposal of round 1 that a rule backs is D-GET
+backed-given : (n : ℕ) (m : Statement) (c : List Statement) → Backed n m c → m .round ≡ 1 → m .kind ≡ kind-P → m .flag ≡ D-GET
+backed-given n m c (rule-1 k) r p = absurd (omega arith)
+backed-given n m c (rule-2 k a f h) r p = f
+backed-given n m c (rule-3 k a f h) r p = f
+backed-given n m c (rule-4 k a f h) r p = absurd (omega arith)
+backed-given n m _ (rule-5 k v h s o) r p = absurd (omega arith)
+backed-given n m c (rule-6 k v a h b) r p = absurd (omega arith)
+backed-given n m _ (rule-7 k v a h b s) r p = absurd (omega arith)
+
+module _ (mac : List ℕ → List ℕ → List ℕ) (m : Module) (t : Station) (ws : List ℕ) (coin : ℕ) (out : List ℕ) (A : Accepted mac m t ws coin out) where
+  abbrev code : List ℕ → List ℕ
+  code = mac (m .key)
+
+  verified : (verifies code (main-of ws) ≡ true) × All (λ s. verifies code s ≡ true) (certificate-of ws)
+  unfolding statements
+  verified = A .codes
+
+  pub kept-certain : Certain code (state-of t) → Certain code (after mac m t ws coin out)
+  unfolding pick
+  kept-certain C =
+      record {
+        held = insert-all (λ s. verifies code s ≡ true) (main-of ws) (state-of t .held) (verified .0) (C .held);
+        first = part (takes (supplies-first (state-of t .stage)) (state-of t .held) (main-of ws)) (state-of t .first) (C .first);
+        second = part (takes (supplies-second (state-of t .stage)) (state-of t .held) (main-of ws)) (state-of t .second) (C .second);
+        given = insert-all (λ s. s .round ≡ 1 → s .kind ≡ kind-P → s .flag ≡ D-GET) (main-of ws) (state-of t .held)
+            (backed-given (m .n) (main-of ws) (certificate-of ws) (A .fitting .backed)) (C .given);
+      }
+    where
+      part : (b : Bool) (l : List Statement) → All (λ s. verifies code s ≡ true) l → All (λ s. verifies code s ≡ true) (pick b (take (quorum (m .n)) (certificate-of ws)) l)
+      part true l h = all-take (λ s. verifies code s ≡ true) (quorum (m .n)) (certificate-of ws) (verified .1)
+      part false l h = h
+
+  -- the state of a station that has sent, by its own statement and the certificate's first group
+  began-certain : (question d : ℕ) (g : Stage) (s : Statement) (c : List Statement) → verifies code s ≡ true → All (λ s. verifies code s ≡ true) c
+      → (s .round ≡ 1 → s .kind ≡ kind-P → s .flag ≡ D-GET) → Certain code (began question g d s c)
+  unfolding pick
+  began-certain question d g s c v vs e =
+      record { held = (v, tt); first = part (supplies-first g s); second = part (supplies-second g s); given = (e, tt) }
+    where
+      part : (b : Bool) → All (λ s. verifies code s ≡ true) (pick b c [])
+      part true = vs
+      part false = tt
+
+  module _ (eight : (key ws : List ℕ) → length (mac key ws) ≡ 8) (L : Lengths t) (C : Certain code (state-of t))
+      (size : length (after mac m t ws coin out .held) ≡ quorum (m .n)) (more : closes (t .stage) ≡ false) where
+    abbrev x : Next
+    x = follows (m .n) (t .stage) (after mac m t ws coin out) coin
+
+    abbrev s : Statement
+    s = sent-statement mac m t ws coin out
+
+    certain-after : Certain code (after mac m t ws coin out)
+    certain-after = kept-certain C
+
+    stage-same : after mac m t ws coin out .stage ≡ t .stage
+    unfolding state-of
+    stage-same = refl
+
+    pub sent-backed : Backed (m .n) s (x .first ++ x .second)
+    sent-backed =
+        backed (m .n) (after mac m t ws coin out) (full-after mac m t ws coin out L A size) coin (A .coin-bit) (certain-after .given) (t .stage) stage-same more s refl refl refl refl
+
+    parts-verify : All (λ s. verifies code s ≡ true) (x .first) × All (λ s. verifies code s ≡ true) (x .second)
+    parts-verify =
+        next-all (λ s. verifies code s ≡ true) (m .n) (after mac m t ws coin out) coin (certain-after .held) (certain-after .first) (certain-after .second) (t .stage)
+
+    s-verifies : verifies code s ≡ true
+    s-verifies = own-verifies code (m .number) (t .identity .question) (x .kind) (x .value) (x .flag) (x .round)
+
+    pub sent-certain : Certain code (began (t .identity .question) (x .stage) (decision-then mac m t ws coin out) s (x .first))
+    sent-certain =
+        began-certain (t .identity .question) (decision-then mac m t ws coin out) (x .stage) s (x .first) s-verifies (parts-verify .0)
+        (backed-given (m .n) s (x .first ++ x .second) sent-backed)
+
+    pub sent-valid : Valid code (m .n) (bundle-of s (x .first ++ x .second))
+    sent-valid =
+        let R = next-ready mac eight m t ws coin out L A size more in
+        bundle-valid (m .n) s (x .first ++ x .second) (A .range .at-most-31) (sent-proper mac eight m t ws coin out L A size more)
+        (all-append (Proper (m .n)) (x .first) (x .second) (R .proper) (R .more-proper))
+        (backed-few (m .n) s (x .first ++ x .second) (A .range .at-most-31) sent-backed) code (A .range .at-least-2)
+        (all-append (λ y. y .question ≡ t .identity .question) (x .first) (x .second) (R .alike) (R .more-alike)) s-verifies
+        (all-append (λ y. verifies code y ≡ true) (x .first) (x .second) (parts-verify .0) (parts-verify .1)) sent-backed
+
+-- ---- stations made by opening and changed only by these calls
+module _ (mac : List ℕ → List ℕ → List ℕ) (key : List ℕ) (n : ℕ) where
+  -- a module of the group
+  pub record OfGroup (number : ℕ) (m : Module) : Type 0 where
+    pub same-key : m .key ≡ key
+    pub same-n : m .n ≡ n
+    pub same-number : m .number ≡ number
+
+  pub data Reached (number : ℕ) : Station → Type 0 where
+    by-opening : (m : Module) (question proposal : ℕ) (out : List ℕ) → OfGroup number m → unrefused (opening mac m question proposal out .number) ≡ true
+        → Reached number (opening mac m question proposal out .station)
+    by-giving : {t : Station} → Reached number t → (m : Module) (ws : List ℕ) (coin : ℕ) (out : List ℕ) → OfGroup number m
+        → unrefused (giving mac m t ws coin out .number) ≡ true → Reached number (giving mac m t ws coin out .station)
+
+  pub record Good (number : ℕ) (t : Station) : Type 0 where
+    pub lengths : Lengths t
+    pub certain : t .closed ≡ false → Certain (mac key) (state-of t)
+
+  module _ (eight : (key ws : List ℕ) → length (mac key ws) ≡ 8) where
+    -- a station written from a sane state of which all is certain
+    good-state : (number i : ℕ) (t : State) → i ≤ 31 → 1 ≤ number → number ≤ i → Sane i number t → Certain (mac key) t → Good number (W.station-of i number t)
+    good-state number i t top lo hi S C =
+        record {
+          lengths = lengths-of i number t top S;
+          certain = λ e. subst (λ (u : State). Certain (mac key) u) (sym (state-back i number t top lo hi S)) C;
+        }
+
+    good-shut : (number i : ℕ) (t : State) → t .closed ≡ true → t .held ≡ [] → t .first ≡ [] → t .second ≡ [] → Good number (W.station-of i number t)
+    unfolding W.station-of
+    good-shut number i t c h f s = record { lengths = shut-lengths i number t h f s; certain = λ e. never (t .closed) e c }
+
+    pub good-opening : (number : ℕ) (m : Module) (question v : ℕ) (out : List ℕ) → OfGroup number m → unrefused (opening mac m question v out .number) ≡ true
+        → Good number (opening mac m question v out .station)
+    unfolding opening returned pick
+    good-opening number m question v out G = go (opening-outcome mac m question v out) (opens-view mac m question v out)
+      where
+        go : (o : Outcome) → Opens mac m question v out o → unrefused (returned m no-station out o .number) ≡ true → Good number (returned m no-station out o .station)
+        go _ (no-opening e) u = never _ e u
+        go _ (begins room r p a) u =
+            subst (λ (i : ℕ). Good i (W.station-of (m .n) (m .number) (began question Gathering none (init-statement mac m question v out) []))) (G .same-number)
+            (good-state (m .number) (m .n) (began question Gathering none (init-statement mac m question v out) []) (r .at-most-31) (r .low) (r .high)
+            (init-sane mac eight m question v r p)
+            (subst (λ (c : List ℕ). Certain (mac c) (began question Gathering none (init-statement mac m question v out) [])) (G .same-key)
+            (record { held = (own-verifies (mac (m .key)) (m .number) question kind-INIT v D-GET 0, tt); first = tt; second = tt; given = ((λ a b. absurd (omega arith)), tt) })))
+
+    pub good-giving : (number : ℕ) (t : Station) → Good number t → (m : Module) (ws : List ℕ) (coin : ℕ) (out : List ℕ) → OfGroup number m
+        → unrefused (giving mac m t ws coin out .number) ≡ true → Good number (giving mac m t ws coin out .station)
+    unfolding giving returned
+    good-giving number t good m ws coin out G = go (giving-outcome mac m t ws coin out) (gives-view mac m t ws coin out (good .lengths))
+      where
+        C : Accepted mac m t ws coin out → Certain (mac (m .key)) (state-of t)
+        C A = subst (λ (c : List ℕ). Certain (mac c) (state-of t)) (sym (G .same-key)) (good .certain (A .still-open))
+
+        of-key : {u : State} → Certain (mac (m .key)) u → Certain (mac key) u
+        of-key {u} c = subst (λ (x : List ℕ). Certain (mac x) u) (G .same-key) c
+
+        here : (u : State) → Good (m .number) (W.station-of (m .n) (m .number) u) → Good number (W.station-of (m .n) (m .number) u)
+        here u g = subst (λ (i : ℕ). Good i (W.station-of (m .n) (m .number) u)) (G .same-number) g
+
+        go : (o : Outcome) → Gives mac m t ws coin out o → unrefused (returned m t out o .number) ≡ true → Good number (returned m t out o .station)
+        go _ (refuses e) u = never _ e u
+        go _ (holds-on A few) u =
+            here (after mac m t ws coin out) (good-state (m .number) (m .n) (after mac m t ws coin out) (A .range .at-most-31) (A .range .low) (A .range .high)
+            (kept-sane mac eight m t ws coin out (good .lengths) A few) (of-key (kept-certain mac m t ws coin out A (C A))))
+        go _ (shuts A size c) u =
+            here (shut (mac (m .key)) (m .n) (m .number) (last-for m (t .identity .question)) (after mac m t ws coin out) (decision-then mac m t ws coin out))
+            (good-shut (m .number) (m .n) (shut (mac (m .key)) (m .n) (m .number) (last-for m (t .identity .question)) (after mac m t ws coin out) (decision-then mac m t ws coin out)) refl refl refl refl)
+        go _ (goes-on A size c above k) u =
+            here _ (good-state (m .number) (m .n) _ (A .range .at-most-31) (A .range .low) (A .range .high)
+            (sent-sane mac eight m t ws coin out (good .lengths) A size c) (of-key (sent-certain mac m t ws coin out A eight (good .lengths) (C A) size c)))
+
+    pub reached-good : (number : ℕ) (t : Station) → Reached number t → Good number t
+    reached-good number _ (by-opening m question v out G u) = good-opening number m question v out G u
+    reached-good number _ (by-giving {t} r m ws coin out G u) = good-giving number t (reached-good number t r) m ws coin out G u
+
+    -- what is written: the lent words up to the word count
+    abbrev pub message : Returned → List ℕ
+    message r = take (r .count) (r .lent)
+
+    abbrev pub wrote : ℕ → Bool
+    wrote k = eqb k sent || eqb k sent-decided
+
+    -- what is sent is not refused
+    sent-unrefused : (k : ℕ) → wrote k ≡ true → unrefused k ≡ true
+    sent-unrefused k u = go (eqb k 0) (eqb k sent) (eqb k sent-decided) u
+      where
+        go : (a b c : Bool) → (b || c) ≡ true → (a || (b || (c || eqb k 22))) ≡ true
+        go true b c e = refl
+        go false true c e = refl
+        go false false true e = refl
+        go false false false e = never false refl e
+
+    -- the written words are the bundle's, and no more
+    bundle-front : (i : ℕ) (s : Statement) (c : List Statement) (out : List ℕ) → i ≤ 31 → Proper i s → All (Proper i) c → length c ≤ most-statements
+        → take (bundle-words (length c)) (over (bundle-of s c) out) ≡ bundle-of s c
+    unfolding bundle-of
+    bundle-front i s c out top p a few =
+        take-at (bundle-of s c) (drop (length (bundle-of s c)) out) (bundle-words (length c)) (ws-length i s c top p a few)
+
+    pub opening-written : (number : ℕ) (m : Module) (question v : ℕ) (out : List ℕ) → OfGroup number m → wrote (opening mac m question v out .number) ≡ true
+        → check-by (mac key) n Any (message (opening mac m question v out)) ≡ 0
+    unfolding opening returned
+    opening-written number m question v out G = go (opening-outcome mac m question v out) (opens-view mac m question v out)
+      where
+        go : (o : Outcome) → Opens mac m question v out o → wrote (returned m no-station out o .number) ≡ true
+            → check-by (mac key) n Any (message (returned m no-station out o)) ≡ 0
+        go _ (no-opening {k} e) u = never (unrefused k) e (sent-unrefused k u)
+        go _ (begins room r p a) u = checks
+          where
+            s : Statement
+            s = init-statement mac m question v out
+
+            proper : Proper (m .n) s
+            proper = own-proper mac eight m question kind-INIT v D-GET 0 r (init refl refl p refl)
+
+            checks : check-by (mac key) n Any (take (bundle-words 0) (over (bundle-of s []) out)) ≡ 0
+            checks =
+                ap (check-by (mac key) n Any) (bundle-front (m .n) s [] out (r .at-most-31) proper tt (omega arith))
+                ∙ valid-found (mac key) n (bundle-of s [])
+                (subst (λ (i : ℕ). Valid (mac key) i (bundle-of s [])) (G .same-n)
+                (subst (λ (c : List ℕ). Valid (mac c) (m .n) (bundle-of s [])) (G .same-key)
+                (bundle-valid (m .n) s [] (r .at-most-31) proper tt (omega arith) (mac (m .key)) (r .at-least-2) tt
+                (own-verifies (mac (m .key)) (m .number) question kind-INIT v D-GET 0) tt (rule-1 refl))))
+
+    pub giving-written : (number : ℕ) (t : Station) → Reached number t → (m : Module) (ws : List ℕ) (coin : ℕ) (out : List ℕ) → OfGroup number m
+        → wrote (giving mac m t ws coin out .number) ≡ true → check-by (mac key) n Any (message (giving mac m t ws coin out)) ≡ 0
+    unfolding giving returned
+    giving-written number t reached m ws coin out G = go (giving-outcome mac m t ws coin out) (gives-view mac m t ws coin out (reached-good number t reached .lengths))
+      where
+        go : (o : Outcome) → Gives mac m t ws coin out o → wrote (returned m t out o .number) ≡ true → check-by (mac key) n Any (message (returned m t out o)) ≡ 0
+        go _ (refuses {k} e) u = never (unrefused k) e (sent-unrefused k u)
+        go _ (holds-on A few) u = never false refl u
+        go _ (shuts A size c) u = never false refl u
+        go _ (goes-on A size c above k) u = checks A size c
+          where
+            checks : (A : Accepted mac m t ws coin out) (size : length (after mac m t ws coin out .held) ≡ quorum (m .n)) (c : closes (t .stage) ≡ false)
+                → let x = follows (m .n) (t .stage) (after mac m t ws coin out) coin in
+                check-by (mac key) n Any (take (bundle-words (length (x .first ++ x .second))) (over (bundle-of (sent-statement mac m t ws coin out) (x .first ++ x .second)) out)) ≡ 0
+            checks A size c =
+                let x = follows (m .n) (t .stage) (after mac m t ws coin out) coin in
+                let s = sent-statement mac m t ws coin out in
+                let g = reached-good number t reached in
+                let C : Certain (mac (m .key)) (state-of t) = subst (λ (c : List ℕ). Certain (mac c) (state-of t)) (sym (G .same-key)) (g .certain (A .still-open)) in
+                let R = next-ready mac eight m t ws coin out (g .lengths) A size c in
+                ap (check-by (mac key) n Any) (bundle-front (m .n) s (x .first ++ x .second) out (A .range .at-most-31) (sent-proper mac eight m t ws coin out (g .lengths) A size c)
+                (all-append (Proper (m .n)) (x .first) (x .second) (R .proper) (R .more-proper))
+                (backed-few (m .n) s (x .first ++ x .second) (A .range .at-most-31) (sent-backed mac m t ws coin out A eight (g .lengths) C size c)))
+                ∙ valid-found (mac key) n (bundle-of s (x .first ++ x .second))
+                (subst (λ (i : ℕ). Valid (mac key) i (bundle-of s (x .first ++ x .second))) (G .same-n)
+                (subst (λ (c : List ℕ). Valid (mac c) (m .n) (bundle-of s (x .first ++ x .second))) (G .same-key)
+                (sent-valid mac m t ws coin out A eight (g .lengths) C size c)))
+
+-- ---- under HMAC, by the public check's own answer
+pub opening-valid : (key : List ℕ) (n number : ℕ) (m : Module) (question v : ℕ) (out : List ℕ) → OfGroup hmac-code key n number m
+    → wrote hmac-code key n hmac-eight (opening hmac-code m question v out .number) ≡ true → checked key n (message hmac-code key n hmac-eight (opening hmac-code m question v out)) ≡ 0
+unfolding checked judged
+opening-valid key n number m question v out G u = opening-written hmac-code key n hmac-eight number m question v out G u
+
+pub giving-valid : (key : List ℕ) (n number : ℕ) (t : Station) → Reached hmac-code key n number t → (m : Module) (ws : List ℕ) (coin : ℕ) (out : List ℕ)
+    → OfGroup hmac-code key n number m → wrote hmac-code key n hmac-eight (giving hmac-code m t ws coin out .number) ≡ true
+    → checked key n (message hmac-code key n hmac-eight (giving hmac-code m t ws coin out)) ≡ 0
+unfolding checked judged
+giving-valid key n number t r m ws coin out G u = giving-written hmac-code key n hmac-eight number t r m ws coin out G u
