@@ -1,0 +1,192 @@
+-- Demand 3 of document 01, stated: the list of calls, the premises, the claim. The steps of the list are the definitions that the functions' promises
+-- cite (crates sealed and station). Lists of calls stand with the newest call first, so that what follows the first call is the list before it.
+-- `mac` is the code function; `demand-3` in Theorem names HMAC.
+use Prim.Native.Nat.{ℕ, zero, suc, _+_, _*_, _≤_, _<_}
+use mathlib.Core.Bool.{Bool, true, false, not, _&&_, _||_}
+use mathlib.Core.List.{List, [], _∷_, _++_}
+use mathlib.Core.Path.{_≡_}
+use lib.Dec.{eqb}
+use lib.ListN.{length, getD, take, drop}
+use Rattle.laws.specs.Pick.{pick}
+use Rattle.laws.specs.Count.{count}
+use Rattle.format.specs.Numbers.{kind-INIT, kind-V, none, sent, sent-decided, conflicting}
+use Rattle.format.specs.Group.{quorum, backing, most-faulty}
+use Rattle.format.specs.Words.{kind-of, value-of, station-of}
+use Rattle.format.specs.Statement.{Statement, statement, same-words}
+use Rattle.format.specs.Bundle.{main-of}
+use Rattle.certificate.specs.Rules.{some}
+use Rattle.sealed.specs.declared.Module.{Module}
+use Rattle.sealed.specs.Sealed.{making, Coded, coding-plain, coding-coin}
+use Rattle.station.specs.declared.Station.{Station}
+use Rattle.station.specs.Calls.{Returned, opening, giving, no-station}
+use Rattle.station.specs.FitSane.{Lengths}
+use Rattle.station.specs.Views.{unrefused}
+
+-- ---- the list
+-- "Each call names its site and brings any settings, words and lent output"; a giving any station too, and which of the site's openings it means
+pub data Call : Type 0 where
+  opens : (site question proposal : ℕ) (out : List ℕ) → Call
+  gives : (site opening : ℕ) (t : Station) (ws : List ℕ) (coin : ℕ) (out : List ℕ) → Call
+  codes : (site : ℕ) (ws : List ℕ) → Call
+  tosses : (site : ℕ) (ws : List ℕ) (coin : ℕ) → Call
+
+abbrev pub site : Call → ℕ
+site (opens i q v out) = i
+site (gives i k t ws coin out) = i
+site (codes i ws) = i
+site (tosses i ws coin) = i
+
+-- all that a coding returns, as the other calls do
+abbrev pub as-returned : Coded → Returned
+as-returned c = record { number = c .number; count = 0; station = no-station; after = c .after; lent = c .lent }
+
+-- words 0 and 1 of a statement that was coded, with the site whose module coded them
+pub record Entry : Type 0 where
+  pub at : ℕ
+  pub words : List ℕ
+
+-- a station's history: as the last call on it returned it, and the statements that it took, its own included
+pub record Lineage : Type 0 where
+  pub present : Station
+  pub took : List Statement
+
+pub data Found : Type 0 where
+  nothing : Found
+  found : Lineage → Found
+
+abbrev pub wrote : ℕ → Bool
+wrote k = eqb k sent || eqb k sent-decided
+
+module _ (mac : List ℕ → List ℕ → List ℕ) (key : List ℕ) (n : ℕ) where
+  unfoldable pub act : Module → Call → Returned
+  act m (opens i q v out) = opening mac m q v out
+  act m (gives i k t ws coin out) = giving mac m t ws coin out
+  act m (codes i ws) = as-returned (coding-plain mac m ws)
+  act m (tosses i ws coin) = as-returned (coding-coin mac m ws coin)
+
+  -- "The list starts, for every n, with the n modules of a group, each made once and with nothing coded"; "Each call gets its site's module as the
+  -- last call left it"
+  unfoldable pub modules : List Call → ℕ → Module
+  modules [] i = making key n i .made
+  modules (c ∷ cs) i = pick (eqb (site c) i) (act (modules cs (site c)) c .after) (modules cs i)
+
+  -- what a call returns behind a list
+  abbrev pub answer : List Call → Call → Returned
+  answer cs c = act (modules cs (site c)) c
+
+  -- ---- what was coded: an opening answered 20, a giving answered 20 or 21 (words 1 and 2 of the bundle), a coding answered 0
+  unfoldable pub coded-in : Call → Returned → List Entry
+  coded-in (opens i q v out) r = pick (wrote (r .number)) (record { at = i; words = take 2 (drop 1 (r .lent)) } ∷ []) []
+  coded-in (gives i k t ws coin out) r = pick (wrote (r .number)) (record { at = i; words = take 2 (drop 1 (r .lent)) } ∷ []) []
+  coded-in (codes i ws) r = pick (eqb (r .number) 0) (record { at = i; words = take 2 (r .lent) } ∷ []) []
+  coded-in (tosses i ws coin) r = pick (eqb (r .number) 0) (record { at = i; words = take 2 (r .lent) } ∷ []) []
+
+  unfoldable pub log : List Call → List Entry
+  log [] = []
+  log (c ∷ cs) = coded-in c (answer cs c) ++ log cs
+
+  -- ---- a site's stations, one for each opening there that is not refused, counted from 0
+  unfoldable pub openings : List Call → ℕ → ℕ
+  openings [] i = 0
+  openings (opens j q v out ∷ cs) i = pick (eqb j i && unrefused (answer cs (opens j q v out) .number)) (suc (openings cs i)) (openings cs i)
+  openings (gives j k t ws coin out ∷ cs) i = openings cs i
+  openings (codes j ws ∷ cs) i = openings cs i
+  openings (tosses j ws coin ∷ cs) i = openings cs i
+
+  -- the main statement of the bundle that a call wrote, if it did
+  abbrev pub own : Returned → List Statement
+  own r = pick (wrote (r .number)) (statement (r .lent) 1 ∷ []) []
+
+  -- a giving that is not refused takes the bundle's main statement; the station is then as returned
+  abbrev pub gave : Returned → List ℕ → Found → Found
+  gave r ws nothing = nothing
+  gave r ws (found l) = found (record { present = r .station; took = own r ++ (main-of ws ∷ l .took) })
+
+  unfoldable pub lineage : List Call → ℕ → ℕ → Found
+  lineage [] i k = nothing
+  lineage (opens j q v out ∷ cs) i k =
+      let r = answer cs (opens j q v out) in
+      pick (eqb j i && unrefused (r .number) && eqb (openings cs i) k) (found (record { present = r .station; took = own r })) (lineage cs i k)
+  lineage (gives j o t ws coin out ∷ cs) i k =
+      let r = answer cs (gives j o t ws coin out) in
+      pick (eqb j i && unrefused (r .number) && eqb o k) (gave r ws (lineage cs i k)) (lineage cs i k)
+  lineage (codes j ws ∷ cs) i k = lineage cs i k
+  lineage (tosses j ws coin ∷ cs) i k = lineage cs i k
+
+  pub record Presents (cs : List Call) (i k : ℕ) (t : Station) : Type 0 where
+    pub line : Lineage
+    pub is : lineage cs i k ≡ found line
+    pub now : line .present ≡ t
+
+  -- "a site is sound if no coding call on its module is answered 0, and every bundle given there and not refused goes to a station that an opening
+  -- there, not refused, returned, as the last call on that station returned it"
+  unfoldable pub Sound : ℕ → List Call → Type 0
+  Sound i [] = Unit
+  Sound i (opens j q v out ∷ cs) = Sound i cs
+  Sound i (gives j k t ws coin out ∷ cs) = (j ≡ i → unrefused (answer cs (gives j k t ws coin out) .number) ≡ true → Presents cs i k t) × Sound i cs
+  Sound i (codes j ws ∷ cs) = (j ≡ i → answer cs (codes j ws) .number ≡ 0 → ⊥) × Sound i cs
+  Sound i (tosses j ws coin ∷ cs) = (j ≡ i → answer cs (tosses j ws coin) .number ≡ 0 → ⊥) × Sound i cs
+
+  -- ---- the premises
+  abbrev pub member : ℕ → List ℕ → Bool
+  member i [] = false
+  member i (j ∷ l) = eqb i j || member i l
+
+  -- "faulty sites are at most half of one less than all, rounded down": so many sites that each other site is sound
+  pub record FewFaulty (cs : List Call) : Type 0 where
+    pub faulty : List ℕ
+    pub few : length faulty ≤ most-faulty n
+    pub others : (i : ℕ) → 1 ≤ i → i ≤ n → member i faulty ≡ false → Sound i cs
+
+  -- "A code came from a site's module if an earlier call of the list, on the module of the station that the covered words name, coded those same words"
+  abbrev pub logged : List Entry → ℕ → List ℕ → Bool
+  logged [] i ws = false
+  logged (e ∷ l) i ws = (eqb (e .at) i && same-words (e .words) ws) || logged l i ws
+
+  -- "every code that verifies in words given to any call came from that site's module": each whole ten words behind the head
+  abbrev pub CodesCame : List Entry → List ℕ → Type 0
+  CodesCame l ws =
+      (k : ℕ) → 11 + k * 10 ≤ length ws → same-words (take 8 (drop (3 + k * 10) ws)) (mac key (take 2 (drop (1 + k * 10) ws))) ≡ true
+      → logged l (station-of (getD ws (1 + k * 10) 0)) (take 2 (drop (1 + k * 10) ws)) ≡ true
+
+  -- each call names a site of the group; a station is a value of its type, with the arrays' declared lengths
+  unfoldable pub Given : List Call → Type 0
+  Given [] = Unit
+  Given (opens i q v out ∷ cs) = ((1 ≤ i) × (i ≤ n)) × Given cs
+  Given (gives i k t ws coin out ∷ cs) = ((1 ≤ i) × (i ≤ n)) × (Lengths t × (CodesCame (log cs) ws × Given cs))
+  Given (codes i ws ∷ cs) = ((1 ≤ i) × (i ≤ n)) × Given cs
+  Given (tosses i ws coin ∷ cs) = ((1 ≤ i) × (i ≤ n)) × Given cs
+
+  -- ---- the claims
+  -- "kept q V for v of one round, its own counted": among what a station took, the stations 1 to n with such a vote
+  abbrev pub votes : List Statement → ℕ → ℕ → ℕ → ℕ → Bool
+  votes took question round v i =
+      some (λ s. eqb (s .kind) kind-V && eqb (s .question) question && eqb (s .round) round && eqb (s .value) v && eqb (s .station) i) took
+
+  -- station k of site i decides v on a question
+  pub record Decides (cs : List Call) (i k question v : ℕ) : Type 0 where
+    pub line : Lineage
+    pub is : lineage cs i k ≡ found line
+    pub bit : v < none
+    pub round : ℕ
+    pub enough : quorum n ≤ count (votes (line .took) question round v) n
+
+  -- "the site's module coded an INIT with that value on that question"
+  abbrev pub proposed : List Entry → ℕ → ℕ → ℕ → Bool
+  proposed [] question v i = false
+  proposed (e ∷ l) question v i =
+      (eqb (e .at) i && eqb (kind-of (getD (e .words) 0 0)) kind-INIT && eqb (value-of (getD (e .words) 0 0)) v && eqb (getD (e .words) 1 0) question)
+      || proposed l question v i
+
+  pub record Claim (cs : List Call) : Type 1 where
+    -- "no two sound sites have decided differently on one question"
+    pub agreement : (i j k l question v w : ℕ) → Sound i cs → Sound j cs → Decides cs i k question v → Decides cs j l question w → v ≡ w
+    -- "no sound site has decided a value that too few sites proposed"
+    pub backed : (i k question v : ℕ) → Sound i cs → Decides cs i k question v → backing n v ≤ count (proposed (log cs) question v) n
+    -- "From then on that station names v as its decision, before that none"
+    pub names : (i k v : ℕ) (line : Lineage) → Sound i cs → lineage cs i k ≡ found line → v < none → line .present .decision ≡ v
+        → Decides cs i k (line .present .identity .question) v
+    pub named : (i k question v : ℕ) (line : Lineage) → Sound i cs → lineage cs i k ≡ found line → Decides cs i k question v → line .present .decision ≡ v
+    -- "Under demand 3's premises 10 never occurs at a sound site's station"
+    pub no-conflict : (i k : ℕ) (t : Station) (ws : List ℕ) (coin : ℕ) (out : List ℕ) → Sound i cs → Presents cs i k t → CodesCame (log cs) ws
+        → answer cs (gives i k t ws coin out) .number ≡ conflicting → ⊥
