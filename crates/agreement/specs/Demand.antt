@@ -57,6 +57,36 @@ pub data Found : Type 0 where
 abbrev pub wrote : ℕ → Bool
 wrote k = eqb k sent || eqb k sent-decided
 
+-- the main statement of the bundle that a call wrote, if it did
+abbrev pub own : Returned → List Statement
+own r = pick (wrote (r .number)) (statement (r .lent) 1 ∷ []) []
+
+-- a giving that is not refused takes the bundle's main statement; the station is then as returned
+abbrev pub gave : Returned → List ℕ → Found → Found
+gave r ws nothing = nothing
+gave r ws (found l) = found (record { present = r .station; took = own r ++ (main-of ws ∷ l .took) })
+
+abbrev pub member : ℕ → List ℕ → Bool
+member i [] = false
+member i (j ∷ l) = eqb i j || member i l
+
+-- "A code came from a site's module if an earlier call of the list, on the module of the station that the covered words name, coded those same words"
+abbrev pub logged : List Entry → ℕ → List ℕ → Bool
+logged [] i ws = false
+logged (e ∷ l) i ws = (eqb (e .at) i && same-words (e .words) ws) || logged l i ws
+
+-- "kept q V for v of one round, its own counted": among what a station took, the stations 1 to n with such a vote
+abbrev pub votes : List Statement → ℕ → ℕ → ℕ → ℕ → Bool
+votes took question round v i =
+    some (λ s. eqb (s .kind) kind-V && eqb (s .question) question && eqb (s .round) round && eqb (s .value) v && eqb (s .station) i) took
+
+-- "the site's module coded an INIT with that value on that question"
+abbrev pub proposed : List Entry → ℕ → ℕ → ℕ → Bool
+proposed [] question v i = false
+proposed (e ∷ l) question v i =
+    (eqb (e .at) i && eqb (kind-of (getD (e .words) 0 0)) kind-INIT && eqb (value-of (getD (e .words) 0 0)) v && eqb (getD (e .words) 1 0) question)
+    || proposed l question v i
+
 module _ (mac : List ℕ → List ℕ → List ℕ) (key : List ℕ) (n : ℕ) where
   unfoldable pub act : Module → Call → Returned
   act m (opens i q v out) = opening mac m q v out
@@ -93,15 +123,6 @@ module _ (mac : List ℕ → List ℕ → List ℕ) (key : List ℕ) (n : ℕ) w
   openings (codes j ws ∷ cs) i = openings cs i
   openings (tosses j ws coin ∷ cs) i = openings cs i
 
-  -- the main statement of the bundle that a call wrote, if it did
-  abbrev pub own : Returned → List Statement
-  own r = pick (wrote (r .number)) (statement (r .lent) 1 ∷ []) []
-
-  -- a giving that is not refused takes the bundle's main statement; the station is then as returned
-  abbrev pub gave : Returned → List ℕ → Found → Found
-  gave r ws nothing = nothing
-  gave r ws (found l) = found (record { present = r .station; took = own r ++ (main-of ws ∷ l .took) })
-
   unfoldable pub lineage : List Call → ℕ → ℕ → Found
   lineage [] i k = nothing
   lineage (opens j q v out ∷ cs) i k =
@@ -128,20 +149,11 @@ module _ (mac : List ℕ → List ℕ → List ℕ) (key : List ℕ) (n : ℕ) w
   Sound i (tosses j ws coin ∷ cs) = (j ≡ i → answer cs (tosses j ws coin) .number ≡ 0 → ⊥) × Sound i cs
 
   -- ---- the premises
-  abbrev pub member : ℕ → List ℕ → Bool
-  member i [] = false
-  member i (j ∷ l) = eqb i j || member i l
-
   -- "faulty sites are at most half of one less than all, rounded down": so many sites that each other site is sound
   pub record FewFaulty (cs : List Call) : Type 0 where
     pub faulty : List ℕ
     pub few : length faulty ≤ most-faulty n
     pub others : (i : ℕ) → 1 ≤ i → i ≤ n → member i faulty ≡ false → Sound i cs
-
-  -- "A code came from a site's module if an earlier call of the list, on the module of the station that the covered words name, coded those same words"
-  abbrev pub logged : List Entry → ℕ → List ℕ → Bool
-  logged [] i ws = false
-  logged (e ∷ l) i ws = (eqb (e .at) i && same-words (e .words) ws) || logged l i ws
 
   -- "every code that verifies in words given to any call came from that site's module": each whole ten words behind the head
   abbrev pub CodesCame : List Entry → List ℕ → Type 0
@@ -158,11 +170,6 @@ module _ (mac : List ℕ → List ℕ → List ℕ) (key : List ℕ) (n : ℕ) w
   Given (tosses i ws coin ∷ cs) = ((1 ≤ i) × (i ≤ n)) × Given cs
 
   -- ---- the claims
-  -- "kept q V for v of one round, its own counted": among what a station took, the stations 1 to n with such a vote
-  abbrev pub votes : List Statement → ℕ → ℕ → ℕ → ℕ → Bool
-  votes took question round v i =
-      some (λ s. eqb (s .kind) kind-V && eqb (s .question) question && eqb (s .round) round && eqb (s .value) v && eqb (s .station) i) took
-
   -- station k of site i decides v on a question
   pub record Decides (cs : List Call) (i k question v : ℕ) : Type 0 where
     pub line : Lineage
@@ -170,13 +177,6 @@ module _ (mac : List ℕ → List ℕ → List ℕ) (key : List ℕ) (n : ℕ) w
     pub bit : v < none
     pub round : ℕ
     pub enough : quorum n ≤ count (votes (line .took) question round v) n
-
-  -- "the site's module coded an INIT with that value on that question"
-  abbrev pub proposed : List Entry → ℕ → ℕ → ℕ → Bool
-  proposed [] question v i = false
-  proposed (e ∷ l) question v i =
-      (eqb (e .at) i && eqb (kind-of (getD (e .words) 0 0)) kind-INIT && eqb (value-of (getD (e .words) 0 0)) v && eqb (getD (e .words) 1 0) question)
-      || proposed l question v i
 
   pub record Claim (cs : List Call) : Type 1 where
     -- "no two sound sites have decided differently on one question"

@@ -1,1 +1,9 @@
 pub mod Demand
+pub mod Counting
+pub mod Log
+pub mod Safe
+pub mod Just
+pub mod Effect
+pub mod Took
+pub mod Line
+pub mod Giving

@@ -182,6 +182,10 @@ module _ (n : ℕ) (k : State) (F : Full n k) where
             (some-other (has-value 0) (λ s. which (Only 1) (s .value) && which Any (s .flag)) h
             (all-map (λ s w z. join (eqb (s .value) 1) true (eq-eqb (s .value) 1 (omega (arith, w .value, eqb-false (s .value) 0 z))) refl) h p-facts) p)
 
+    pub both-values : vote-value h ≡ none → (some-value 0 h ≡ true) × (some-value 1 h ≡ true)
+    both-values =
+        vote-cases (λ v. v ≡ none → (some-value 0 h ≡ true) × (some-value 1 h ≡ true)) (λ a e. absurd (omega arith)) (λ a e. absurd (omega arith)) (λ a b e. (a, b))
+
     -- all equal: the first group
     pub equal-hold : (v : ℕ) → every (has-value v) h ≡ true → Holds (proposals n r (Only v) Any) h
     equal-hold v a =

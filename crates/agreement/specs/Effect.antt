@@ -1,0 +1,218 @@
+-- What a call does to its site's module and to the log: nothing, or one statement of the site's own, above the module's last pair.
+use mathlib.Core.Path.{_≡_, refl, sym, _∙_, ap, subst}
+use mathlib.Core.Bool.{Bool, true, false, not, _&&_, _||_}
+use mathlib.Core.List.{List, [], _∷_, _++_}
+use Prim.Native.Nat.{ℕ, zero, suc, _+_, _-_, _*_, _≤_, _<_}
+use native.Mathlib.Omega.{arith}
+use lib.Dec.{eqb, ltb, leb}
+use lib.ListN.{length, getD, take, drop}
+use borrow.Author.Tests.{eqb-true, eqb-false, eq-eqb, ne-eqb, ltb-true}
+use Rattle.laws.specs.Pick.{pick}
+use Rattle.laws.specs.Bools.{never, both}
+use Rattle.laws.specs.Refusals.{All, Test, test, first-failed, all-passed}
+use Rattle.format.specs.Numbers.{statement-words, out-of-range, kind-INIT, D-GET, sent, sent-decided, none}
+use Rattle.format.specs.Words.{formed, fields-of}
+use Rattle.format.specs.Statement.{Statement, statement, covered, written, step, well-formed}
+use Rattle.format.specs.Layout.{formed-well}
+use Rattle.format.specs.Shape.{Shape, init, proposal, vote, Formed, formed-out, formed-in}
+use Rattle.sealed.specs.declared.Module.{Module}
+use Rattle.sealed.specs.Sealed.{above, last-for, advanced, module-fits, is-toss, with-value, signed, coding-tests, coding, coding-plain, coding-coin}
+use Rattle.station.specs.declared.Station.{Station}
+use Rattle.station.specs.Machine.{Outcome, refused, keeps, sends}
+use Rattle.station.specs.Words.{bundle-of, over}
+use Rattle.station.specs.Calls.{Returned, returned, opening, giving, opening-outcome, giving-outcome, no-station}
+use Rattle.station.specs.ReadBack.{Proper}
+use Rattle.station.specs.FitSane.{Lengths}
+use Rattle.station.specs.Views.{unrefused, InRange, in-range, init-statement, Opens, no-opening, begins, opens-view, Gives, refuses, holds-on, shuts, goes-on, gives-view, sent-statement, Accepted}
+use Rattle.station.specs.Fits.{own-proper, sent-proper}
+use Rattle.agreement.specs.Demand.{Call, opens, gives, codes, tosses, site, Entry, wrote, act, coded-in, as-returned}
+
+abbrev pub entry : ℕ → Statement → Entry
+entry i s = record { at = i; words = covered s }
+
+-- what is sent is not refused
+pub sent-unrefused : (k : ℕ) → wrote k ≡ true → unrefused k ≡ true
+sent-unrefused k u = go (eqb k 0) (eqb k sent) (eqb k sent-decided) u
+  where
+    go : (a b c : Bool) → (b || c) ≡ true → (a || (b || (c || eqb k 22))) ≡ true
+    go true b c e = refl
+    go false true c e = refl
+    go false false true e = refl
+    go false false false e = never false refl e
+
+refused-silent : (k : ℕ) → unrefused k ≡ false → wrote k ≡ false
+refused-silent k e = go (wrote k) refl
+  where
+    go : (b : Bool) → wrote k ≡ b → wrote k ≡ false
+    go true x = never (unrefused k) e (sent-unrefused k x)
+    go false x = x
+
+answers : (b : Bool) → wrote (pick b sent sent-decided) ≡ true
+unfolding pick
+answers true = refl
+answers false = refl
+
+module _ (mac : List ℕ → List ℕ → List ℕ) (eight : (key ws : List ℕ) → length (mac key ws) ≡ 8) (key : List ℕ) (n : ℕ) where
+  pub data Effect (m : Module) (c : Call) : Type 0 where
+    silent : coded-in mac key n c (act mac key n m c) ≡ [] → act mac key n m c .after ≡ m → Effect m c
+    speaks : (s : Statement) → Proper (m .n) s → s .station ≡ m .number → above (m .last) (s .question) (step s) ≡ true
+        → coded-in mac key n c (act mac key n m c) ≡ entry (site c) s ∷ [] → act mac key n m c .after ≡ advanced m (s .question) (step s) → Effect m c
+
+  -- what an outcome of opening or giving leaves in the log, and in the module
+  abbrev logs : ℕ → Returned → List Entry
+  logs i r = pick (wrote (r .number)) (record { at = i; words = take 2 (drop 1 (r .lent)) } ∷ []) []
+
+  abbrev log-of : ℕ → Outcome → List Entry
+  log-of i (refused k) = []
+  log-of i (keeps k u) = []
+  log-of i (sends k s c u) = entry i s ∷ []
+
+  abbrev after-of : Module → Outcome → Module
+  after-of m (refused k) = m
+  after-of m (keeps k u) = m
+  after-of m (sends k s c u) = advanced m (s .question) (step s)
+
+  abbrev Numbered : Outcome → Type 0
+  Numbered (refused k) = wrote k ≡ false
+  Numbered (keeps k u) = wrote k ≡ false
+  Numbered (sends k s c u) = wrote k ≡ true
+
+  logs-is : (i : ℕ) (m : Module) (t : Station) (out : List ℕ) (o : Outcome) → Numbered o → logs i (returned m t out o) ≡ log-of i o
+  unfolding pick returned bundle-of
+  logs-is i m t out (refused k) e = rw e
+  logs-is i m t out (keeps k u) e = rw e
+  logs-is i m t out (sends k s c u) e = rw e
+
+  after-is : (m : Module) (t : Station) (out : List ℕ) (o : Outcome) → returned m t out o .after ≡ after-of m o
+  unfolding returned
+  after-is m t out (refused k) = refl
+  after-is m t out (keeps k u) = refl
+  after-is m t out (sends k s c u) = refl
+
+  open-effect : (m : Module) (i q v : ℕ) (out : List ℕ) → Effect m (opens i q v out)
+  unfolding act coded-in opening
+  open-effect m i q v out = go (opening-outcome mac m q v out) refl (opens-view mac m q v out)
+    where
+      numbered : (o : Outcome) → Opens mac m q v out o → Numbered o
+      numbered _ (no-opening {k} w) = refused-silent k w
+      numbered _ (begins room r p a) = refl
+
+      coded : logs i (returned m no-station out (opening-outcome mac m q v out)) ≡ log-of i (opening-outcome mac m q v out)
+      coded = logs-is i m no-station out (opening-outcome mac m q v out) (numbered (opening-outcome mac m q v out) (opens-view mac m q v out))
+
+      went : returned m no-station out (opening-outcome mac m q v out) .after ≡ after-of m (opening-outcome mac m q v out)
+      went = after-is m no-station out (opening-outcome mac m q v out)
+
+      go : (o : Outcome) → opening-outcome mac m q v out ≡ o → Opens mac m q v out o → Effect m (opens i q v out)
+      go _ e (no-opening w) = silent (coded ∙ ap (log-of i) e) (went ∙ ap (after-of m) e)
+      go _ e (begins room r p a) =
+          speaks (init-statement mac m q v out) (own-proper mac eight m q kind-INIT v D-GET 0 r (init refl refl p refl)) refl a
+          (coded ∙ ap (log-of i) e) (went ∙ ap (after-of m) e)
+
+  give-effect : (m : Module) (i k : ℕ) (t : Station) (ws : List ℕ) (coin : ℕ) (out : List ℕ) → Lengths t → Effect m (gives i k t ws coin out)
+  unfolding act coded-in giving
+  give-effect m i k t ws coin out L = go (giving-outcome mac m t ws coin out) refl (gives-view mac m t ws coin out L)
+    where
+      numbered : (o : Outcome) → Gives mac m t ws coin out o → Numbered o
+      numbered _ (refuses {k} w) = refused-silent k w
+      numbered _ (holds-on A few) = refl
+      numbered _ (shuts A size c) = refl
+      numbered _ (goes-on A size c a w) = ap wrote w ∙ answers _
+
+      coded : logs i (returned m t out (giving-outcome mac m t ws coin out)) ≡ log-of i (giving-outcome mac m t ws coin out)
+      coded = logs-is i m t out (giving-outcome mac m t ws coin out) (numbered (giving-outcome mac m t ws coin out) (gives-view mac m t ws coin out L))
+
+      went : returned m t out (giving-outcome mac m t ws coin out) .after ≡ after-of m (giving-outcome mac m t ws coin out)
+      went = after-is m t out (giving-outcome mac m t ws coin out)
+
+      go : (o : Outcome) → giving-outcome mac m t ws coin out ≡ o → Gives mac m t ws coin out o → Effect m (gives i k t ws coin out)
+      go _ e (refuses w) = silent (coded ∙ ap (log-of i) e) (went ∙ ap (after-of m) e)
+      go _ e (holds-on A few) = silent (coded ∙ ap (log-of i) e) (went ∙ ap (after-of m) e)
+      go _ e (shuts A size c) = silent (coded ∙ ap (log-of i) e) (went ∙ ap (after-of m) e)
+      go _ e (goes-on A size c a w) =
+          speaks (sent-statement mac m t ws coin out) (sent-proper mac eight m t ws coin out L A size c) refl a (coded ∙ ap (log-of i) e) (went ∙ ap (after-of m) e)
+
+  -- ---- coding, plain and with the coin: the statement s, by the refusal found
+  abbrev coding-logs : ℕ → Returned → List Entry
+  coding-logs i r = pick (eqb (r .number) 0) (record { at = i; words = take 2 (r .lent) } ∷ []) []
+
+  pub data Coding (m : Module) (s : Statement) (ws : List ℕ) (i refusal : ℕ) : Type 0 where
+    not-coded : (refusal ≡ 0 → ⊥) → coding-logs i (as-returned (coding (mac (m .key)) m s ws refusal)) ≡ [] → coding (mac (m .key)) m s ws refusal .after ≡ m
+        → Coding m s ws i refusal
+    is-coded : refusal ≡ 0 → coding-logs i (as-returned (coding (mac (m .key)) m s ws refusal)) ≡ entry i (signed (mac (m .key)) s) ∷ []
+        → coding (mac (m .key)) m s ws refusal .after ≡ advanced m (s .question) (step s) → Coding m s ws i refusal
+
+  coding-view : (m : Module) (s : Statement) (ws : List ℕ) (i refusal : ℕ) → Coding m s ws i refusal
+  unfolding pick
+  coding-view m s ws i refusal = go (eqb refusal 0) refl
+    where
+      go : (b : Bool) → eqb refusal 0 ≡ b → Coding m s ws i refusal
+      go true e = is-coded (eqb-true _ _ e) (rw e) (rw e)
+      go false e = not-coded (eqb-false _ _ e) (rw (e, e)) (rw e)
+
+  -- what the tests of coding show of the words
+  pub record Codable (m : Module) (ws : List ℕ) (way : Bool) : Type 0 where
+    pub formed : well-formed (m .n) (statement ws 0) ≡ true
+    pub mine : statement ws 0 .station ≡ m .number
+    pub later : above (m .last) (statement ws 0 .question) (step (statement ws 0)) ≡ true
+    pub fitting : way ≡ true
+
+  codable : (m : Module) (ws : List ℕ) (way : Bool) (first : Test) → 0 < first .number → first-failed (first ∷ coding-tests m ws way) ≡ 0 → (first .ok ≡ true) × Codable m ws way
+  codable m ws way first low e =
+      let p = all-passed (first ∷ coding-tests m ws way) (low, (omega arith, (omega arith, (omega arith, tt)))) e in
+      let a = both (eqb (length ws) statement-words && formed (m .n) (fields-of (getD ws 0 0))) way (p .1 .0) in
+      let b = both (eqb (length ws) statement-words) _ (a .0) in
+      (p .0, record { formed = formed-well (m .n) ws 0 (b .1); mine = eqb-true _ _ (p .1 .1 .0); later = p .1 .1 .1 .0; fitting = a .1 })
+
+  -- the statement with its code
+  signed-proper : (m : Module) (s : Statement) → well-formed (m .n) s ≡ true → Proper (m .n) (signed (mac (m .key)) s)
+  unfolding well-formed
+  signed-proper m s f = record { formed = f; eight = eight (m .key) (covered s) }
+
+  plain-effect : (m : Module) (i : ℕ) (ws : List ℕ) → Effect m (codes i ws)
+  unfolding act coded-in coding-plain step
+  plain-effect m i ws = go (coding-view m (statement ws 0) ws i _)
+    where
+      refusal : ℕ
+      refusal = first-failed (test (module-fits m) out-of-range ∷ coding-tests m ws (not (is-toss (statement ws 0))))
+
+      go : Coding m (statement ws 0) ws i refusal → Effect m (codes i ws)
+      go (not-coded z l a) = silent l a
+      go (is-coded z l a) =
+          let c = codable m ws (not (is-toss (statement ws 0))) (test (module-fits m) out-of-range) (omega arith) z .1 in
+          speaks (signed (mac (m .key)) (statement ws 0)) (signed-proper m (statement ws 0) (c .formed)) (c .mine) (c .later) l a
+
+  toss-effect : (m : Module) (i : ℕ) (ws : List ℕ) (coin : ℕ) → Effect m (tosses i ws coin)
+  unfolding act coded-in coding-coin step
+  toss-effect m i ws coin = go (coding-view m (with-value coin (statement ws 0)) ws i _)
+    where
+      refusal : ℕ
+      refusal = first-failed (test (module-fits m && ltb coin 2) out-of-range ∷ coding-tests m ws (is-toss (statement ws 0)))
+
+      tossed : (s : Statement) → Shape s → is-toss s ≡ true → coin < 2 → Shape (with-value coin s)
+      tossed s (init a b c d) t low = absurd (omega (arith, eqb-true (s .kind) 1 (both (eqb (s .kind) 1) _ t .0)))
+      tossed s (proposal a b c d e) t low = proposal a b c low e
+      tossed s (vote a b c d e) t low = absurd (omega (arith, eqb-true (s .kind) 1 (both (eqb (s .kind) 1) _ t .0)))
+
+      go : Coding m (with-value coin (statement ws 0)) ws i refusal → Effect m (tosses i ws coin)
+      go (not-coded z l a) = silent l a
+      go (is-coded z l a) =
+          let c = codable m ws (is-toss (statement ws 0)) (test (module-fits m && ltb coin 2) out-of-range) (omega arith) z in
+          let f = formed-out (m .n) (statement ws 0) (c .1 .formed) in
+          let low : coin < 2 = ltb-true coin 2 (both (module-fits m) _ (c .0) .1) in
+          let w : well-formed (m .n) (with-value coin (statement ws 0)) ≡ true
+          = formed-in (m .n) (with-value coin (statement ws 0)) (record { low = f .low; high = f .high; shape = tossed (statement ws 0) (f .shape) (c .1 .fitting) low }) in
+          speaks (signed (mac (m .key)) (with-value coin (statement ws 0))) (signed-proper m (with-value coin (statement ws 0)) w) (c .1 .mine) (c .1 .later) l a
+
+  -- every call
+  abbrev pub Typed : Call → Type 0
+  Typed (opens i q v out) = Unit
+  Typed (gives i k t ws coin out) = Lengths t
+  Typed (codes i ws) = Unit
+  Typed (tosses i ws coin) = Unit
+
+  pub effect : (m : Module) (c : Call) → Typed c → Effect m c
+  effect m (opens i q v out) L = open-effect m i q v out
+  effect m (gives i k t ws coin out) L = give-effect m i k t ws coin out L
+  effect m (codes i ws) L = plain-effect m i ws
+  effect m (tosses i ws coin) L = toss-effect m i ws coin

@@ -1,0 +1,149 @@
+-- What is known of a sound site's station: all that it took was coded and is justified, and its decision is what its votes say.
+use mathlib.Core.Path.{_≡_, refl, sym, _∙_, ap, subst}
+use mathlib.Core.Bool.{Bool, true, false, not, _&&_, _||_}
+use mathlib.Core.Logic.{_⊎_, inl, inr}
+use mathlib.Core.List.{List, [], _∷_, _++_, List·Memᴰ, List·Memᴰ·head, List·Memᴰ·tail}
+use Prim.Native.Nat.{ℕ, zero, suc, _+_, _-_, _*_, _^_, _≤_, _<_}
+use native.Mathlib.Omega.{arith}
+use lib.Dec.{eqb, ltb, leb}
+use lib.ListN.{length, getD, take, drop}
+use borrow.Author.Tests.{eqb-true, eqb-false, eq-eqb, ltb-true, ltb-false}
+use Rattle.laws.specs.Pick.{pick}
+use Rattle.laws.specs.Bools.{never, both, join, left, right}
+use Rattle.laws.specs.Refusals.{All, all-map}
+use Rattle.laws.specs.Count.{count}
+use Rattle.format.specs.Numbers.{kind-INIT, kind-P, kind-V, none, D-GET, R-GET, last-round, kept, sent, sent-decided, closed-now}
+use Rattle.format.specs.Group.{quorum, backing}
+use Rattle.format.specs.Words.{kind-of, fields-of, formed, station-of}
+use Rattle.format.specs.Statement.{Statement, statement, statements, covered, same-words, verifies, step, well-formed}
+use Rattle.format.specs.Bundle.{count-in, main-of, certificate-of, all-formed}
+use Rattle.format.specs.Layout.{covered-read, same-out}
+use Rattle.format.specs.Shape.{Formed, formed-out, Small, small}
+use Rattle.certificate.specs.Rules.{Backed, rule-1, some, some-value, some-D-GET, which}
+use Rattle.certificate.specs.Check.{every}
+use Rattle.certificate.specs.Codes.{two-words}
+use Rattle.sealed.specs.declared.Module.{Module}
+use Rattle.station.specs.declared.Stage.{Stage}
+use Rattle.station.specs.declared.Stage.the-variants.{Gathering, Proposing, Voting}
+use Rattle.station.specs.declared.Station.{Station}
+use Rattle.station.specs.Machine.{State, stage-step, kind-in, round-in, has-value, insert, decided, decision-at, decision-after, closes, follows, Next, began, shut, takes, supplies-first, supplies-second, vote-value}
+use Rattle.station.specs.Words as W
+use Rattle.station.specs.Words.{state-of}
+use Rattle.station.specs.Fit.{fits}
+use Rattle.station.specs.ReadBack.{Proper}
+use Rattle.station.specs.Slots.{all-two}
+use Rattle.station.specs.Insert.{insert-all, insert-length, some-insert}
+use Rattle.station.specs.Sane.{Sane, InRounds, sane-fits, state-back}
+use Rattle.station.specs.FitSane.{Lengths, fits-sane}
+use Rattle.station.specs.Keep.{Fitting, all-take, steps-P, steps-V, steps-0}
+use Rattle.station.specs.Pieces.{Found, find-some}
+use Rattle.station.specs.End.{Full, Given, Known, known, both-values}
+use Rattle.station.specs.Views.{InRange, Accepted, after, decision-then, sent-statement, sane-before, full-after, init-statement}
+use Rattle.station.specs.Fits.{init-sane, next-ready, sent-proper, sent-sane, kept-sane, decision-low, own-proper}
+use Rattle.station.specs.Written.{Certain, next-all, kept-certain, sent-backed, sent-certain, own-verifies, lengths-of, shut-lengths, all-append}
+use Rattle.agreement.specs.Log.{In, Supp}
+use Rattle.agreement.specs.Safe.{Just, Split}
+use Rattle.agreement.specs.Just.{bare, Coded, backed-just, just-more, split-more, coded-more}
+use Rattle.agreement.specs.Took.{is-vote, NowHeld, votes-held, enough-before, enough-after, held-enough, all-counted, decided-every, every-decided}
+use Rattle.agreement.specs.Demand.{Entry, Lineage, votes, logged, CodesCame}
+
+-- the statements of a log
+unfoldable pub reads : List Entry → List Statement
+reads [] = []
+reads (e ∷ l) = statement (e .words) 0 ∷ reads l
+
+-- ---- words whose codes came from the log
+in-reads : (l : List Entry) (i : ℕ) (w q : ℕ) → logged l i (w ∷ q ∷ []) ≡ true → In (statement (w ∷ q ∷ []) 0) (reads l)
+unfolding reads
+in-reads [] i w q h = never false refl h
+in-reads (e ∷ l) i w q h = go (eqb (e .at) i && same-words (e .words) (w ∷ q ∷ [])) refl h (in-reads l i w q)
+  where
+    go : (b : Bool) → (eqb (e .at) i && same-words (e .words) (w ∷ q ∷ [])) ≡ b → (b || logged l i (w ∷ q ∷ [])) ≡ true
+        → (logged l i (w ∷ q ∷ []) ≡ true → In (statement (w ∷ q ∷ []) 0) (reads l)) → In (statement (w ∷ q ∷ []) 0) (statement (e .words) 0 ∷ reads l)
+    go true x y ih =
+        let s : e .words ≡ w ∷ q ∷ [] = same-out (e .words) (w ∷ q ∷ []) (both (eqb (e .at) i) _ x .1) in
+        List·Memᴰ·head (ap (λ (z : List ℕ). statement z 0) (sym s))
+    go false x y ih = List·Memᴰ·tail (ih y)
+
+-- word 0 of a well-formed statement is a word
+low-word : (n : ℕ) (ws : List ℕ) (at : ℕ) → well-formed n (statement ws at) ≡ true → getD ws at 0 < 2 ^ 32
+low-word n ws at f = let k = small (statement ws at) (formed-out n (statement ws at) f .shape) .kind in omega arith
+
+gap : (at : ℕ) → at + 2 - at ≡ 2
+gap at = omega arith
+
+module _ (mac : List ℕ → List ℕ → List ℕ) (key : List ℕ) (n : ℕ) (l : List Entry) (ws : List ℕ) (came : CodesCame mac key n l ws) where
+  one-came : (k : ℕ) → 11 + k * 10 ≤ length ws → formed n (fields-of (getD ws (1 + k * 10) 0)) ≡ true → well-formed n (statement ws (1 + k * 10)) ≡ true
+      → verifies (mac key) (statement ws (1 + k * 10)) ≡ true → Coded n (reads l) (statement ws (1 + k * 10))
+  unfolding verifies
+  one-came k room f w v =
+      let at : ℕ = 1 + k * 10 in
+      let c : covered (statement ws (1 + k * 10)) ≡ getD ws (1 + k * 10) 0 ∷ getD ws (1 + k * 10 + 1) 0 ∷ [] = covered-read n ws (1 + k * 10) (low-word n ws (1 + k * 10) w) f in
+      let two : take 2 (drop (1 + k * 10) ws) ≡ getD ws (1 + k * 10) 0 ∷ getD ws (1 + k * 10 + 1) 0 ∷ [] = ap (λ (z : ℕ). take z (drop (1 + k * 10) ws)) (sym (gap (1 + k * 10))) ∙ two-words ws (1 + k * 10) (omega arith) in
+      let place : 1 + k * 10 + 2 ≡ 3 + k * 10 = omega arith in
+      let r = formed-out n (statement ws (1 + k * 10)) w in
+      record {
+        mem = in-reads l (station-of (getD ws (1 + k * 10) 0)) (getD ws (1 + k * 10) 0) (getD ws (1 + k * 10 + 1) 0)
+            (rw two at (came k room (rw (two, ← c, ← place) v)));
+        low = r .low;
+        high = r .high;
+      }
+
+  pub all-came : (k j : ℕ) → 1 + (j + k) * 10 ≤ length ws → all-formed n ws (1 + j * 10) k ≡ true → All (λ s. well-formed n s ≡ true) (statements ws (1 + j * 10) k)
+      → All (λ s. verifies (mac key) s ≡ true) (statements ws (1 + j * 10) k) → All (Coded n (reads l)) (statements ws (1 + j * 10) k)
+  unfolding statements all-formed
+  all-came zero j room f w v = tt
+  all-came (suc k) j room f w v =
+      let a = both (formed n (fields-of (getD ws (1 + j * 10) 0))) _ f in
+      let e : 1 + j * 10 + 10 ≡ 1 + suc j * 10 = omega arith in (
+        one-came j (omega arith) (a .0) (w .0) (v .0),
+        subst (λ (z : ℕ). All (Coded n (reads l)) (statements ws z k)) (sym e)
+            (all-came k (suc j) (omega arith) (subst (λ (z : ℕ). all-formed n ws z k ≡ true) e (a .1)) (subst (λ (z : ℕ). All (λ s. well-formed n s ≡ true) (statements ws z k)) e (w .1))
+            (subst (λ (z : ℕ). All (λ s. verifies (mac key) s ≡ true) (statements ws z k)) e (v .1))),
+      )
+
+-- ---- a sound site's station
+pub record Enough (n : ℕ) (took : List Statement) (question v : ℕ) : Type 0 where
+  pub round : ℕ
+  pub enough : quorum n ≤ count (votes took question round v) n
+
+module _ (mac : List ℕ → List ℕ → List ℕ) (key : List ℕ) (n : ℕ) where
+  pub record OpenLine (l : List Statement) (i : ℕ) (t : Station) (took : List Statement) : Type 0 where
+    pub fit : fits n i t ≡ true
+    pub certain : Certain (mac key) (state-of t)
+    pub among : All (λ s. In s took) (state-of t .held)
+    pub first-coded : All (Coded n l) (state-of t .first)
+    pub second-coded : All (Coded n l) (state-of t .second)
+    pub upto : All (λ s. step s ≤ stage-step (t .stage)) took
+    pub now-held : NowHeld (stage-step (t .stage)) (state-of t .held) took
+
+  pub record Line (l : List Statement) (i : ℕ) (t : Station) (took : List Statement) : Type 0 where
+    pub lengths : Lengths t
+    pub facts : All (λ s. Coded n l s × Just n l s) took
+    pub asked : All (λ s. s .question ≡ t .identity .question) took
+    pub low : t .decision ≤ none
+    pub named : (v : ℕ) → v < none → t .decision ≡ v → Enough n took (t .identity .question) v
+    pub names : (v r : ℕ) → v < none → quorum n ≤ count (votes took (t .identity .question) r v) n → t .decision < none
+    pub while-open : t .closed ≡ false → OpenLine l i t took
+
+  -- it stays so as the log grows
+  pub line-more : (u : Statement) (l : List Statement) (i : ℕ) (t : Station) (took : List Statement) → Line l i t took → Line (u ∷ l) i t took
+  line-more u l i t took L =
+      record {
+        lengths = L .lengths;
+        facts = all-map (λ s p. (coded-more n u l s (p .0), just-more n u l s (p .1))) took (L .facts);
+        asked = L .asked;
+        low = L .low;
+        named = L .named;
+        names = L .names;
+        while-open = λ e. let o = L .while-open e in
+            record {
+              fit = o .fit;
+              certain = o .certain;
+              among = o .among;
+              first-coded = all-map (coded-more n u l) (state-of t .first) (o .first-coded);
+              second-coded = all-map (coded-more n u l) (state-of t .second) (o .second-coded);
+              upto = o .upto;
+              now-held = o .now-held;
+            };
+      }

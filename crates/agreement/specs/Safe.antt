@@ -1,0 +1,156 @@
+-- Safety over a log: what a decision locks, agreement, backing. What a list of calls supplies is the record LogOk.
+use mathlib.Core.Path.{_≡_, refl, sym, _∙_, ap, subst}
+use mathlib.Core.Bool.{Bool, true, false, not, _&&_, _||_}
+use mathlib.Core.List.{List, [], _∷_}
+use Prim.Native.Nat.{ℕ, zero, suc, _+_, _-_, _*_, _/_, _≤_, _<_}
+use native.Mathlib.Omega.{arith}
+use lib.Dec.{eqb, ltb}
+use borrow.Author.Tests.{eqb-true, eqb-false, ltb-true, ltb-false}
+use Rattle.laws.specs.Count.{count, count-not, meet, Shared}
+use Rattle.format.specs.Group.{quorum, backing}
+use Rattle.format.specs.Statement.{Statement}
+use Rattle.agreement.specs.Log.{In, has, Has, has-out, has-one, Supp, Rising}
+
+-- what a verified certificate gives: rules 2 to 5
+pub record Just (n : ℕ) (l : List Statement) (s : Statement) : Type 0 where
+  pub first : s .kind ≡ 1 → s .round ≡ 1 → Supp n l 0 (s .question) 0 (s .value) (backing n (s .value))
+  pub taken : s .kind ≡ 1 → 1 < s .round → s .flag ≡ 0 → Supp n l 1 (s .question) (s .round - 1) (s .value) (quorum n)
+  pub tossed : s .kind ≡ 1 → 1 < s .round → (s .flag ≡ 0 → ⊥) → Supp n l 2 (s .question) (s .round - 1) 2 (quorum n)
+  pub voted : s .kind ≡ 2 → s .value < 2 → Supp n l 1 (s .question) (s .round) (s .value) (quorum n)
+
+-- two justified proposals of one round with two values
+pub record Split (n : ℕ) (l : List Statement) (q r : ℕ) : Type 0 where
+  pub a : Statement
+  pub b : Statement
+  pub a-in : In a l
+  pub b-in : In b l
+  pub a-just : Just n l a
+  pub b-just : Just n l b
+  pub a-kind : a .kind ≡ 1
+  pub b-kind : b .kind ≡ 1
+  pub a-qn : a .question ≡ q
+  pub b-qn : b .question ≡ q
+  pub a-rnd : a .round ≡ r
+  pub b-rnd : b .round ≡ r
+  pub apart : a .value ≡ b .value → ⊥
+
+pub record LogOk (n : ℕ) (sound : ℕ → Bool) (l : List Statement) : Type 0 where
+  pub rising : Rising l
+  pub small : (s : Statement) → In s l → s .kind ≡ 1 → s .value < 2
+  pub just : (s : Statement) → In s l → sound (s .station) ≡ true → Just n l s
+  pub split : (s : Statement) → In s l → sound (s .station) ≡ true → s .kind ≡ 2 → s .value ≡ 2 → Split n l (s .question) (s .round)
+
+-- q votes for v were coded in one round
+pub record Decided (n : ℕ) (l : List Statement) (q v : ℕ) : Type 0 where
+  pub round : ℕ
+  pub from1 : 1 ≤ round
+  pub small : v < 2
+  pub votes : Supp n l 2 q round v (quorum n)
+
+pub record SoundHas (sound : ℕ → Bool) (l : List Statement) (kd q r v : ℕ) : Type 0 where
+  pub at : ℕ
+  pub ok : sound at ≡ true
+  pub it : Has l kd q r v at
+
+module _ (n : ℕ) (sound : ℕ → Bool) (l : List Statement) (few : count (λ i. not (sound i)) n ≤ (n - 1) / 2) (big : 2 ≤ n) (L : LogOk n sound l) where
+  pub same : (kd q r v w : ℕ) → Supp n l kd q r v (quorum n) → Supp n l kd q r w (quorum n) → v ≡ w
+  same kd q r v w a b =
+      let m = meet (has l kd q r v) (has l kd q r w) n (omega arith) in
+      has-one l (L .rising) kd q r v w (m .at) (has-out l kd q r v (m .at) (m .in-first)) (has-out l kd q r w (m .at) (m .in-second))
+
+  pub a-sound : (kd q r v : ℕ) → Supp n l kd q r v (quorum n) → SoundHas sound l kd q r v
+  a-sound kd q r v a =
+      let m = meet (has l kd q r v) sound n (omega (arith, count-not sound n)) in
+      record { at = m .at; ok = m .in-second; it = has-out l kd q r v (m .at) (m .in-first) }
+
+  abbrev pub Locked : ℕ → ℕ → ℕ → Type 0
+  Locked q r v = (m : Statement) → In m l → m .kind ≡ 1 → m .question ≡ q → m .round ≡ r → Just n l m → m .value ≡ v
+
+  -- a quorum of proposals in a locked round has the locked value
+  pub locked-value : (q r v w : ℕ) → Locked q r v → Supp n l 1 q r w (quorum n) → w ≡ v
+  locked-value q r v w k a =
+      let h = a-sound 1 q r w a in
+      let s = h .it .one in
+      let e : s .value ≡ v = k s (h .it .mem) (h .it .kind≡) (h .it .question≡) (h .it .round≡) (L .just s (h .it .mem) (rw (h .it .station≡) (h .ok))) in
+      sym (h .it .value≡) ∙ e
+
+  -- no quorum of none votes in a locked round
+  pub no-none : (q r v : ℕ) → Locked q r v → Supp n l 2 q r 2 (quorum n) → ⊥
+  no-none q r v k a =
+      let h = a-sound 2 q r 2 a in
+      let s = h .it .one in
+      go (L .split s (h .it .mem) (rw (h .it .station≡) (h .ok)) (h .it .kind≡) (h .it .value≡)) (h .it .question≡) (h .it .round≡)
+    where
+      go : {q′ r′ : ℕ} → Split n l q′ r′ → q′ ≡ q → r′ ≡ r → ⊥
+      go p x y = p .apart (k (p .a) (p .a-in) (p .a-kind) (p .a-qn ∙ x) (p .a-rnd ∙ y) (p .a-just) ∙ sym (k (p .b) (p .b-in) (p .b-kind) (p .b-qn ∙ x) (p .b-rnd ∙ y) (p .b-just)))
+
+  -- a justified proposal of the next round: by its flag
+  pub next : (q r v : ℕ) → 1 ≤ r → ((w : ℕ) → Supp n l 1 q r w (quorum n) → w ≡ v) → (Supp n l 2 q r 2 (quorum n) → ⊥) → Locked q (suc r) v
+  next q r v h f g m i k x y j = go (eqb (m .flag) 0) refl
+    where
+      p : m .round - 1 ≡ r
+      p = omega arith
+
+      go : (b : Bool) → eqb (m .flag) 0 ≡ b → m .value ≡ v
+      go true e = f (m .value) (rw (x, p) at (j .taken k (omega arith) (eqb-true _ _ e)))
+      go false e = absurd (g (rw (x, p) at (j .tossed k (omega arith) (eqb-false _ _ e))))
+
+  pub lock-step : (q r v : ℕ) → 1 ≤ r → Locked q r v → Locked q (suc r) v
+  lock-step q r v h k = next q r v h (λ w a. locked-value q r v w k a) (no-none q r v k)
+
+  pub lock-on : (q r v d : ℕ) → 1 ≤ r → Locked q r v → Locked q (d + r) v
+  lock-on q r v zero h k = rw (← e) at k
+    where
+      e : 0 + r ≡ r
+      e = omega arith
+  lock-on q r v (suc d) h k = rw (← e) at (lock-step q (d + r) v (omega arith) (lock-on q r v d h k))
+    where
+      e : suc d + r ≡ suc (d + r)
+      e = omega arith
+
+  pub lock-to : (q r r′ v : ℕ) → 1 ≤ r → r ≤ r′ → Locked q r v → Locked q r′ v
+  lock-to q r r′ v h g k = rw e at (lock-on q r v (r′ - r) h k)
+    where
+      e : (r′ - r) + r ≡ r′
+      e = omega arith
+
+  pub voted-for : (q r v : ℕ) → v < 2 → Supp n l 2 q r v (quorum n) → Supp n l 1 q r v (quorum n)
+  voted-for q r v h a =
+      let w = a-sound 2 q r v a in
+      let s = w .it .one in
+      rw (w .it .question≡, w .it .round≡, w .it .value≡) at (L .just s (w .it .mem) (rw (w .it .station≡) (w .ok)) .voted (w .it .kind≡) (rw (w .it .value≡) h))
+
+  pub decided-locks : (q v : ℕ) (d : Decided n l q v) → Locked q (suc (d .round)) v
+  decided-locks q v d =
+      next q (d .round) v (d .from1) (λ w a. same 1 q (d .round) w v a (voted-for q (d .round) v (d .small) (d .votes)))
+      (λ a. let e : v ≡ 2 = same 2 q (d .round) v 2 (d .votes) a in omega (arith, d .small))
+
+  later : (q v w : ℕ) (d : Decided n l q v) (e : Decided n l q w) → d .round < e .round → w ≡ v
+  later q v w d e h = locked-value q (e .round) v w (lock-to q (suc (d .round)) (e .round) v (omega arith) h (decided-locks q v d)) (voted-for q (e .round) w (e .small) (e .votes))
+
+  pub agreement : (q v w : ℕ) → Decided n l q v → Decided n l q w → v ≡ w
+  agreement q v w d e = go (ltb (d .round) (e .round)) (ltb (e .round) (d .round)) refl refl
+    where
+      go : (x y : Bool) → ltb (d .round) (e .round) ≡ x → ltb (e .round) (d .round) ≡ y → v ≡ w
+      go true y a b = sym (later q v w d e (ltb-true _ _ a))
+      go false true a b = later q w v e d (ltb-true _ _ b)
+      go false false a b =
+          let t : e .round ≡ d .round = omega (arith, ltb-false (d .round) (e .round) a, ltb-false (e .round) (d .round) b) in
+          same 2 q (d .round) v w (d .votes) (rw t at (e .votes))
+
+  -- a value that too few proposed is never decided
+  pub backed : (q v : ℕ) → Decided n l q v → Supp n l 0 q 0 v (backing n v)
+  backed q v d = go (ltb (count (has l 0 q 0 v) n) (backing n v)) refl
+    where
+      other : count (has l 0 q 0 v) n < backing n v → Locked q 1 (1 - v)
+      other h m i k x y j = sm (eqb (m .value) v) refl
+        where
+          sm : (b : Bool) → eqb (m .value) v ≡ b → m .value ≡ 1 - v
+          sm true e = let u : m .value ≡ v = eqb-true _ _ e in absurd (omega (arith, rw (x, u) at (j .first k y)))
+          sm false e = omega (arith, L .small m i k, d .small, eqb-false (m .value) v e)
+
+      go : (b : Bool) → ltb (count (has l 0 q 0 v) n) (backing n v) ≡ b → Supp n l 0 q 0 v (backing n v)
+      go true e =
+          let t : v ≡ 1 - v = locked-value q (d .round) (1 - v) v (lock-to q 1 (d .round) (1 - v) (omega arith) (d .from1) (other (ltb-true _ _ e))) (voted-for q (d .round) v (d .small) (d .votes)) in
+          absurd (omega (arith, d .small))
+      go false e = ltb-false _ _ e
