@@ -47,7 +47,7 @@ refused-silent k e = go (wrote k) refl
     go true x = never (unrefused k) e (sent-unrefused k x)
     go false x = x
 
-answers : (b : Bool) → wrote (pick b sent sent-decided) ≡ true
+pub answers : (b : Bool) → wrote (pick b sent sent-decided) ≡ true
 unfolding pick
 answers true = refl
 answers false = refl
@@ -62,12 +62,12 @@ module _ (mac : List ℕ → List ℕ → List ℕ) (eight : (key ws : List ℕ)
   abbrev logs : ℕ → Returned → List Entry
   logs i r = pick (wrote (r .number)) (record { at = i; words = take 2 (drop 1 (r .lent)) } ∷ []) []
 
-  abbrev log-of : ℕ → Outcome → List Entry
+  abbrev pub log-of : ℕ → Outcome → List Entry
   log-of i (refused k) = []
   log-of i (keeps k u) = []
   log-of i (sends k s c u) = entry i s ∷ []
 
-  abbrev after-of : Module → Outcome → Module
+  abbrev pub after-of : Module → Outcome → Module
   after-of m (refused k) = m
   after-of m (keeps k u) = m
   after-of m (sends k s c u) = advanced m (s .question) (step s)
@@ -89,48 +89,35 @@ module _ (mac : List ℕ → List ℕ → List ℕ) (eight : (key ws : List ℕ)
   after-is m t out (keeps k u) = refl
   after-is m t out (sends k s c u) = refl
 
-  open-effect : (m : Module) (i q v : ℕ) (out : List ℕ) → Effect m (opens i q v out)
-  unfolding act coded-in opening
-  open-effect m i q v out = go (opening-outcome mac m q v out) refl (opens-view mac m q v out)
-    where
-      numbered : (o : Outcome) → Opens mac m q v out o → Numbered o
-      numbered _ (no-opening {k} w) = refused-silent k w
-      numbered _ (begins room r p a) = refl
+  -- opening
+  module _ (m : Module) (i q v : ℕ) (out : List ℕ) where
+    open-numbered : (o : Outcome) → Opens mac m q v out o → Numbered o
+    open-numbered _ (no-opening {k} w) = refused-silent k w
+    open-numbered _ (begins room r p a) = refl
 
-      coded : logs i (returned m no-station out (opening-outcome mac m q v out)) ≡ log-of i (opening-outcome mac m q v out)
-      coded = logs-is i m no-station out (opening-outcome mac m q v out) (numbered (opening-outcome mac m q v out) (opens-view mac m q v out))
+    pub open-coded : coded-in mac key n (opens i q v out) (act mac key n m (opens i q v out)) ≡ log-of i (opening-outcome mac m q v out)
+    unfolding act coded-in opening
+    open-coded = logs-is i m no-station out (opening-outcome mac m q v out) (open-numbered (opening-outcome mac m q v out) (opens-view mac m q v out))
 
-      went : returned m no-station out (opening-outcome mac m q v out) .after ≡ after-of m (opening-outcome mac m q v out)
-      went = after-is m no-station out (opening-outcome mac m q v out)
+    pub open-after : act mac key n m (opens i q v out) .after ≡ after-of m (opening-outcome mac m q v out)
+    unfolding act opening
+    open-after = after-is m no-station out (opening-outcome mac m q v out)
 
-      go : (o : Outcome) → opening-outcome mac m q v out ≡ o → Opens mac m q v out o → Effect m (opens i q v out)
-      go _ e (no-opening w) = silent (coded ∙ ap (log-of i) e) (went ∙ ap (after-of m) e)
-      go _ e (begins room r p a) =
-          speaks (init-statement mac m q v out) (own-proper mac eight m q kind-INIT v D-GET 0 r (init refl refl p refl)) refl a
-          (coded ∙ ap (log-of i) e) (went ∙ ap (after-of m) e)
+  -- giving
+  module _ (m : Module) (i k : ℕ) (t : Station) (ws : List ℕ) (coin : ℕ) (out : List ℕ) (L : Lengths t) where
+    give-numbered : (o : Outcome) → Gives mac m t ws coin out o → Numbered o
+    give-numbered _ (refuses {k} w) = refused-silent k w
+    give-numbered _ (holds-on A few) = refl
+    give-numbered _ (shuts A size c) = refl
+    give-numbered _ (goes-on A size c a w) = ap wrote w ∙ answers _
 
-  give-effect : (m : Module) (i k : ℕ) (t : Station) (ws : List ℕ) (coin : ℕ) (out : List ℕ) → Lengths t → Effect m (gives i k t ws coin out)
-  unfolding act coded-in giving
-  give-effect m i k t ws coin out L = go (giving-outcome mac m t ws coin out) refl (gives-view mac m t ws coin out L)
-    where
-      numbered : (o : Outcome) → Gives mac m t ws coin out o → Numbered o
-      numbered _ (refuses {k} w) = refused-silent k w
-      numbered _ (holds-on A few) = refl
-      numbered _ (shuts A size c) = refl
-      numbered _ (goes-on A size c a w) = ap wrote w ∙ answers _
+    pub give-coded : coded-in mac key n (gives i k t ws coin out) (act mac key n m (gives i k t ws coin out)) ≡ log-of i (giving-outcome mac m t ws coin out)
+    unfolding act coded-in giving
+    give-coded = logs-is i m t out (giving-outcome mac m t ws coin out) (give-numbered (giving-outcome mac m t ws coin out) (gives-view mac m t ws coin out L))
 
-      coded : logs i (returned m t out (giving-outcome mac m t ws coin out)) ≡ log-of i (giving-outcome mac m t ws coin out)
-      coded = logs-is i m t out (giving-outcome mac m t ws coin out) (numbered (giving-outcome mac m t ws coin out) (gives-view mac m t ws coin out L))
-
-      went : returned m t out (giving-outcome mac m t ws coin out) .after ≡ after-of m (giving-outcome mac m t ws coin out)
-      went = after-is m t out (giving-outcome mac m t ws coin out)
-
-      go : (o : Outcome) → giving-outcome mac m t ws coin out ≡ o → Gives mac m t ws coin out o → Effect m (gives i k t ws coin out)
-      go _ e (refuses w) = silent (coded ∙ ap (log-of i) e) (went ∙ ap (after-of m) e)
-      go _ e (holds-on A few) = silent (coded ∙ ap (log-of i) e) (went ∙ ap (after-of m) e)
-      go _ e (shuts A size c) = silent (coded ∙ ap (log-of i) e) (went ∙ ap (after-of m) e)
-      go _ e (goes-on A size c a w) =
-          speaks (sent-statement mac m t ws coin out) (sent-proper mac eight m t ws coin out L A size c) refl a (coded ∙ ap (log-of i) e) (went ∙ ap (after-of m) e)
+    pub give-after : act mac key n m (gives i k t ws coin out) .after ≡ after-of m (giving-outcome mac m t ws coin out)
+    unfolding act giving
+    give-after = after-is m t out (giving-outcome mac m t ws coin out)
 
   -- ---- coding, plain and with the coin: the statement s, by the refusal found
   abbrev coding-logs : ℕ → Returned → List Entry
@@ -169,7 +156,7 @@ module _ (mac : List ℕ → List ℕ → List ℕ) (eight : (key ws : List ℕ)
   unfolding well-formed
   signed-proper m s f = record { formed = f; eight = eight (m .key) (covered s) }
 
-  plain-effect : (m : Module) (i : ℕ) (ws : List ℕ) → Effect m (codes i ws)
+  pub plain-effect : (m : Module) (i : ℕ) (ws : List ℕ) → Effect m (codes i ws)
   unfolding act coded-in coding-plain step
   plain-effect m i ws = go (coding-view m (statement ws 0) ws i _)
     where
@@ -182,7 +169,7 @@ module _ (mac : List ℕ → List ℕ → List ℕ) (eight : (key ws : List ℕ)
           let c = codable m ws (not (is-toss (statement ws 0))) (test (module-fits m) out-of-range) (omega arith) z .1 in
           speaks (signed (mac (m .key)) (statement ws 0)) (signed-proper m (statement ws 0) (c .formed)) (c .mine) (c .later) l a
 
-  toss-effect : (m : Module) (i : ℕ) (ws : List ℕ) (coin : ℕ) → Effect m (tosses i ws coin)
+  pub toss-effect : (m : Module) (i : ℕ) (ws : List ℕ) (coin : ℕ) → Effect m (tosses i ws coin)
   unfolding act coded-in coding-coin step
   toss-effect m i ws coin = go (coding-view m (with-value coin (statement ws 0)) ws i _)
     where
@@ -203,16 +190,3 @@ module _ (mac : List ℕ → List ℕ → List ℕ) (eight : (key ws : List ℕ)
           let w : well-formed (m .n) (with-value coin (statement ws 0)) ≡ true
           = formed-in (m .n) (with-value coin (statement ws 0)) (record { low = f .low; high = f .high; shape = tossed (statement ws 0) (f .shape) (c .1 .fitting) low }) in
           speaks (signed (mac (m .key)) (with-value coin (statement ws 0))) (signed-proper m (with-value coin (statement ws 0)) w) (c .1 .mine) (c .1 .later) l a
-
-  -- every call
-  abbrev pub Typed : Call → Type 0
-  Typed (opens i q v out) = Unit
-  Typed (gives i k t ws coin out) = Lengths t
-  Typed (codes i ws) = Unit
-  Typed (tosses i ws coin) = Unit
-
-  pub effect : (m : Module) (c : Call) → Typed c → Effect m c
-  effect m (opens i q v out) L = open-effect m i q v out
-  effect m (gives i k t ws coin out) L = give-effect m i k t ws coin out L
-  effect m (codes i ws) L = plain-effect m i ws
-  effect m (tosses i ws coin) L = toss-effect m i ws coin

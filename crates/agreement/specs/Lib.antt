@@ -7,3 +7,5 @@ pub mod Effect
 pub mod Took
 pub mod Line
 pub mod Giving
+pub mod Invariant
+pub mod Run

@@ -72,7 +72,7 @@ one-more a f (suc n) = go (eqb a (suc n)) refl (f (suc n)) (one-more a f n)
     go false e true ih = omega arith
     go false e false ih = omega arith
 
-none-there : (n : ℕ) → count (λ i. false) n ≡ 0
+pub none-there : (n : ℕ) → count (λ i. false) n ≡ 0
 unfolding count
 none-there zero = refl
 none-there (suc n) = let z = none-there n in omega arith
