@@ -9,3 +9,4 @@ pub mod Line
 pub mod Giving
 pub mod Invariant
 pub mod Run
+pub mod Theorem

@@ -205,13 +205,13 @@ module _ (mac : List ℕ → List ℕ → List ℕ) (eight : (key ws : List ℕ)
             (lines-more (bare s) (reads (log mac key n cs)) (lineage mac key n (c ∷ cs)) (keep-lines c cs I same));
       }
 
-  codes-step : (i : ℕ) (ws : List ℕ) (cs : List Call) → 1 ≤ i → i ≤ n → Inv cs → (member i faulty ≡ false → answer mac key n cs (codes i ws) .number ≡ 0 → ⊥) → Inv (codes i ws ∷ cs)
+  pub codes-step : (i : ℕ) (ws : List ℕ) (cs : List Call) → 1 ≤ i → i ≤ n → Inv cs → (member i faulty ≡ false → answer mac key n cs (codes i ws) .number ≡ 0 → ⊥) → Inv (codes i ws ∷ cs)
   unfolding lineage coded-in
   codes-step i ws cs lo hi I none-coded =
       by-coding (codes i ws) cs lo hi I (plain-effect mac eight key n (modules mac key n cs i) i ws) (λ j k. refl)
       (λ s e h. none-coded h (eqb-true _ _ (coded-only (eqb (answer mac key n cs (codes i ws) .number) 0) _ (entry i s) e)))
 
-  tosses-step : (i : ℕ) (ws : List ℕ) (coin : ℕ) (cs : List Call) → 1 ≤ i → i ≤ n → Inv cs → (member i faulty ≡ false → answer mac key n cs (tosses i ws coin) .number ≡ 0 → ⊥)
+  pub tosses-step : (i : ℕ) (ws : List ℕ) (coin : ℕ) (cs : List Call) → 1 ≤ i → i ≤ n → Inv cs → (member i faulty ≡ false → answer mac key n cs (tosses i ws coin) .number ≡ 0 → ⊥)
       → Inv (tosses i ws coin ∷ cs)
   unfolding lineage coded-in
   tosses-step i ws coin cs lo hi I none-coded =

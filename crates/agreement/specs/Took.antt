@@ -55,7 +55,7 @@ vote-in q r v i s w =
     (eq-eqb _ _ (w .value))) (eq-eqb _ _ (w .station))
 
 -- a list of statements has at most its length of stations
-one-more : (a : ℕ) (f : ℕ → Bool) (n : ℕ) → count (λ i. eqb a i || f i) n ≤ suc (count f n)
+pub one-more : (a : ℕ) (f : ℕ → Bool) (n : ℕ) → count (λ i. eqb a i || f i) n ≤ suc (count f n)
 unfolding count
 one-more a f zero = omega arith
 one-more a f (suc n) = go (eqb a (suc n)) refl (f (suc n)) (one-more a f n)

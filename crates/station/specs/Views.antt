@@ -6,7 +6,7 @@ use mathlib.Core.Path.{_≡_, refl, sym, ap, _∙_, subst}
 use native.Mathlib.Omega.{arith}
 use lib.Dec.{eqb, ltb, leb}
 use lib.ListN.{length, getD, take, drop}
-use borrow.Author.Tests.{eqb-true, eqb-false, eq-eqb, ne-eqb, ltb-true, ltb-false, lt-ltb, leb-true, not-true}
+use borrow.Author.Tests.{eqb-true, eqb-false, eq-eqb, ne-eqb, ltb-true, ltb-false, lt-ltb, leb-true, not-true, not-false}
 use Rattle.laws.specs.Pick.{pick}
 use Rattle.laws.specs.Bools.{never, both, join, is-false}
 use Rattle.laws.specs.Refusals.{All, all-map, Test, test, first-failed, all-passed}
@@ -26,10 +26,10 @@ use Rattle.sealed.specs.Sealed.{above, module-fits, last-for}
 use Rattle.station.specs.declared.Stage.{Stage}
 use Rattle.station.specs.declared.Stage.the-variants.{Gathering, Proposing, Voting}
 use Rattle.station.specs.declared.Station.{Station}
-use Rattle.station.specs.Machine.{State, Outcome, refused, keeps, sends, own, began, opened, keeping, insert, closes, decision-at, shut, follows, moved, ended, taken, held-of, conflict, step-tests, stage-step}
+use Rattle.station.specs.Machine.{State, Outcome, refused, keeps, sends, Next, own, began, opened, keeping, insert, closes, decision-at, shut, follows, moved, ended, taken, held-of, conflict, step-tests, stage-step}
 use Rattle.station.specs.Words.{state-of}
 use Rattle.station.specs.Fit.{fits}
-use Rattle.station.specs.Calls.{open-tests, opening-outcome, give-tests, giving-outcome}
+use Rattle.station.specs.Calls.{Returned, returned, giving, open-tests, opening-outcome, give-tests, giving-outcome}
 use Rattle.station.specs.ReadBack.{Proper}
 use Rattle.station.specs.Slots.{all-two}
 use Rattle.station.specs.Insert.{insert-length, conflict-insert}
@@ -110,11 +110,36 @@ module _ (mac : List ℕ → List ℕ → List ℕ) where
       unfolding state-of
       state-question = refl
 
-      accepted : first-failed (give-tests mac m t ws coin out) ≡ 0 → Accepted
+      -- all tests but that of 10 have passed
+      pub record Nearly : Type 0 where
+        pub room : output-words ≤ length out
+        pub range : InRange m
+        pub coin-bit : coin < 2
+        pub fit : fits (m .n) (m .number) t ≡ true
+        pub still-open : t .closed ≡ false
+        pub bundle : Bundle (m .n) ws
+        pub codes : All (λ s. verifies (mac (m .key)) s ≡ true) (statements ws 1 (suc (count-in ws)))
+        pub fitting : Fitting (m .n) (state-of t .question) (state-of t .stage) (main-of ws) (certificate-of ws)
+        pub new : held-of (main-of ws .station) (state-of t .held) ≡ false
+
+      -- the tests before that of 10
+      abbrev pub ten-tests : List Test
+      ten-tests =
+          test (leb output-words (length out)) short-output
+          ∷ test (module-fits m && ltb coin 2 && fits (m .n) (m .number) t) out-of-range
+          ∷ test (not (t .closed)) station-closed
+          ∷ test (bundle-fits (m .n) ws) malformed
+          ∷ test (one-question (main-of ws) (certificate-of ws) && eqb (main-of ws .question) (t .identity .question)) other-question
+          ∷ test (all-verify (mac (m .key)) (statements ws 1 (suc (count-in ws)))) wrong-code
+          ∷ test (rule (m .n) (main-of ws) (certificate-of ws)) no-certificate
+          ∷ test (leb (stage-step (state-of t .stage)) (step (main-of ws))) too-late
+          ∷ test (leb (step (main-of ws)) (stage-step (state-of t .stage))) too-early
+          ∷ test (not (held-of (main-of ws .station) (state-of t .held))) already-held
+          ∷ []
+
+      pub nearly : All (λ x. x .ok ≡ true) ten-tests → Nearly
       unfolding statements
-      accepted h =
-          let p = all-passed (give-tests mac m t ws coin out)
-          (omega arith, (omega arith, (omega arith, (omega arith, (omega arith, (omega arith, (omega arith, (omega arith, (omega arith, (omega arith, (omega arith, tt))))))))))) h in
+      nearly p =
           let a = both (module-fits m && ltb coin 2) _ (p .1 .0) in
           let b = both (module-fits m) _ (a .0) in
           let r = in-range m (b .0) in
@@ -131,7 +156,6 @@ module _ (mac : List ℕ → List ℕ → List ℕ) where
             codes = every-out (verifies (mac (m .key))) (statements ws 1 (suc (count-in ws))) (p .1 .1 .1 .1 .1 .0);
             fitting = fitted B (q .0) (eqb-true _ _ (q .1)) (p .1 .1 .1 .1 .1 .1 .0) (leb-true _ _ (p .1 .1 .1 .1 .1 .1 .1 .0)) (leb-true _ _ (p .1 .1 .1 .1 .1 .1 .1 .1 .0));
             new = not-true _ (p .1 .1 .1 .1 .1 .1 .1 .1 .1 .0);
-            calm = not-true _ (p .1 .1 .1 .1 .1 .1 .1 .1 .1 .1 .0);
           }
         where
           propers : Bundle (m .n) ws → All (Proper (m .n)) (statements ws 1 (suc (count-in ws)))
@@ -157,6 +181,25 @@ module _ (mac : List ℕ → List ℕ → List ℕ) where
                 in-step = omega arith;
                 backed = rule-backed (m .n) (main-of ws) (certificate-of ws) (formed-out (m .n) (main-of ws) (p .0 .formed) .shape) u;
               }
+
+      accepted : first-failed (give-tests mac m t ws coin out) ≡ 0 → Accepted
+      accepted h =
+          let p = all-passed (give-tests mac m t ws coin out)
+          (omega arith, (omega arith, (omega arith, (omega arith, (omega arith, (omega arith, (omega arith, (omega arith, (omega arith, (omega arith, (omega arith, tt))))))))))) h in
+          let c = p .1 .1 .1 .1 .1 .1 .1 .1 .1 in
+          let N = nearly (p .0, (p .1 .0, (p .1 .1 .0, (p .1 .1 .1 .0, (p .1 .1 .1 .1 .0, (p .1 .1 .1 .1 .1 .0, (p .1 .1 .1 .1 .1 .1 .0, (p .1 .1 .1 .1 .1 .1 .1 .0, (p .1 .1 .1 .1 .1 .1 .1 .1 .0, (c .0, tt)))))))))) in
+          record {
+            room = N .room;
+            range = N .range;
+            coin-bit = N .coin-bit;
+            fit = N .fit;
+            still-open = N .still-open;
+            bundle = N .bundle;
+            codes = N .codes;
+            fitting = N .fitting;
+            new = N .new;
+            calm = not-true _ (c .1 .0);
+          }
 
       -- the station as a state, sane; with the bundle, and q statements
       pub sane-before : Accepted → Sane (m .n) (m .number) (state-of t)
@@ -248,3 +291,63 @@ module _ (mac : List ℕ → List ℕ → List ℕ) where
             let a = both (module-fits m) _ (p .1 .0) in
             begun (above (last-for m question) question (step init-statement)) refl (leb-true output-words (length out) (p .0)) (in-range m (a .0)) (ltb-true proposal 2 (a .1))
         go false e = no-opening (failed-one (λ k. unrefused k ≡ false) (open-tests mac m proposal out) (refl, (refl, tt)) (eqb-false _ _ e))
+
+-- answered 10: all tests before have passed, and there is a conflict
+passed-until : (l : List Test) (b : Bool) (k : ℕ) → 0 < k → All (λ t. t .number ≡ k → ⊥) l → first-failed (l ++ (test b k ∷ [])) ≡ k → All (λ t. t .ok ≡ true) l × (b ≡ false)
+unfolding first-failed pick
+passed-until [] true k low a e = absurd (omega arith)
+passed-until [] false k low a e = (tt, refl)
+passed-until (t ∷ l) b k low a e = go (t .ok) refl e (passed-until l b k low (a .1))
+  where
+    go : (c : Bool) → t .ok ≡ c → pick c (first-failed (l ++ (test b k ∷ []))) (t .number) ≡ k
+        → (first-failed (l ++ (test b k ∷ [])) ≡ k → All (λ t. t .ok ≡ true) l × (b ≡ false)) → ((t .ok ≡ true) × All (λ t. t .ok ≡ true) l) × (b ≡ false)
+    go true x y ih = let r = ih y in ((x, r .0), r .1)
+    go false x y ih = absurd (a .0 y)
+
+pub record Conflicts (mac : List ℕ → List ℕ → List ℕ) (m : Module) (t : Station) (ws : List ℕ) (coin : ℕ) (out : List ℕ) (L : Lengths t) : Type 0 where
+  pub near : Nearly mac m t ws coin out L
+  pub clash : conflict (state-of t .stage) (main-of ws ∷ state-of t .held) ≡ true
+
+pub conflicts : (mac : List ℕ → List ℕ → List ℕ) (m : Module) (t : Station) (ws : List ℕ) (coin : ℕ) (out : List ℕ) (L : Lengths t)
+    → giving mac m t ws coin out .number ≡ conflicting → Conflicts mac m t ws coin out L
+unfolding giving returned pick taken ended
+conflicts mac m t ws coin out L e = go (eqb (first-failed (give-tests mac m t ws coin out)) 0) refl e
+  where
+    from-tests : first-failed (give-tests mac m t ws coin out) ≡ conflicting → Conflicts mac m t ws coin out L
+    from-tests h =
+        let p = passed-until (ten-tests mac m t ws coin out L) (not (conflict (state-of t .stage) (main-of ws ∷ state-of t .held))) conflicting (omega arith)
+        ((λ z. omega arith), ((λ z. omega arith), ((λ z. omega arith), ((λ z. omega arith), ((λ z. omega arith), ((λ z. omega arith), ((λ z. omega arith), ((λ z. omega arith), ((λ z. omega arith), ((λ z. omega arith), tt)))))))))) h in
+        record { near = nearly mac m t ws coin out L (p .0); clash = not-false _ (p .1) }
+
+    -- what is taken is not answered 10
+    not-ten : returned m t out (taken (mac (m .key)) (m .n) (m .number) (last-for m (t .identity .question)) (state-of t) (main-of ws) (certificate-of ws) coin) .number ≡ conflicting → ⊥
+    not-ten z = by (ltb (length (after mac m t ws coin out .held)) (quorum (m .n))) z
+      where
+        x : Next
+        x = follows (m .n) (state-of t .stage) (after mac m t ws coin out) coin
+
+        s : Statement
+        s = own (mac (m .key)) (m .number) (state-of t .question) (x .kind) (x .value) (x .flag) (x .round)
+
+        d : ℕ
+        d = decision-at (state-of t .stage) (state-of t .decision) (after mac m t ws coin out .held)
+
+        sent-by : (a b : Bool) → returned m t out (pick a (sends (pick b sent sent-decided) s (x .first ++ x .second) (began (state-of t .question) (x .stage) d s (x .first))) (refused not-above)) .number ≡ conflicting → ⊥
+        sent-by true true z = omega arith
+        sent-by true false z = omega arith
+        sent-by false b z = omega arith
+
+        ended-by : (c : Bool) → returned m t out (pick c (keeps closed-now (shut (mac (m .key)) (m .n) (m .number) (last-for m (t .identity .question)) (after mac m t ws coin out) d))
+            (moved (mac (m .key)) (m .n) (m .number) (last-for m (t .identity .question)) (after mac m t ws coin out) x d)) .number ≡ conflicting → ⊥
+        ended-by true z = omega arith
+        ended-by false z = sent-by (above (last-for m (t .identity .question)) (s .question) (step s)) (ltb (state-of t .decision) none || eqb d none) z
+
+        by : (b : Bool) → returned m t out (pick b (keeps kept (after mac m t ws coin out)) (ended (mac (m .key)) (m .n) (m .number) (last-for m (t .identity .question)) (after mac m t ws coin out) coin)) .number ≡ conflicting → ⊥
+        by true z = omega arith
+        by false z = ended-by (closes (state-of t .stage)) z
+
+    go : (b : Bool) → eqb (first-failed (give-tests mac m t ws coin out)) 0 ≡ b
+        → returned m t out (pick b (taken (mac (m .key)) (m .n) (m .number) (last-for m (t .identity .question)) (state-of t) (main-of ws) (certificate-of ws) coin)
+        (refused (first-failed (give-tests mac m t ws coin out)))) .number ≡ conflicting → Conflicts mac m t ws coin out L
+    go true q z = absurd (not-ten z)
+    go false q z = from-tests z

@@ -1,0 +1,401 @@
+-- Demand 3, proved: for every n from 2 to 31, key and list of calls that meets the premises, the claim holds.
+use mathlib.Core.Path.{_≡_, refl, sym, _∙_, ap, subst}
+use mathlib.Core.Bool.{Bool, true, false, not, _&&_, _||_}
+use mathlib.Core.Logic.{_⊎_, inl, inr}
+use mathlib.Core.List.{List, [], _∷_, _++_, List·Memᴰ, List·Memᴰ·cases-cons, List·Memᴰ·not-nil}
+use Prim.Native.Nat.{ℕ, zero, suc, _+_, _-_, _*_, _/_, _≤_, _<_}
+use native.Mathlib.Omega.{arith}
+use lib.Dec.{eqb, ltb, leb}
+use lib.ListN.{length, getD}
+use borrow.Author.Tests.{eqb-true, eqb-false, eq-eqb, ne-eqb, ltb-true, ltb-false}
+use Rattle.laws.specs.Pick.{pick}
+use Rattle.laws.specs.Bools.{never, both, join, left, right, is-false}
+use Rattle.laws.specs.Refusals.{All, all-map}
+use Rattle.laws.specs.Count.{count, one-if, meet, Shared}
+use Rattle.format.specs.Numbers.{kind-INIT, kind-P, kind-V, none, D-GET, conflicting}
+use Rattle.format.specs.Group.{quorum, backing, most-faulty}
+use Rattle.format.specs.Words.{kind-of, value-of}
+use Rattle.format.specs.Statement.{Statement, statement, statements, hmac-code, step}
+use Rattle.format.specs.Bundle.{count-in, main-of, certificate-of}
+use Rattle.format.specs.Codes.{hmac-eight}
+use Rattle.format.specs.Layout.{all-well}
+use Rattle.format.specs.Shape.{Shape, init, proposal, vote, Formed, formed-out}
+use Rattle.certificate.specs.Rules.{some}
+use Rattle.sealed.specs.declared.Module.{Module}
+use Rattle.station.specs.declared.Stage.{Stage}
+use Rattle.station.specs.declared.Stage.the-variants.{Gathering, Proposing, Voting}
+use Rattle.station.specs.declared.Station.{Station}
+use Rattle.station.specs.Machine.{conflict, has-value, kind-in, round-in, stage-step}
+use Rattle.station.specs.Words.{state-of}
+use Rattle.station.specs.ReadBack.{Proper}
+use Rattle.station.specs.Sane.{Sane}
+use Rattle.station.specs.FitSane.{Lengths, fits-sane}
+use Rattle.station.specs.Keep.{same-step}
+use Rattle.station.specs.Slots.{all-two}
+use Rattle.station.specs.Pieces as P
+use Rattle.station.specs.Views.{unrefused, Conflicts, conflicts, Nearly}
+use Rattle.agreement.specs.Counting.{count-mono}
+use Rattle.agreement.specs.Log.{In, is, has, Has, has-out, has-at, Supp, all-at}
+use Rattle.agreement.specs.Safe as Safe
+use Rattle.agreement.specs.Safe.{Just, Split, LogOk, Decided}
+use Rattle.agreement.specs.Just.{bare, Coded, backed-just}
+use Rattle.agreement.specs.Took.{is-vote, Vote, vote-out, one-more, none-there}
+use Rattle.agreement.specs.Line.{reads, all-came, Enough, OpenLine, Line}
+use Rattle.agreement.specs.Invariant.{Mine, LogInv, start}
+use Rattle.agreement.specs.Run.{Inv, codes-step, tosses-step, open-step, give-step}
+use Rattle.agreement.specs.Demand.{Call, opens, gives, codes, tosses, site, Entry, Lineage, Found, nothing, found, gave, member, logged, votes, proposed, act, modules, answer, log, openings, lineage, Presents, Sound, FewFaulty, CodesCame, Given, Decides, Claim}
+
+-- ---- the premise on numbers
+member-few : (l : List ℕ) (n : ℕ) → count (λ i. member i l) n ≤ length l
+member-few [] n = omega (arith, none-there n)
+member-few (j ∷ l) n =
+    omega (arith, member-few l n, one-more j (λ i. member i l) n, count-mono (λ i. member i (j ∷ l)) (λ i. eqb j i || member i l) (λ i h. turned i h) n)
+  where
+    turned : (i : ℕ) → (eqb i j || member i l) ≡ true → (eqb j i || member i l) ≡ true
+    turned i h = go (eqb i j) refl h
+      where
+        go : (b : Bool) → eqb i j ≡ b → (b || member i l) ≡ true → (eqb j i || member i l) ≡ true
+        go true e x = left (eqb j i) _ (eq-eqb j i (sym (eqb-true i j e)))
+        go false e x = right (eqb j i) _ x
+
+-- a site taken out of a list
+without : ℕ → List ℕ → List ℕ
+without i [] = []
+without i (j ∷ l) = pick (eqb j i) (without i l) (j ∷ without i l)
+
+without-few : (i : ℕ) (l : List ℕ) → length (without i l) ≤ length l
+unfolding without pick
+without-few i [] = omega arith
+without-few i (j ∷ l) = go (eqb j i) (without-few i l)
+  where
+    go : (b : Bool) → length (without i l) ≤ length l → length (pick b (without i l) (j ∷ without i l)) ≤ suc (length l)
+    go true e = omega arith
+    go false e = omega arith
+
+without-self : (i : ℕ) (l : List ℕ) → member i (without i l) ≡ false
+unfolding without pick
+without-self i [] = refl
+without-self i (j ∷ l) = go (eqb j i) refl (without-self i l)
+  where
+    go : (b : Bool) → eqb j i ≡ b → member i (without i l) ≡ false → member i (pick b (without i l) (j ∷ without i l)) ≡ false
+    go true e h = h
+    go false e h = rw (ne-eqb i j (λ z. eqb-false j i e (sym z))) h
+
+-- who is in the list and not the one taken out is in it still
+without-other : (i x : ℕ) (l : List ℕ) → (x ≡ i → ⊥) → member x (without i l) ≡ false → member x l ≡ false
+unfolding without pick
+without-other i x [] ne h = refl
+without-other i x (j ∷ l) ne h = go (eqb j i) refl h (without-other i x l ne)
+  where
+    go : (b : Bool) → eqb j i ≡ b → member x (pick b (without i l) (j ∷ without i l)) ≡ false → (member x (without i l) ≡ false → member x l ≡ false) → (eqb x j || member x l) ≡ false
+    go true e h ih = rw (ne-eqb x j (λ z. ne (z ∙ eqb-true j i e))) (ih h)
+    go false e h ih = split (eqb x j) refl h
+      where
+        split : (c : Bool) → eqb x j ≡ c → (c || member x (without i l)) ≡ false → (c || member x l) ≡ false
+        split true y z = z
+        split false y z = ih z
+
+without-more : (i x : ℕ) (l : List ℕ) → member x l ≡ false → member x (without i l) ≡ false
+unfolding without pick
+without-more i x [] h = refl
+without-more i x (j ∷ l) h = go (eqb j i) (eqb x j) refl h (without-more i x l)
+  where
+    go : (b c : Bool) → eqb x j ≡ c → (c || member x l) ≡ false → (member x l ≡ false → member x (without i l) ≡ false) → member x (pick b (without i l) (j ∷ without i l)) ≡ false
+    go b true e h ih = never true h refl
+    go true false e h ih = ih h
+    go false false e h ih = rw e (ih h)
+
+every-one : (k : ℕ) → count (λ i. true) k ≡ k
+unfolding count
+every-one zero = refl
+every-one (suc k) = let z = every-one k in omega arith
+
+module _ (mac : List ℕ → List ℕ → List ℕ) (eight : (key ws : List ℕ) → length (mac key ws) ≡ 8) (key : List ℕ) (n : ℕ) (low : 2 ≤ n) (top : n ≤ 31) where
+  -- ---- the invariant of a list, for a list of sites outside which all are sound
+  abbrev AllSound : List ℕ → List Call → Type 0
+  AllSound faulty cs = (i : ℕ) → 1 ≤ i → i ≤ n → member i faulty ≡ false → Sound mac key n i cs
+
+  inv : (faulty : List ℕ) (cs : List Call) → Given mac key n cs → AllSound faulty cs → Inv mac eight key n low top faulty cs
+  unfolding Given Sound log lineage modules
+  inv faulty [] g s = record { logs = start key n faulty low top; lines = λ i k line a b h e. absurd (let z : _≡_ {A = ℕ} 0 1 = cc in omega arith) }
+  inv faulty (opens j q v out ∷ cs) g s = open-step mac eight key n low top faulty j q v out cs (g .0 .0) (g .0 .1) (inv faulty cs (g .1) (λ i a b h. s i a b h))
+  inv faulty (gives j o t ws coin out ∷ cs) g s =
+      give-step mac eight key n low top faulty j o t ws coin out cs (g .0 .0) (g .0 .1) (inv faulty cs (g .1 .1 .1) (λ i a b h. s i a b h .1)) (g .1 .0) (g .1 .1 .0)
+      (λ h u. s j (g .0 .0) (g .0 .1) h .0 refl u)
+  inv faulty (codes j ws ∷ cs) g s =
+      codes-step mac eight key n low top faulty j ws cs (g .0 .0) (g .0 .1) (inv faulty cs (g .1) (λ i a b h. s i a b h .1)) (λ h e. s j (g .0 .0) (g .0 .1) h .0 refl e)
+  inv faulty (tosses j ws coin ∷ cs) g s =
+      tosses-step mac eight key n low top faulty j ws coin cs (g .0 .0) (g .0 .1) (inv faulty cs (g .1) (λ i a b h. s i a b h .1)) (λ h e. s j (g .0 .0) (g .0 .1) h .0 refl e)
+
+  -- a station belongs to a site of the group
+  by-site : (j i : ℕ) (x y : Bool) (a b : Found) (line : Lineage) → (1 ≤ j) × (j ≤ n) → (b ≡ found line → (1 ≤ i) × (i ≤ n)) → pick (eqb j i && x && y) a b ≡ found line
+      → (1 ≤ i) × (i ≤ n)
+  unfolding pick
+  by-site j i x y a b line r ih e = go (eqb j i) refl (eqb j i && x && y) refl e
+    where
+      go : (c : Bool) → eqb j i ≡ c → (d : Bool) → (eqb j i && x && y) ≡ d → pick d a b ≡ found line → (1 ≤ i) × (i ≤ n)
+      go true z d w e = let s : j ≡ i = eqb-true j i z in (omega (arith, r .0), omega (arith, r .1))
+      go false z true w e = never (eqb j i) z (both (eqb j i) x (both (eqb j i && x) y w .0) .0)
+      go false z false w e = ih e
+
+  in-group : (cs : List Call) → Given mac key n cs → (i k : ℕ) (line : Lineage) → lineage mac key n cs i k ≡ found line → (1 ≤ i) × (i ≤ n)
+  unfolding Given lineage
+  in-group [] g i k line e = absurd (let z : _≡_ {A = ℕ} 0 1 = cc in omega arith)
+  in-group (opens j q v out ∷ cs) g i k line e = by-site j i _ _ _ _ line (g .0) (in-group cs (g .1) i k line) e
+  in-group (gives j o t ws coin out ∷ cs) g i k line e =
+      by-site j i (unrefused (answer mac key n cs (gives j o t ws coin out) .number)) (eqb o k) (gave (answer mac key n cs (gives j o t ws coin out)) ws (lineage mac key n cs i k)) (lineage mac key n cs i k) line (g .0)
+      (in-group cs (g .1 .1 .1) i k line) e
+  in-group (codes j ws ∷ cs) g i k line e = in-group cs (g .1) i k line e
+  in-group (tosses j ws coin ∷ cs) g i k line e = in-group cs (g .1) i k line e
+
+  -- ---- from the invariant to the claims
+  module _ (faulty : List ℕ) (few : length faulty ≤ most-faulty n) (cs : List Call) (I : Inv mac eight key n low top faulty cs) where
+    abbrev l : List Statement
+    l = reads (log mac key n cs)
+
+    abbrev sound : ℕ → Bool
+    sound i = not (member i faulty)
+
+    not-sound : (b : Bool) → not b ≡ true → b ≡ false
+    not-sound true e = never false refl e
+    not-sound false e = refl
+
+    bad-few : count (λ i. not (sound i)) n ≤ (n - 1) / 2
+    bad-few = omega (arith, member-few faulty n, count-mono (λ i. not (sound i)) (λ i. member i faulty) (λ i e. twice (member i faulty) e) n)
+      where
+        twice : (b : Bool) → not (not b) ≡ true → b ≡ true
+        twice true e = refl
+        twice false e = e
+
+    pub log-ok : LogOk n sound l
+    log-ok =
+        record {
+          rising = I .logs .rising;
+          small = λ s i k. bit s k (all-at (Formed n) l (I .logs .formed) s i .shape);
+          just = λ s i h. all-at (λ s. member (s .station) faulty ≡ false → Just n l s) l (I .logs .just) s i (not-sound _ h);
+          split = λ s i h a b. all-at (λ s. member (s .station) faulty ≡ false → s .kind ≡ kind-V → s .value ≡ none → Split n l (s .question) (s .round)) l (I .logs .split) s i (not-sound _ h) a b;
+        }
+      where
+        bit : (s : Statement) → s .kind ≡ kind-P → Shape s → s .value < 2
+        bit s k (init a b c d) = c
+        bit s k (proposal a b c d e) = d
+        bit s k (vote a b c d e) = absurd (omega arith)
+
+    -- enough votes among what a station took were coded
+    took-supp : (took : List Statement) (q r v : ℕ) → All (λ s. Coded n l s × Just n l s) took → quorum n ≤ count (votes took q r v) n → Supp n l kind-V q r v (quorum n)
+    took-supp took q r v a e = omega (arith, count-mono (votes took q r v) (has l kind-V q r v) (λ i h. coded i h) n)
+      where
+        coded : (i : ℕ) → votes took q r v i ≡ true → has l kind-V q r v i ≡ true
+        coded i h =
+            let f = P.find-some (λ s. Coded n l s × Just n l s) (is-vote q r v i) took a h in
+            let w = vote-out q r v i (f .one) (f .passes) in
+            subst (λ (x : ℕ). has l kind-V q r v x ≡ true) (w .station) (has-at (bare (f .one)) l (f .has .0 .mem) (w .kind) (w .question) (w .round) (w .value))
+
+    -- votes are of round 1 or later
+    from-1 : (q r v : ℕ) → Supp n l kind-V q r v (quorum n) → 1 ≤ r
+    from-1 q r v s =
+        let m = meet (has l kind-V q r v) (λ i. true) n (omega (arith, all-true n)) in
+        let h = has-out l kind-V q r v (m .at) (m .in-first) in
+        late (h .one) (h .kind≡) (h .round≡) (all-at (Formed n) l (I .logs .formed) (h .one) (h .mem) .shape)
+      where
+        all-true : (k : ℕ) → count (λ i. true) k ≡ k
+        all-true k = every-one k
+
+        late : (s : Statement) → s .kind ≡ kind-V → s .round ≡ r → Shape s → 1 ≤ r
+        late s k e (init a b c d) = absurd (omega arith)
+        late s k e (proposal a b c d f) = absurd (omega arith)
+        late s k e (vote a b c d f) = omega arith
+
+    decided-by : (took : List Statement) (q r v : ℕ) → v < none → All (λ s. Coded n l s × Just n l s) took → quorum n ≤ count (votes took q r v) n → Decided n l q v
+    decided-by took q r v b a e = let s = took-supp took q r v a e in record { round = r; from1 = from-1 q r v s; small = b; votes = s }
+
+    known : (i k : ℕ) (line : Lineage) → Given mac key n cs → member i faulty ≡ false → lineage mac key n cs i k ≡ found line → Line mac key n l i (line .present) (line .took)
+    known i k line g h e = let r = in-group cs g i k line e in I .lines i k line (r .0) (r .1) h e
+
+    decided : Given mac key n cs → (i k q v : ℕ) → member i faulty ≡ false → Decides mac key n cs i k q v → Decided n l q v
+    decided g i k q v h d = decided-by (d .line .took) q (d .round) v (d .bit) (known i k (d .line) g h (d .is) .facts) (d .enough)
+
+    agree : Given mac key n cs → (i j k o q v w : ℕ) → member i faulty ≡ false → member j faulty ≡ false → Decides mac key n cs i k q v → Decides mac key n cs j o q w → v ≡ w
+    agree g i j k o q v w hi hj d e = Safe.agreement n sound l bad-few low log-ok q v w (decided g i k q v hi d) (decided g j o q w hj e)
+
+    -- a coded INIT was proposed
+    proposed-in : (es : List Entry) → All (λ e. e .at ≡ statement (e .words) 0 .station) es → (q v i : ℕ) → has (reads es) kind-INIT q 0 v i ≡ true → proposed es q v i ≡ true
+    unfolding reads has some
+    proposed-in [] a q v i h = h
+    proposed-in (e ∷ es) a q v i h = go (is kind-INIT q 0 v i (statement (e .words) 0)) refl h (proposed-in es (a .1) q v i)
+      where
+        here : Bool
+        here = eqb (e .at) i && eqb (kind-of (getD (e .words) 0 0)) kind-INIT && eqb (value-of (getD (e .words) 0 0)) v && eqb (getD (e .words) 1 0) q
+
+        go : (b : Bool) → is kind-INIT q 0 v i (statement (e .words) 0) ≡ b → (b || has (reads es) kind-INIT q 0 v i) ≡ true → (has (reads es) kind-INIT q 0 v i ≡ true → proposed es q v i ≡ true)
+            → (here || proposed es q v i) ≡ true
+        go true x y ih =
+            let s = statement (e .words) 0 in
+            let c = both (eqb (s .station) i) _ x in
+            let d = both (eqb (s .kind) kind-INIT) _ (c .1) in
+            let f = both (eqb (s .question) q) _ (d .1) in
+            let g = both (eqb (s .round) 0) _ (f .1) in
+            left here _
+            (join (eqb (e .at) i && eqb (s .kind) kind-INIT && eqb (s .value) v) _
+            (join (eqb (e .at) i && eqb (s .kind) kind-INIT) _ (join (eqb (e .at) i) _ (eq-eqb _ _ (a .0 ∙ eqb-true _ _ (c .0))) (d .0)) (g .1)) (f .0))
+        go false x y ih = right here _ (ih y)
+
+    back : Given mac key n cs → (i k q v : ℕ) → member i faulty ≡ false → Decides mac key n cs i k q v → backing n v ≤ count (proposed (log mac key n cs) q v) n
+    back g i k q v h d =
+        omega (
+          arith,
+          Safe.backed n sound l bad-few low log-ok q v (decided g i k q v h d),
+          count-mono (has l kind-INIT q 0 v) (proposed (log mac key n cs) q v) (proposed-in (log mac key n cs) (I .logs .sites) q v) n,
+        )
+
+    -- ---- a station's decision
+    enough-decides : (i k v : ℕ) (line : Lineage) → lineage mac key n cs i k ≡ found line → v < none → Enough n (line .took) (line .present .identity .question) v
+        → Decides mac key n cs i k (line .present .identity .question) v
+    enough-decides i k v line e b E = record { line = line; is = e; bit = b; round = E .round; enough = E .enough }
+
+    -- what is decided is decided on the station's question
+    on-question : (t : Station) (took : List Statement) (q r v : ℕ) → All (λ s. s .question ≡ t .identity .question) took → quorum n ≤ count (votes took q r v) n → q ≡ t .identity .question
+    on-question t took q r v a e =
+        let m = meet (votes took q r v) (λ i. true) n (omega (arith, every-one n)) in
+        let f = P.find-some (λ s. s .question ≡ t .identity .question) (is-vote q r v (m .at)) took a (m .in-first) in
+        sym (vote-out q r v (m .at) (f .one) (f .passes) .question) ∙ f .has
+
+    name-it : Given mac key n cs → (i k q v : ℕ) (line : Lineage) → member i faulty ≡ false → lineage mac key n cs i k ≡ found line → Decides mac key n cs i k q v → line .present .decision ≡ v
+    name-it g i k q v line h e d =
+        let L = known i k line g h e in
+        let same : d .line ≡ line = cc (d .is) in
+        let enough : quorum n ≤ count (votes (line .took) q (d .round) v) n = subst (λ (x : Lineage). quorum n ≤ count (votes (x .took) q (d .round) v) n) same (d .enough) in
+        let at-q : q ≡ line .present .identity .question = on-question (line .present) (line .took) q (d .round) v (L .asked) enough in
+        let named : line .present .decision < none
+        = L .names v (d .round) (d .bit) (subst (λ (x : ℕ). quorum n ≤ count (votes (line .took) x (d .round) v) n) at-q enough) in
+        let other = enough-decides i k (line .present .decision) line e named (L .named (line .present .decision) named refl) in
+        sym (agree g i i k k (line .present .identity .question) v (line .present .decision) h h (subst (λ (x : ℕ). Decides mac key n cs i k x v) at-q d) other)
+
+    -- ---- 10 at a sound site's own station
+    module _ (g : Given mac key n cs) (i k : ℕ) (t : Station) (ws : List ℕ) (coin : ℕ) (out : List ℕ) (h : member i faulty ≡ false) (p : Presents mac key n cs i k t)
+        (came : CodesCame mac key n (log mac key n cs) ws) where
+      two : (q r : ℕ) → Supp n l kind-P q r 0 (quorum n) → Supp n l kind-P q r 1 (quorum n) → ⊥
+      two q r a b = let e : _≡_ {A = ℕ} 0 1 = Safe.same n sound l bad-few low log-ok kind-P q r 0 1 a b in omega arith
+
+      abbrev m : Module
+      m = modules mac key n cs i
+
+      known-here : Line mac key n l i t (p .line .took)
+      known-here = subst (λ (x : Station). Line mac key n l i x (p .line .took)) (p .now) (known i k (p .line) g h (p .is))
+
+      range-i : (1 ≤ i) × (i ≤ n)
+      range-i = in-group cs g i k (p .line) (p .is)
+
+      mine : Mine key n faulty i m
+      mine = I .logs .mods i (range-i .0) (range-i .1)
+
+      -- what is known of the new statement and of those held
+      abbrev Fact : Stage → ℕ → Statement → Type 0
+      Fact st q s = Just n l s × ((s .kind ≡ kind-in st) × ((s .round ≡ round-in st) × (s .question ≡ q)))
+
+      module _ (N : Nearly mac m t ws coin out (known-here .lengths)) where
+        abbrev st : Stage
+        st = state-of t .stage
+
+        abbrev q : ℕ
+        q = state-of t .question
+
+        O : OpenLine mac key n l i t (p .line .took)
+        O = known-here .while-open (N .still-open)
+
+        sane : Sane n i (state-of t)
+        sane = fits-sane n i t top (range-i .0) (range-i .1) (known-here .lengths) (O .fit) (N .still-open)
+
+        main-coded : Coded (m .n) l (main-of ws) × All (Coded (m .n) l) (certificate-of ws)
+        unfolding statements
+        main-coded =
+            all-came mac (m .key) (m .n) (log mac key n cs) ws (subst (λ (x : List ℕ). CodesCame mac x (m .n) (log mac key n cs) ws) (sym (mine .same-key)) came)
+            (suc (count-in ws)) 0 (omega (arith, N .bundle .size)) (N .bundle .fields) (all-well (m .n) ws 1 (suc (count-in ws)) (N .bundle .fields)) (N .codes)
+
+        main-fact : Fact st q (main-of ws)
+        main-fact =
+            let j : Just (m .n) l (main-of ws)
+            = backed-just (m .n) l (main-of ws) (certificate-of ws) (main-coded .1) (all-map (λ s e. e ∙ sym (N .fitting .asked)) (certificate-of ws) (N .fitting .alike)) (N .fitting .backed) in
+            let e = same-step (main-of ws) st (formed-out (m .n) (main-of ws) (N .fitting .proper .formed) .shape) (sane .rounds) (N .fitting .in-step) in
+            (subst (λ (x : ℕ). Just x l (main-of ws)) (mine .same-n) j, (e .0, (e .1, N .fitting .asked)))
+
+        held-fact : All (Fact st q) (state-of t .held)
+        held-fact =
+            all-map (λ s x. let e = same-step s st (formed-out n s (x .0 .formed) .shape) (sane .rounds) (x .1 .1 .1) in
+            (all-at (λ s. Coded n l s × Just n l s) (p .line .took) (known-here .facts) s (x .1 .0) .1, (e .0, (e .1, x .1 .1 .0)))) (state-of t .held)
+            (all-two (Proper n) (λ s. In s (p .line .took) × ((s .question ≡ q) × (step s ≡ stage-step st))) (state-of t .held) (sane .proper)
+            (all-two (λ s. In s (p .line .took)) (λ s. (s .question ≡ q) × (step s ≡ stage-step st)) (state-of t .held) (O .among) (sane .alike)))
+
+        no-clash : (g : Stage) (hs : List Statement) → All (Fact g q) hs → conflict g hs ≡ true → ⊥
+        unfolding conflict
+        no-clash Gathering hs a e = never false refl e
+        no-clash (Voting r) hs a e =
+            let b = both (some (has-value 0) hs) _ e in
+            two q (r .0) (voted 0 (omega arith) (P.find-some (Fact (Voting r) q) (has-value 0) hs a (b .0))) (voted 1 (omega arith) (P.find-some (Fact (Voting r) q) (has-value 1) hs a (b .1)))
+          where
+            voted : (v : ℕ) → v < 2 → P.Found (Fact (Voting r) q) (has-value v) → Supp n l kind-P q (r .0) v (quorum n)
+            voted v low f =
+                let e : f .one .value ≡ v = eqb-true _ _ (f .passes) in
+                rw (f .has .1 .1 .1, f .has .1 .1 .0, e) at (f .has .0 .voted (f .has .1 .0) (omega arith))
+        no-clash (Proposing r x) hs a e =
+            let w = both (ltb 1 (r .0)) _ e in
+            let b = both (some (λ s. eqb (s .flag) D-GET && has-value 0 s) hs) _ (w .1) in
+            two q (r .0 - 1) (proposed-by (ltb-true _ _ (w .0)) 0 (P.find-some (Fact (Proposing r x) q) (λ s. eqb (s .flag) D-GET && has-value 0 s) hs a (b .0)))
+            (proposed-by (ltb-true _ _ (w .0)) 1 (P.find-some (Fact (Proposing r x) q) (λ s. eqb (s .flag) D-GET && has-value 1 s) hs a (b .1)))
+          where
+            proposed-by : 1 < r .0 → (v : ℕ) → P.Found (Fact (Proposing r x) q) (λ s. eqb (s .flag) D-GET && has-value v s) → Supp n l kind-P q (r .0 - 1) v (quorum n)
+            proposed-by later v f =
+                let y = both (eqb (f .one .flag) D-GET) _ (f .passes) in
+                let e : f .one .value ≡ v = eqb-true _ _ (y .1) in
+                rw (f .has .1 .1 .1, f .has .1 .1 .0, e) at (f .has .0 .taken (f .has .1 .0) (omega (arith, f .has .1 .1 .0)) (eqb-true _ _ (y .0)))
+
+      never-10 : answer mac key n cs (gives i k t ws coin out) .number ≡ conflicting → ⊥
+      unfolding act
+      never-10 e =
+          let c = conflicts mac m t ws coin out (known-here .lengths) e in
+          no-clash (c .near) (state-of t .stage) (main-of ws ∷ state-of t .held) (main-fact (c .near), held-fact (c .near)) (c .clash)
+
+  -- ---- the claims of every sound site, also of one that the list of faulty sites happens to name
+  module _ (cs : List Call) (g : Given mac key n cs) (F : FewFaulty mac key n cs) where
+    -- without the two sites that a claim speaks of
+    rest : ℕ → ℕ → List ℕ
+    rest i j = without i (without j (F .faulty))
+
+    rest-few : (i j : ℕ) → length (rest i j) ≤ most-faulty n
+    unfolding rest
+    rest-few i j = omega (arith, without-few i (without j (F .faulty)), without-few j (F .faulty), F .few)
+
+    rest-i : (i j : ℕ) → member i (rest i j) ≡ false
+    unfolding rest
+    rest-i i j = without-self i (without j (F .faulty))
+
+    rest-j : (i j : ℕ) → member j (rest i j) ≡ false
+    unfolding rest
+    rest-j i j = without-more i j (without j (F .faulty)) (without-self j (F .faulty))
+
+    rest-sound : (i j : ℕ) → Sound mac key n i cs → Sound mac key n j cs → AllSound (rest i j) cs
+    unfolding rest
+    rest-sound i j si sj x a b h = go (eqb x i) refl (eqb x j) refl
+      where
+        go : (c : Bool) → eqb x i ≡ c → (d : Bool) → eqb x j ≡ d → Sound mac key n x cs
+        go true e d f = subst (λ (z : ℕ). Sound mac key n z cs) (sym (eqb-true x i e)) si
+        go false e true f = subst (λ (z : ℕ). Sound mac key n z cs) (sym (eqb-true x j f)) sj
+        go false e false f = F .others x a b (without-other j x (F .faulty) (eqb-false x j f) (without-other i x (without j (F .faulty)) (eqb-false x i e) h))
+
+    at : (i j : ℕ) → Sound mac key n i cs → Sound mac key n j cs → Inv mac eight key n low top (rest i j) cs
+    at i j si sj = inv (rest i j) cs g (rest-sound i j si sj)
+
+    pub claim : Claim mac key n cs
+    claim =
+        record {
+          agreement = λ i j k o q v w si sj d e. agree (rest i j) (rest-few i j) cs (at i j si sj) g i j k o q v w (rest-i i j) (rest-j i j) d e;
+          backed = λ i k q v si d. back (rest i i) (rest-few i i) cs (at i i si si) g i k q v (rest-i i i) d;
+          names = λ i k v line si e b d.
+              enough-decides (rest i i) (rest-few i i) cs (at i i si si) i k v line e b (known (rest i i) (rest-few i i) cs (at i i si si) i k line g (rest-i i i) e .named v b d);
+          named = λ i k q v line si e d. name-it (rest i i) (rest-few i i) cs (at i i si si) g i k q v line (rest-i i i) e d;
+          no-conflict = λ i k t ws coin out si p c e. never-10 (rest i i) (rest-few i i) cs (at i i si si) g i k t ws coin out (rest-i i i) p c e;
+        }
+
+-- ---- the theorem, for HMAC-SHA-256
+pub demand-3 : (key : List ℕ) (n : ℕ) → 2 ≤ n → n ≤ 31 → (cs : List Call) → Given hmac-code key n cs → FewFaulty hmac-code key n cs → Claim hmac-code key n cs
+demand-3 key n low top cs g f = claim hmac-code hmac-eight key n low top cs g f
