@@ -10,6 +10,8 @@ use lib.Seq.{getD-set-same, getD-set-other}
 use borrow.Author.Tests.{eqb-true, eqb-false}
 use Rattle.sha256.specs.Sha256.{bytes}
 use Rattle.certificate.specs.Check.{checked}
+use Rattle.script.specs.declared.Done.{Done}
+use Rattle.script.specs.declared.Done.the-variants.{Set, Called, Unreadable}
 
 -- the key of module m, the top byte of each word first
 unfoldable pub key-of : List ℕ → ℕ → List ℕ
@@ -28,6 +30,13 @@ unfolding check-of
 lent modules buffers key m b l r key-is r-is =
     let e : b * 400 + l - b * 400 ≡ l = omega arith in
     r-is ∙ rw (key-is, e)
+
+-- what a line did: where it called, the number is the check's answer for a module and a buffer
+abbrev pub Told : List ℕ → List ℕ → List ℕ → Done → Type 0
+Told modules buffers lengths Set = Unit {0}
+Told modules buffers lengths (Called r count) =
+    (m : ℕ) × (b : ℕ) × (m < 32) × (b < 128) × (r ≡ check-of modules buffers m b (getD lengths b 0)) × (count ≡ 0)
+Told modules buffers lengths Unreadable = Unit {0}
 
 -- no length goes behind the words of its buffer
 abbrev pub Short : List ℕ → Type 0

@@ -1,9 +1,10 @@
 // Scripts of calls (docs/SCRIPT.md), for test programs: a line is read and carried out on registers that the caller lends. So far these are
 // the settings of modules and buffers and the call `check`; every other keyword is an unknown one.
 ghost use mathlib.Core.Path.{_≡_};
-ghost use Prim.Native.Nat.{_+_, _*_, _≤_, _<_};
+ghost use Prim.Native.Nat.{ℕ, _+_, _*_, _≤_, _<_};
+ghost use mathlib.Core.List.{List};
 ghost use lib.ListN.{length, take, drop, getD};
-ghost use Rattle.script.specs.Registers.{check-of, key-of, Short};
+ghost use Rattle.script.specs.Registers.{check-of, key-of, Told, Short};
 
 // What a line did: it set registers or was a comment, and prints nothing; it called, which answered a number and a word count; or it cannot
 // be read.
@@ -348,6 +349,7 @@ fn checked(modules: &[u32], buffers: &[u32], m: usize, b: usize, l: usize) -> u3
 // `check M B`.
 fn check(modules: &[u32], buffers: &[u32], lengths: &[u32], m: u32, b: u32) -> Done
     requires { ⌜ (length (now modules) ≡ 416) × (length (now buffers) ≡ 51200) × (length (now lengths) ≡ 128) ⌝ }
+    ensures { λ r. ⌜ Told (now (modules .entry)) (now (buffers .entry)) (now (lengths .entry)) r ⌝ }
 {
     if m >= 32 {
         return Done::Unreadable;
@@ -365,7 +367,10 @@ fn check(modules: &[u32], buffers: &[u32], lengths: &[u32], m: u32, b: u32) -> D
     )
 }
 
-fn set(fine: bool) -> Done {
+// What a setting did, whatever the registers.
+fn set(fine: bool) -> Done
+    ensures { λ r. ⌜ ((ms bs ls : List ℕ) → Told ms bs ls r) ⌝ }
+{
     if fine { Done::Set } else { Done::Unreadable }
 }
 
@@ -416,6 +421,7 @@ fn carry_out(
 ) -> Done
     requires { ⌜ (length (now modules) ≡ 416) × (length (now buffers) ≡ 51200) × (length (now lengths) ≡ 128) × (count ≤ 79) ⌝ }
     ensures { λ _. ⌜ (Short (now (lengths .entry)) → Short (now (lengths .exit))) ⌝ }
+    ensures { λ r. ⌜ Told (now (modules .entry)) (now (buffers .entry)) (now (lengths .entry)) r ⌝ }
 {
     match k {
         Keyword::Adopt | Keyword::Raw => set(set_module(k, count, numbers, modules)),
@@ -435,6 +441,7 @@ fn carry_out(
 fn command(text: &[u8], modules: &mut [u32], buffers: &mut [u32], lengths: &mut [u32]) -> Done
     requires { ⌜ (length (now modules) ≡ 416) × (length (now buffers) ≡ 51200) × (length (now lengths) ≡ 128) ⌝ }
     ensures { λ _. ⌜ (Short (now (lengths .entry)) → Short (now (lengths .exit))) ⌝ }
+    ensures { λ r. ⌜ Told (now (modules .entry)) (now (buffers .entry)) (now (lengths .entry)) r ⌝ }
 {
     let end = token_end(text, 0);
     let k = keyword_of(text, end);
@@ -449,6 +456,7 @@ fn command(text: &[u8], modules: &mut [u32], buffers: &mut [u32], lengths: &mut 
 // Reads and carries out one line, without its newline, on 32 modules, 128 buffers and their lengths.
 pub fn line(text: &[u8], modules: &mut [u32], buffers: &mut [u32], lengths: &mut [u32]) -> Done
     ensures { λ _. ⌜ (Short (now (lengths .entry)) → Short (now (lengths .exit))) ⌝ }
+    ensures { λ r. ⌜ Told (now (modules .entry)) (now (buffers .entry)) (now (lengths .entry)) r ⌝ }
 {
     if modules.len() != 416 {
         return Done::Unreadable;
