@@ -52,7 +52,7 @@ fn schedule(block: &[u8; BLOCK_BYTES]) -> [u32; 64] {
 }
 
 /// The compression of one block (FIPS 180-4, 6.2.2, steps 2 to 4).
-fn compress(state: &mut [u32; 8], block: &[u8; BLOCK_BYTES]) {
+pub fn compress(state: &mut [u32; 8], block: &[u8; BLOCK_BYTES]) {
     let w = schedule(block);
     let [mut a, mut b, mut c, mut d, mut e, mut f, mut g, mut h] = *state;
     for t in 0..64 {

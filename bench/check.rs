@@ -1,0 +1,242 @@
+//! Times the proved validity check beside the second implementation's, on valid bundles of 33 statements at n 31.
+//!   check         prints the table
+//!   check ours    runs the proved check alone, for a profiler
+
+use std::hint::black_box;
+
+use second::check::{check, is_backed};
+use second::group::size_in_range;
+use second::hmac::{bytes_of, Key};
+use second::samples::{both_values, bundle, none_votes, proposals, v, D, KEY, R};
+use second::sha256::{compress, BLOCK_BYTES};
+use second::words::{Bundle, Statement, NONE};
+
+const N: u32 = 31;
+const ROUNDS: usize = 200;
+const CALLS: usize = 10;
+
+/// What one check compresses where the key is prepared once: a pair of blocks for the key, and one for each of the 33 statements.
+const PAIRS: usize = 1 + 33;
+
+// The proved functions. A slice is a pointer and a length, a reference to an array a pointer.
+#[link(name = "check_exports", kind = "static")]
+extern "C" {
+    fn check_exports_check(key: *const u8, n: u32, ws: *const u32, count: usize) -> u32;
+    fn check_exports_compress(state: *mut u32, block: *const u32);
+}
+
+#[repr(C)]
+struct Timespec {
+    seconds: i64,
+    nanoseconds: i64,
+}
+
+extern "C" {
+    fn clock_gettime(clock: i32, time: *mut Timespec) -> i32;
+}
+
+/// Nanoseconds of processor time, so that what else runs on the machine counts less.
+fn now() -> f64 {
+    const CLOCK_PROCESS_CPUTIME_ID: i32 = 2;
+    let mut time = Timespec {
+        seconds: 0,
+        nanoseconds: 0,
+    };
+    unsafe { clock_gettime(CLOCK_PROCESS_CPUTIME_ID, &mut time) };
+    time.seconds as f64 * 1e9 + time.nanoseconds as f64
+}
+
+fn ours(key: &[u8], words: &[u32]) -> u32 {
+    assert_eq!(key.len(), 32);
+    unsafe { check_exports_check(key.as_ptr(), N, words.as_ptr(), words.len()) }
+}
+
+// ---- the second implementation with the key prepared once --------------------------------------
+
+const INITIAL: [u32; 8] = [
+    0x6a09e667, 0xbb67ae85, 0x3c6ef372, 0xa54ff53a, 0x510e527f, 0x9b05688c, 0x1f83d9ab, 0x5be0cd19,
+];
+
+/// The state after the block of a key of 32 bytes with a pad.
+fn padded_key(key: &Key, pad: u8) -> [u32; 8] {
+    let mut block = [pad; BLOCK_BYTES];
+    for (byte, k) in block.iter_mut().zip(bytes_of(key)) {
+        *byte ^= k;
+    }
+    let mut state = INITIAL;
+    compress(&mut state, &block);
+    state
+}
+
+/// The state after a key's block and a message that ends in the next block.
+fn closed(keyed: [u32; 8], message: &[u32]) -> [u32; 8] {
+    let mut block = [0; BLOCK_BYTES];
+    for (bytes, word) in block.chunks_exact_mut(4).zip(message) {
+        bytes.copy_from_slice(&word.to_be_bytes());
+    }
+    block[4 * message.len()] = 0x80;
+    let bits = 8 * (BLOCK_BYTES + 4 * message.len()) as u64;
+    block[BLOCK_BYTES - 8..].copy_from_slice(&bits.to_be_bytes());
+    let mut state = keyed;
+    compress(&mut state, &block);
+    state
+}
+
+fn prepared_check(key: &Key, n: u32, words: &[u32]) -> u32 {
+    if !size_in_range(n) {
+        return 2;
+    }
+    let Some(Bundle { main, certificate }) = Bundle::read(words, n) else {
+        return 3;
+    };
+    if !certificate.iter().all(|s| s.question == main.question) {
+        return 4;
+    }
+    let (inner, outer) = (padded_key(key, 0x36), padded_key(key, 0x5c));
+    let verifies =
+        |s: &Statement| closed(outer, &closed(inner, &[s.word0(), s.question])) == s.code;
+    if !verifies(&main) || !certificate.iter().all(verifies) {
+        return 5;
+    }
+    if !is_backed(n, &main, &certificate) {
+        return 6;
+    }
+    0
+}
+
+// ---- what is timed -----------------------------------------------------------------------------
+
+struct Case {
+    name: &'static str,
+    words: Vec<u32>,
+}
+
+fn cases() -> Vec<Case> {
+    let second_group = bundle(
+        v(1, 3, 1),
+        &[
+            proposals(N, 3, 1, &[D, R], true),
+            proposals(N, 2, 1, &[D, R], false),
+        ],
+    );
+    let none = bundle(
+        v(1, 3, NONE),
+        &[both_values(N, 3, &[R], true), none_votes(N, 2, false)],
+    );
+    vec![
+        Case {
+            name: "rule 5, two groups",
+            words: second_group.words(),
+        },
+        Case {
+            name: "rule 7",
+            words: none.words(),
+        },
+    ]
+}
+
+/// Nanoseconds for a call.
+fn timed(mut call: impl FnMut()) -> f64 {
+    let from = now();
+    for _ in 0..CALLS {
+        call();
+    }
+    (now() - from) / CALLS as f64
+}
+
+/// The checks that are compared. All must answer the same before they are timed.
+fn agree(key: &[u8], case: &Case) {
+    let mut changed = vec![case.words.clone()];
+    for at in 0..case.words.len() {
+        let mut words = case.words.clone();
+        words[at] ^= 1;
+        changed.push(words);
+    }
+    for (i, words) in changed.iter().enumerate() {
+        let answer = ours(key, words);
+        assert_eq!(answer, check(&KEY, N, words), "{}", case.name);
+        assert_eq!(answer, prepared_check(&KEY, N, words), "{}", case.name);
+        assert_eq!(answer == 0, i == 0, "{}", case.name);
+    }
+}
+
+/// The compressions of one check alone: pairs, in each of which the second waits for the first.
+fn our_compressions(first: &[u32; 16], second: &mut [u32; 16]) {
+    for _ in 0..PAIRS {
+        let mut state = black_box(INITIAL);
+        unsafe { check_exports_compress(state.as_mut_ptr(), first.as_ptr()) };
+        second[..8].copy_from_slice(&state);
+        state = black_box(INITIAL);
+        unsafe { check_exports_compress(state.as_mut_ptr(), second.as_ptr()) };
+        black_box(state);
+    }
+}
+
+fn main() {
+    let key = bytes_of(&KEY);
+    let cases = cases();
+    if std::env::args().nth(1).as_deref() == Some("ours") {
+        for case in cases.iter().cycle().take(200_000) {
+            assert_eq!(ours(&key, &case.words), 0);
+        }
+        return;
+    }
+    for case in &cases {
+        assert_eq!(case.words.len(), 331);
+        agree(&key, case);
+    }
+    let mut best = vec![[f64::INFINITY; 4]; cases.len()];
+    let mut shares = vec![Vec::new(); cases.len()];
+    let first = [7; 16];
+    let mut second = [7; 16];
+    for _ in 0..ROUNDS {
+        for ((case, best), shares) in cases.iter().zip(&mut best).zip(&mut shares) {
+            let words = &case.words;
+            let times = [
+                timed(|| assert_eq!(ours(black_box(&key), black_box(words)), 0)),
+                timed(|| our_compressions(&first, &mut second)),
+                timed(|| assert_eq!(check(black_box(&KEY), N, black_box(words)), 0)),
+                timed(|| assert_eq!(prepared_check(black_box(&KEY), N, black_box(words)), 0)),
+            ];
+            shares.push(times[1] / times[0]);
+            for (best, time) in best.iter_mut().zip(times) {
+                *best = best.min(time);
+            }
+        }
+    }
+
+    println!("Checking a valid bundle of 33 statements at n 31: nanoseconds of processor time, the best of {ROUNDS} rounds. Ratios are of speed.");
+    println!("Compressions: the {} of one check alone. Share: that time in the check's, the median of the rounds.", 2 * PAIRS);
+    println!();
+    let columns = [
+        "",
+        "ours",
+        "Rust",
+        "Rust, key",
+        "ours/",
+        "ours/",
+        "compres-",
+        "",
+    ];
+    row(columns.map(String::from));
+    let columns = ["", "", "", "prepared", "Rust", "prepared", "sions", "share"];
+    row(columns.map(String::from));
+    let measured = best.into_iter().zip(&mut shares);
+    for (case, ([ours, compressions, rust, prepared], shares)) in cases.iter().zip(measured) {
+        shares.sort_by(f64::total_cmp);
+        row([
+            case.name.into(),
+            format!("{ours:.0}"),
+            format!("{rust:.0}"),
+            format!("{prepared:.0}"),
+            format!("{:.2}", rust / ours),
+            format!("{:.2}", prepared / ours),
+            format!("{compressions:.0}"),
+            format!("{:.1}%", 100.0 * shares[ROUNDS / 2]),
+        ]);
+    }
+}
+
+fn row([name, a, b, c, d, e, f, g]: [String; 8]) {
+    println!("{name:26} {a:>10} {b:>10} {c:>10} | {d:>6} {e:>8} | {f:>10} {g:>7}");
+}

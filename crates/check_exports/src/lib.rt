@@ -1,0 +1,25 @@
+// The validity check for programs in C or Rust (`rt staticlib check_exports`), and the compression that its time goes into. A slice is passed
+// as a pointer and a length, a reference to an array as a pointer.
+ghost use mathlib.Core.Path.{_≡_};
+ghost use Rattle.compression.specs.Compression.{compressed};
+ghost use Rattle.certificate.specs.Check.{checked};
+
+// The validity check of the words under a key and n.
+#[no_mangle]
+pub extern "C" fn check_exports_check(key: &[u8; 32], n: u32, ws: &[u32]) -> u32
+    ensures { λ r. ⌜ r ≡ checked (now (key .entry)) n (now (ws .entry)) ⌝ }
+{
+    let k = *key;
+    certificate::check(k, n, ws)
+}
+
+// The state after one block of sixteen words, in its place.
+#[no_mangle]
+pub extern "C" fn check_exports_compress(state: &mut [u32; 8], block: &[u32; 16])
+    ensures { λ _. ⌜ now (state .exit) ≡ compressed (now (state .entry)) (now (block .entry)) ⌝ }
+{
+    let s = *state;
+    let b = *block;
+    let r = compression::compress(s, b);
+    *state = r;
+}
