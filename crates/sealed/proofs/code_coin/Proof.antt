@@ -1,0 +1,54 @@
+-- The refusal and the answer are those of the definition, since the tests and the value are.
+use mathlib.Core.Path.{sym, _∙_}
+use mathlib.Core.Bool.{_&&_}
+use lib.Dec.{ltb}
+use Rattle.sealed.proofs.Coding.{ten-words, coin-is, by}
+use borrow.Author.Needs.{needs}
+use Rattle.sealed.proofs.code_coin.Statement.{statement}
+use Rattle.sealed.proofs.code_coin.Tie as tie
+
+word-requires : tie.Need-word-requires
+word-requires c κs = search needs
+
+read-fields-requires : tie.Need-read-fields-requires
+read-fields-requires c κs = search needs
+
+fits-requires : tie.Need-fits-requires
+fits-requires c κs = search needs
+
+is-toss-requires : tie.Need-is-toss-requires
+is-toss-requires c κs = search needs
+
+refusal-requires : tie.Need-refusal-requires
+refusal-requires c κs = search needs
+
+finish-requires : tie.Need-finish-requires
+finish-requires c κs = λ h.
+    let k = c .before in
+    let a = c .before .before .before .before .before .before .before .before .before .args in
+    ten-words (a .m) (a .ws .now) (k .before .before .fits2 .result && ltb (a .coin) 2) (k .before .is-toss .result) (sym (k .refusal .ensures) ∙ h)
+
+same-length : tie.Need-same-length
+same-length c = search needs
+
+returns : tie.Need-returns
+returns c =
+    let k = c .before .before .before .before in
+    let r = k .before .before .before .before in
+    let a = c .before .before .before .before .before .before .before .before .before .before .before .before .args in
+    by _ _ _ _ _
+    (coin-is (a .m) (a .ws .now) (a .coin) _ _ _ _ _ (r .before .word .ensures) (r .read-fields .ensures) (k .before .before .fits2 .ensures) (k .before .is-toss .ensures) (k .refusal .ensures))
+    (c .before .before .finish .ensures)
+
+pub code-coin-spec : {M : Type 1} → statement M
+code-coin-spec =
+    tie.close
+    (tie.spec
+    word-requires
+    read-fields-requires
+    fits-requires
+    is-toss-requires
+    refusal-requires
+    finish-requires
+    same-length
+    returns)
