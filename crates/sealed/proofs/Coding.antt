@@ -1,6 +1,6 @@
 -- Laws that the coding functions' proofs cite: what the code reads, tests and stores on the way makes the answer as it is defined.
 use Prim.Native.Nat.{ℕ}
-use mathlib.Core.Bool.{Bool, true, not, _&&_}
+use mathlib.Core.Bool.{Bool, true, false, not, _&&_}
 use mathlib.Core.List.{List, [], _∷_}
 use mathlib.Core.Path.{_≡_, refl, sym, ap, _∙_}
 use lib.Dec.{eqb, ltb}
@@ -14,11 +14,12 @@ use Rattle.laws.specs.Refusals.{All, test, first-failed, all-passed}
 use Rattle.format.specs.declared.Fields.{Fields}
 use Rattle.format.specs.declared.Step.{Step}
 use Rattle.format.specs.Numbers.{kind-P, R-GET, statement-words, out-of-range, malformed, wrong-code, not-above}
-use Rattle.format.specs.Words.{formed, fields-of, step-in}
+use Rattle.format.specs.Group.{size-fits}
+use Rattle.format.specs.Words.{of-group, formed, fields-of, step-in}
 use Rattle.format.specs.Statement.{Statement, statement, written, step, hmac-code}
 use Rattle.sealed.specs.declared.Module.{Module}
-use Rattle.sealed.specs.Sealed.{above, module-fits, advanced, Coded, is-toss, signed, with-value, coding, coding-tests, coding-plain, coding-coin}
-use Rattle.sealed.specs.Answers.{Answered, word-with, lent-with}
+use Rattle.sealed.specs.Sealed.{above, making, fresh, no-module, module-fits, advanced, Coded, is-toss, signed, with-value, coding, coding-tests, coding-plain, coding-coin}
+use Rattle.sealed.specs.Answers.{Answered, Tested, word-with, lent-with}
 
 -- the same, by its words
 pub lent-words : (key ws : List ℕ) (v : ℕ)
@@ -27,8 +28,8 @@ unfolding lent-with word-with
 lent-words key ws v = refl
 
 -- what is not refused has ten words
-pub ten-words : (m : Module) (ws : List ℕ) (range way : Bool) → first-failed (test range out-of-range ∷ coding-tests m ws way) ≡ 0 → length ws ≡ statement-words
-ten-words m ws range way h =
+ten : (m : Module) (ws : List ℕ) (range way : Bool) → first-failed (test range out-of-range ∷ coding-tests m ws way) ≡ 0 → length ws ≡ statement-words
+ten m ws range way h =
     let all : All (λ t. t .ok ≡ true) (test range out-of-range ∷ coding-tests m ws way) = all-passed (test range out-of-range ∷ coding-tests m ws way) (omega arith, (omega arith, (omega arith, (omega arith, tt)))) h in
     let shape = both (eqb (length ws) statement-words && formed (m .n) (fields-of (getD ws 0 0))) way (all .1 .0) .0 in
     eqb-true (length ws) statement-words (both (eqb (length ws) statement-words) (formed (m .n) (fields-of (getD ws 0 0))) shape .0)
@@ -54,13 +55,14 @@ pub refusal-is : (m : Module) (ws : List ℕ) (range way : Bool) (w q : ℕ) (f 
     ∷ test (eqb (f .station) (m .number)) wrong-code
     ∷ test later not-above
     ∷ [])
-    → r ≡ first-failed (test range out-of-range ∷ coding-tests m ws way)
+    → Tested m ws range way r
 unfolding fields-of step-in step
 refusal-is m ws range way w q f shape s later r w-is f-is q-is shape-is s-is later-is r-is =
     let fe : f ≡ fields-of (getD ws 0 0) = f-is ∙ ap fields-of w-is in
     let se : s ≡ step-in (fields-of (getD ws 0 0)) = s-is ∙ ap step-in fe in
     let we : shape ≡ formed (m .n) (fields-of (getD ws 0 0)) = shape-is ∙ ap (formed (m .n)) fe in
     let le : later ≡ above (m .last) (getD ws 1 0) (step (statement ws 0)) = later-is ∙ (λ i. above (m .last) (q-is i) (se i .0)) in
+    let re : r ≡ first-failed (test range out-of-range ∷ coding-tests m ws way) =
     r-is
     ∙ (λ i.
     first-failed
@@ -68,7 +70,8 @@ refusal-is m ws range way w q f shape s later r w-is f-is q-is shape-is s-is lat
     ∷ test (eqb (length ws) statement-words && we i && way) malformed
     ∷ test (eqb (fe i .station) (m .number)) wrong-code
     ∷ test (le i) not-above
-    ∷ []))
+    ∷ [])) in
+    record { number-is = re; ten-words = λ z. ten m ws range way (sym re ∙ z) }
 
 -- the lent words, from what is stored: word 0 with the value, and the code of words 0 and 1
 pub signed-is : (key ws code last : List ℕ) (v w : ℕ) → length ws ≡ statement-words → w ≡ word-with (getD ws 0 0) v
@@ -119,3 +122,12 @@ coin-is m ws coin w f fit toss number w-is f-is fit-is toss-is n-is =
 pub by : (x y : Coded) (number : ℕ) (after : Module) (lent : List ℕ) → x ≡ y → Answered x number after lent → Answered y number after lent
 by x y number after lent e a =
     record { number-is = a .number-is ∙ ap (λ (z : Coded). z .number) e; after-is = a .after-is ∙ ap (λ (z : Coded). z .after) e; lent-is = a .lent-is ∙ ap (λ (z : Coded). z .lent) e }
+
+-- making, by its test
+pub makes : (key : List ℕ) (n number : ℕ) → (size-fits n && of-group n number) ≡ true → making key n number ≡ record { number = 0; made = fresh key n number }
+unfolding making pick
+makes key n number h = rw h
+
+pub makes-none : (key : List ℕ) (n number : ℕ) → (size-fits n && of-group n number) ≡ false → making key n number ≡ record { number = out-of-range; made = no-module }
+unfolding making pick
+makes-none key n number h = rw h

@@ -11,8 +11,8 @@ ghost use Rattle.laws.specs.Refusals.{test, first-failed};
 ghost use Rattle.hmac.specs.Hmac.{prepared, code-from};
 ghost use Rattle.format.specs.Numbers.{kind-P, R-GET, statement-words, out-of-range, malformed, wrong-code, not-above};
 ghost use Rattle.format.specs.Statement.{statement, hmac-code};
-ghost use Rattle.sealed.specs.Sealed.{above as Above, advanced, module-fits, making, coding, coding-plain, coding-coin, coding-tests, with-value};
-ghost use Rattle.sealed.specs.Answers.{Answered, word-with, lent-with};
+ghost use Rattle.sealed.specs.Sealed.{above as Above, advanced, module-fits, making, coding, coding-plain, coding-coin, with-value};
+ghost use Rattle.sealed.specs.Answers.{Answered, Tested, word-with, lent-with};
 
 // The last pair that a module coded, or none.
 pub struct Last {
@@ -164,7 +164,7 @@ fn first(range: bool, shape: bool, own: bool, later: bool) -> u32
 
 // The refusal of words to code: what is in range and which way it is are tested by the caller.
 fn refusal(m: Module, ws: &[u32], range: bool, way: bool) -> u32
-    ensures { λ r. ⌜ r ≡ first-failed (test range out-of-range ∷ coding-tests m (now (ws .entry)) way) ⌝ }
+    ensures { λ r. ⌜ Tested m (now (ws .entry)) range way r ⌝ }
 {
     let f = format::read_fields(word(ws, 0));
     let q = word(ws, 1);

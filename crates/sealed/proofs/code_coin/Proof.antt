@@ -1,8 +1,5 @@
 -- The refusal and the answer are those of the definition, since the tests and the value are.
-use mathlib.Core.Path.{sym, _∙_}
-use mathlib.Core.Bool.{_&&_}
-use lib.Dec.{ltb}
-use Rattle.sealed.proofs.Coding.{ten-words, coin-is, by}
+use Rattle.sealed.proofs.Coding.{coin-is, by}
 use borrow.Author.Needs.{needs}
 use Rattle.sealed.proofs.code_coin.Statement.{statement}
 use Rattle.sealed.proofs.code_coin.Tie as tie
@@ -23,10 +20,7 @@ refusal-requires : tie.Need-refusal-requires
 refusal-requires c κs = search needs
 
 finish-requires : tie.Need-finish-requires
-finish-requires c κs = λ h.
-    let k = c .before in
-    let a = c .before .before .before .before .before .before .before .before .before .args in
-    ten-words (a .m) (a .ws .now) (k .before .before .fits2 .result && ltb (a .coin) 2) (k .before .is-toss .result) (sym (k .refusal .ensures) ∙ h)
+finish-requires c κs = c .before .refusal .ensures .ten-words
 
 same-length : tie.Need-same-length
 same-length c = search needs
@@ -37,7 +31,7 @@ returns c =
     let r = k .before .before .before .before in
     let a = c .before .before .before .before .before .before .before .before .before .before .before .before .args in
     by _ _ _ _ _
-    (coin-is (a .m) (a .ws .now) (a .coin) _ _ _ _ _ (r .before .word .ensures) (r .read-fields .ensures) (k .before .before .fits2 .ensures) (k .before .is-toss .ensures) (k .refusal .ensures))
+    (coin-is (a .m) (a .ws .now) (a .coin) _ _ _ _ _ (r .before .word .ensures) (r .read-fields .ensures) (k .before .before .fits2 .ensures) (k .before .is-toss .ensures) (k .refusal .ensures .number-is))
     (c .before .before .finish .ensures)
 
 pub code-coin-spec : {M : Type 1} → statement M

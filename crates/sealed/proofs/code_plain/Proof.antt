@@ -1,7 +1,5 @@
 -- The refusal and the answer are those of the definition, since the tests and the value are.
-use mathlib.Core.Path.{sym, _∙_}
-use mathlib.Core.Bool.{not}
-use Rattle.sealed.proofs.Coding.{ten-words, plain-is, by}
+use Rattle.sealed.proofs.Coding.{plain-is, by}
 use borrow.Author.Needs.{needs}
 use Rattle.sealed.proofs.code_plain.Statement.{statement}
 use Rattle.sealed.proofs.code_plain.Tie as tie
@@ -22,10 +20,7 @@ refusal-requires : tie.Need-refusal-requires
 refusal-requires c κs = search needs
 
 finish-requires : tie.Need-finish-requires
-finish-requires c κs = λ h.
-    let k = c .before in
-    let a = c .before .before .before .before .before .before .before .before .before .args in
-    ten-words (a .m) (a .ws .now) (k .before .before .fits2 .result) (not (k .before .is-toss .result)) (sym (k .refusal .ensures) ∙ h)
+finish-requires c κs = c .before .refusal .ensures .ten-words
 
 same-length : tie.Need-same-length
 same-length c = search needs
@@ -36,7 +31,7 @@ returns c =
     let r = k .before .before .before .before in
     let a = c .before .before .before .before .before .before .before .before .before .before .before .before .args in
     by _ _ _ _ _
-    (plain-is (a .m) (a .ws .now) _ _ _ _ _ (r .before .word .ensures) (r .read-fields .ensures) (k .before .before .fits2 .ensures) (k .before .is-toss .ensures) (k .refusal .ensures))
+    (plain-is (a .m) (a .ws .now) _ _ _ _ _ (r .before .word .ensures) (r .read-fields .ensures) (k .before .before .fits2 .ensures) (k .before .is-toss .ensures) (k .refusal .ensures .number-is))
     (c .before .before .finish .ensures)
 
 pub code-plain-spec : {M : Type 1} → statement M
