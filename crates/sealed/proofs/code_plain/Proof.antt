@@ -1,0 +1,48 @@
+-- The refusal and the answer are those of the definition, since the tests and the value are.
+use Rattle.sealed.proofs.Coding.{plain-is, by}
+use borrow.Author.Needs.{needs}
+use Rattle.sealed.proofs.code_plain.Statement.{statement}
+use Rattle.sealed.proofs.code_plain.Tie as tie
+
+word-requires : tie.Need-word-requires
+word-requires c κs = search needs
+
+read-fields-requires : tie.Need-read-fields-requires
+read-fields-requires c κs = search needs
+
+fits-requires : tie.Need-fits-requires
+fits-requires c κs = search needs
+
+is-toss-requires : tie.Need-is-toss-requires
+is-toss-requires c κs = search needs
+
+refusal-requires : tie.Need-refusal-requires
+refusal-requires c κs = search needs
+
+finish-requires : tie.Need-finish-requires
+finish-requires c κs = c .before .refusal .ensures .ten-words
+
+same-length : tie.Need-same-length
+same-length c = search needs
+
+returns : tie.Need-returns
+returns c =
+    let k = c .before .before .before .before in
+    let r = k .before .before .before .before in
+    let a = c .before .before .before .before .before .before .before .before .before .before .before .before .args in
+    by _ _ _ _ _
+    (plain-is (a .m) (a .ws .now) _ _ _ _ _ (r .before .word .ensures) (r .read-fields .ensures) (k .before .before .fits2 .ensures) (k .before .is-toss .ensures) (k .refusal .ensures .number-is))
+    (c .before .before .finish .ensures)
+
+pub code-plain-spec : {M : Type 1} → statement M
+code-plain-spec =
+    tie.close
+    (tie.spec
+    word-requires
+    read-fields-requires
+    fits-requires
+    is-toss-requires
+    refusal-requires
+    finish-requires
+    same-length
+    returns)

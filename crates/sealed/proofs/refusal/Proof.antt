@@ -1,0 +1,47 @@
+-- The tests on what was read are those of the definition.
+use Rattle.sealed.proofs.Coding.{refusal-is}
+use borrow.Author.Needs.{needs}
+use Rattle.sealed.proofs.refusal.Statement.{statement}
+use Rattle.sealed.proofs.refusal.Tie as tie
+
+word-requires : tie.Need-word-requires
+word-requires c κs = search needs
+
+read-fields-requires : tie.Need-read-fields-requires
+read-fields-requires c κs = search needs
+
+word-requires-2 : tie.Need-word-requires-2
+word-requires-2 c κs = search needs
+
+well-formed-requires : tie.Need-well-formed-requires
+well-formed-requires c κs = search needs
+
+step-of-requires : tie.Need-step-of-requires
+step-of-requires c κs = search needs
+
+above-requires : tie.Need-above-requires
+above-requires c κs = search needs
+
+first-requires : tie.Need-first-requires
+first-requires c κs = search needs
+
+returns : tie.Need-returns
+returns c =
+    let k = c .before in
+    let b = k .before .before .before .before in
+    let r = b .before .before .before in
+    let a = r .before .before .before .args in
+    refusal-is (a .m) (a .ws .now) (a .range) (a .way) _ _ _ _ _ _ _ (r .before .word .ensures) (r .read-fields .ensures) (b .before .before .word2 .ensures) (b .well-formed .ensures) (k .before .step-of .ensures) (k .above .ensures) (c .first .ensures)
+
+pub refusal-spec : {M : Type 1} → statement M
+refusal-spec =
+    tie.close
+    (tie.spec
+    word-requires
+    read-fields-requires
+    word-requires-2
+    well-formed-requires
+    step-of-requires
+    above-requires
+    first-requires
+    returns)
