@@ -89,7 +89,7 @@ fn some_with(ws: &[u32], at: usize, have: usize, value: Which, flag: Which) -> b
 }
 
 // The round before, as the definitions count it: 0 before round 0.
-fn round_before(r: u32) -> u32
+pub fn round_before(r: u32) -> u32
     ensures { λ b. ⌜ b ≡ r - 1 ⌝ }
 {
     if r == 0 { 0 } else { r - 1 }

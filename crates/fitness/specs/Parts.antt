@@ -19,6 +19,7 @@ use Rattle.format.specs.Words.{fields-of, of-group}
 use Rattle.format.specs.Statement.{Statement, statement}
 use Rattle.certificate.specs.declared.Group.{Group}
 use Rattle.certificate.specs.Rules.{some, none-votes}
+use Rattle.certificate.specs.Parts.{and-pick}
 use Rattle.station.specs.declared.Stage.{Stage}
 use Rattle.station.specs.declared.Stage.the-variants.{Gathering, Proposing, Voting}
 use Rattle.station.specs.declared.Station.{Station}
@@ -76,11 +77,6 @@ pub second-by : (g : Stage) → supplies-second g ≡ supplies 1 g
 second-by g = λ i s. supplies-is-second g s i
 
 -- ---- one turn of each loop
-and-pick : (a b : Bool) → (a && b) ≡ pick (not a) false b
-unfolding pick
-and-pick true b = refl
-and-pick false b = refl
-
 module _ (ws : List ℕ) where
   -- words that are zero: those from a place to an end
   pub zeros-start : (at k : ℕ) → zeros ws at k ≡ zeros ws at (at + k - at)

@@ -132,13 +132,7 @@ fn lowest_supplier(slots: &[u32; 310], heard: u32, stage: Stage, get: u32) -> Su
     }
 }
 
-// The round before, as the definitions count it: 0 before round 0.
-fn round_before(r: Round) -> u32
-    ensures { λ b. ⌜ b ≡ r .0 - 1 ⌝ }
-{
-    if r.0 == 0 { 0 } else { r.0 - 1 }
-}
-
+// The group that asks for nothing.
 fn no_group() -> Group
     ensures { λ g. ⌜ g ≡ no-group ⌝ }
 {
@@ -157,12 +151,10 @@ fn first_of_round(n: u32, stage: Stage, v: u32) -> Group
 {
     match stage {
         Stage::Gathering => no_group(),
-        Stage::Proposing(r, _) => certificate::proposals(
-            n,
-            round_before(r),
-            Which::Only(v),
-            Which::Any,
-        ),
+        Stage::Proposing(r, _) => {
+            let before = certificate::round_before(r.0);
+            certificate::proposals(n, before, Which::Only(v), Which::Any)
+        }
         Stage::Voting(r) => certificate::proposals(n, r.0, Which::Only(v), Which::Any),
     }
 }
@@ -173,8 +165,8 @@ fn round_before_in(stage: Stage) -> u32
 {
     match stage {
         Stage::Gathering => 0,
-        Stage::Proposing(r, _) => round_before(r),
-        Stage::Voting(r) => round_before(r),
+        Stage::Proposing(r, _) => certificate::round_before(r.0),
+        Stage::Voting(r) => certificate::round_before(r.0),
     }
 }
 
