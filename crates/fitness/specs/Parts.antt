@@ -1,7 +1,7 @@
 -- The test of a station, in the parts that the code has: what each part answers, and what one turn of each loop finds.
 use Prim.Native.Nat.{ℕ, suc, _+_, _-_, _*_, _^_, _≤_, _<_}
 use mathlib.Core.Bool.{Bool, true, false, not, _&&_, _||_}
-use mathlib.Core.List.{List, [], _∷_}
+use mathlib.Core.List.{List}
 use mathlib.Core.Path.{_≡_, refl, sym, ap, _∙_}
 use native.Mathlib.Omega.{arith}
 use native.Mathlib.Numerals.{add-one}
@@ -113,79 +113,17 @@ module _ (n question step set : ℕ) (slots : List ℕ) where
       let e : sites - i ≡ 0 = omega arith in
       rw e
 
--- the first of the held statements that supplies a group
-module _ (set : ℕ) (slots : List ℕ) (get : ℕ) (g : Stage) where
-  abbrev from : ℕ → List Statement
-  from i = held-in set slots i (sites - i)
+-- what a read slot's statement supplies
+pub supplies-read : (get : ℕ) (g : Stage) (slots : List ℕ) (i : ℕ) (f : Fields) → f ≡ fields-of (getD slots (i * 10) 0)
+    → supplies-by get g (f .value) (f .flag) ≡ supplies get g (statement slots (i * 10))
+unfolding fields-of
+supplies-read get g slots i f e = rw e
 
-  abbrev here-supplies : Fields → ℕ → Bool
-  here-supplies f i = bit set i && supplies-by get g (f .value) (f .flag)
-
-  held-turn : (i : ℕ) → i < sites → from i ≡ pick (bit set i) (statement slots (i * 10) ∷ from (i + 1)) (from (i + 1))
-  unfolding held-in
-  held-turn i h =
-      let e : sites - i ≡ suc (sites - (i + 1)) = omega arith in
-      rw (e, add-one i)
-
-  module _ (i : ℕ) (f : Fields) (h : i < sites) (e : f ≡ fields-of (getD slots (i * 10) 0)) where
-    pub some-turn : some (supplies get g) (from i) ≡ pick (here-supplies f i) true (some (supplies get g) (from (i + 1)))
-    unfolding fields-of some pick
-    some-turn = rw (e, held-turn i h) (go (bit set i) (supplies get g (statement slots (i * 10))) refl)
-      where
-        go : (b c : Bool) → supplies get g (statement slots (i * 10)) ≡ c
-            → some (supplies get g) (pick b (statement slots (i * 10) ∷ from (i + 1)) (from (i + 1))) ≡ pick (b && c) true (some (supplies get g) (from (i + 1)))
-        go true true e = rw e
-        go true false e = rw e
-        go false c e = refl
-
-    pub leading-turn : leading (supplies get g) (from i) ≡ pick (here-supplies f i) (f .value) (leading (supplies get g) (from (i + 1)))
-    unfolding fields-of leading pick
-    leading-turn = rw (e, held-turn i h) (go (bit set i) (supplies get g (statement slots (i * 10))) refl)
-      where
-        go : (b c : Bool) → supplies get g (statement slots (i * 10)) ≡ c
-            → leading (supplies get g) (pick b (statement slots (i * 10) ∷ from (i + 1)) (from (i + 1)))
-            ≡ pick (b && c) (statement slots (i * 10) .value) (leading (supplies get g) (from (i + 1)))
-        go true true e = rw e
-        go true false e = rw e
-        go false c e = refl
-
-  module _ (i : ℕ) (h : sites ≤ i) where
-    held-end : from i ≡ []
-    unfolding held-in
-    held-end =
-        let e : sites - i ≡ 0 = omega arith in
-        rw e
-
-    pub some-end : false ≡ some (supplies get g) (from i)
-    unfolding some
-    some-end = rw held-end
-
-    pub leading-end : 2 ≡ leading (supplies get g) (from i)
-    unfolding leading
-    leading-end = rw held-end
+pub value-read : (slots : List ℕ) (i : ℕ) (f : Fields) → f ≡ fields-of (getD slots (i * 10) 0) → f .value ≡ statement slots (i * 10) .value
+unfolding fields-of
+value-read slots i f e = rw e
 
 -- ---- the groups
-first-size : (n : ℕ) (g : Stage) (v : ℕ) → n ≤ 31 → first-of-round n g v .size ≤ 16
-first-size n Gathering v h = omega arith
-first-size n (Proposing r f) v h = omega arith
-first-size n (Voting r) v h = omega arith
-
-pub kept-first-size : (n : ℕ) (g : Stage) (l : List Statement) → n ≤ 31 → kept-first n g l .size ≤ 16
-unfolding kept-first pick
-kept-first-size n g l h = go (some (supplies-first g) l)
-  where
-    go : (b : Bool) → pick b (first-of-round n g (leading (supplies-first g) l)) no-group .size ≤ 16
-    go true = first-size n g (leading (supplies-first g) l) h
-    go false = omega arith
-
-pub kept-second-size : (n : ℕ) (g : Stage) (l : List Statement) → n ≤ 31 → kept-second n g l .size ≤ 16
-unfolding kept-second pick
-kept-second-size n g l h = go (some (supplies-second g) l)
-  where
-    go : (b : Bool) → pick b (none-votes n (round-in g - 1)) no-group .size ≤ 16
-    go true = omega arith
-    go false = omega arith
-
 module _ (n : ℕ) (g : Stage) (l : List Statement) (found : Bool) (k : Group) where
   pub first-found : (v : ℕ) → found ≡ some (supplies 0 g) l → v ≡ leading (supplies 0 g) l → found ≡ true → k ≡ first-of-round n g v → k ≡ kept-first n g l
   unfolding kept-first

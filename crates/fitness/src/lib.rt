@@ -39,10 +39,12 @@ pub fn step_in(stage: Stage) -> Step
 }
 
 // Whether the set has the number i.
-fn is_heard(heard: u32, i: u32) -> bool
-    requires { ⌜ i < 32 ⌝ }
+pub fn is_heard(heard: u32, i: u32) -> bool
     ensures { λ r. ⌜ r ≡ bit heard i ⌝ }
 {
+    if 31 < i {
+        return false;
+    }
     (heard >> i) % 2 == 1
 }
 

@@ -6,7 +6,8 @@ use Rattle.laws.specs.Pick.{pick, here, skip}
 use Rattle.laws.specs.Sets.{bit}
 use Rattle.certificate.specs.Rules.{some}
 use Rattle.station.specs.Words.{held-in, leading, sites}
-use Rattle.fitness.specs.Parts.{supplies, supplies-by, some-turn, some-end, leading-turn, leading-end}
+use Rattle.fitness.specs.Parts.{supplies, supplies-by, supplies-read, value-read}
+use Rattle.fitness.specs.Scan.{some-turn, some-end, leading-turn, leading-end}
 use borrow.Author.Needs.{needs}
 use Rattle.fitness.proofs.lowest_supplier.Statement.{statement}
 use Rattle.fitness.proofs.lowest_supplier.Tie as tie
@@ -31,7 +32,10 @@ turn-some : (d : tie.After-read-fields Inv-loop μ-loop) →
 turn-some d =
     let a = d .before .before .before .before .args in
     let v = d .before .before .before .loop in
-    v .inv .1 ∙ some-turn (a .heard) (a .slots .now) (a .get) (a .stage) (v .i) (d .read-fields .result) (d .before .before .loop-test .taken) (d .read-fields .ensures)
+    let f = d .read-fields .result in
+    v .inv .1
+    ∙ some-turn (a .heard) (a .slots .now) (supplies (a .get) (a .stage)) (v .i) (supplies-by (a .get) (a .stage) (f .value) (f .flag)) (d .before .before .loop-test .taken)
+    (supplies-read (a .get) (a .stage) (a .slots .now) (v .i) f (d .read-fields .ensures))
 
 turn-leading : (d : tie.After-read-fields Inv-loop μ-loop) →
     let a = d .before .before .before .before .args in
@@ -43,7 +47,10 @@ turn-leading : (d : tie.After-read-fields Inv-loop μ-loop) →
 turn-leading d =
     let a = d .before .before .before .before .args in
     let v = d .before .before .before .loop in
-    v .inv .2 ∙ leading-turn (a .heard) (a .slots .now) (a .get) (a .stage) (v .i) (d .read-fields .result) (d .before .before .loop-test .taken) (d .read-fields .ensures)
+    let f = d .read-fields .result in
+    v .inv .2
+    ∙ leading-turn (a .heard) (a .slots .now) (supplies (a .get) (a .stage)) (v .i) (supplies-by (a .get) (a .stage) (f .value) (f .flag)) (d .before .before .loop-test .taken)
+    (supplies-read (a .get) (a .stage) (a .slots .now) (v .i) f (d .read-fields .ensures)) (f .value) (value-read (a .slots .now) (v .i) f (d .read-fields .ensures))
 
 test : (d : tie.After-supplies Inv-loop μ-loop) →
     let a = d .before .before .before .before .before .before .args in
@@ -96,8 +103,8 @@ returns-2 : tie.Need-returns-2 Inv-loop μ-loop
 returns-2 c =
     let a = c .before .before .args in
     let v = c .before .loop in (
-      some-end (a .heard) (a .slots .now) (a .get) (a .stage) (v .i) (c .loop-test .left) ∙ sym (v .inv .1),
-      leading-end (a .heard) (a .slots .now) (a .get) (a .stage) (v .i) (c .loop-test .left) ∙ sym (v .inv .2),
+      some-end (a .heard) (a .slots .now) (supplies (a .get) (a .stage)) (v .i) (c .loop-test .left) ∙ sym (v .inv .1),
+      leading-end (a .heard) (a .slots .now) (supplies (a .get) (a .stage)) (v .i) (c .loop-test .left) ∙ sym (v .inv .2),
     )
 
 pub lowest-supplier-spec : {M : Type 1} → statement M
