@@ -81,7 +81,8 @@ fn step_refusal(slots: &[u32; 310], heard: u32, stage: Stage, f: Fields) -> u32
     table(own.0 <= step.0, step.0 <= own.0, !held, !clash)
 }
 
-// The first refusal of a bundle given to a station, or 0. The tests go from the cheap to the dear: no code is computed for a closed station.
+// The first refusal of a bundle given to a station, or 0. The tests are made in the table's order, each only where those before it passed: no
+// code is computed for a closed station.
 pub fn refusal(m: Module, t: Station, ws: &[u32], coin: u32, room: usize) -> u32
     ensures { λ r. ⌜ r ≡ first-refusal m t (now (ws .entry)) coin room ⌝ }
 {
