@@ -108,12 +108,12 @@ parts-end ws at have i h =
     let e : have - i ≡ 0 = omega arith in
     rw e
 
-and-pick : (a b : Bool) → (a && b) ≡ pick (not a) false b
+pub and-pick : (a b : Bool) → (a && b) ≡ pick (not a) false b
 unfolding pick
 and-pick true b = refl
 and-pick false b = refl
 
-or-pick : (a b : Bool) → (a || b) ≡ pick a true b
+pub or-pick : (a b : Bool) → (a || b) ≡ pick a true b
 unfolding pick
 or-pick true b = refl
 or-pick false b = refl

@@ -30,7 +30,7 @@ pub struct Group {
     pub flag: Which,
 }
 
-fn allows(w: Which, x: u32) -> bool
+pub fn allows(w: Which, x: u32) -> bool
     ensures { λ r. ⌜ r ≡ which w x ⌝ }
 {
     match w {
@@ -40,7 +40,7 @@ fn allows(w: Which, x: u32) -> bool
 }
 
 // Whether a statement with these fields is one that the group asks for.
-fn is_wanted(g: Group, f: Fields) -> bool
+pub fn is_wanted(g: Group, f: Fields) -> bool
     ensures { λ r. ⌜ r ≡ wanted g (f .kind) (f .value) (f .flag) (f .round .0) ⌝ }
 {
     let a = g.round;
@@ -89,7 +89,7 @@ fn some_with(ws: &[u32], at: usize, have: usize, value: Which, flag: Which) -> b
 }
 
 // The round before, as the definitions count it: 0 before round 0.
-fn round_before(r: u32) -> u32
+pub fn round_before(r: u32) -> u32
     ensures { λ b. ⌜ b ≡ r - 1 ⌝ }
 {
     if r == 0 { 0 } else { r - 1 }
@@ -110,7 +110,7 @@ fn inits(n: u32, v: u32) -> Group
 }
 
 // A quorum of P.
-fn proposals(n: u32, r: u32, value: Which, flag: Which) -> Group
+pub fn proposals(n: u32, r: u32, value: Which, flag: Which) -> Group
     ensures { λ g. ⌜ g ≡ Proposals n r value flag ⌝ }
 {
     let q = format::quorum(n);
@@ -124,7 +124,7 @@ fn proposals(n: u32, r: u32, value: Which, flag: Which) -> Group
 }
 
 // A quorum of V with none.
-fn votes_for_none(n: u32, r: u32) -> Group
+pub fn votes_for_none(n: u32, r: u32) -> Group
     ensures { λ g. ⌜ g ≡ none-votes n r ⌝ }
 {
     let votes = format::quorum(n);

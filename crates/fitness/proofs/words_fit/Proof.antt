@@ -1,0 +1,62 @@
+-- Each test is one of the definition, on the station's own words.
+use Rattle.fitness.specs.Parts.{words-are}
+use borrow.Author.Needs.{needs}
+use Rattle.fitness.proofs.words_fit.Statement.{statement}
+use Rattle.fitness.proofs.words_fit.Tie as tie
+
+step-in-requires : tie.Need-step-in-requires
+step-in-requires c κs = search needs
+
+sub-at : tie.Need-sub-at
+sub-at c = search needs
+
+mul-at : tie.Need-mul-at
+mul-at c = search needs
+
+cast-at : tie.Need-cast-at
+cast-at c = search needs
+
+held-fits-requires : tie.Need-held-fits-requires
+held-fits-requires c κs = search needs
+
+mul-stage-fits : tie.Need-mul-stage-fits
+mul-stage-fits c = search needs
+
+array-read-stage-fits : tie.Need-array-read-stage-fits
+array-read-stage-fits c = search needs
+
+stage-fits-requires : tie.Need-stage-fits-requires
+stage-fits-requires c κs = search needs
+
+first-fits-requires : tie.Need-first-fits-requires
+first-fits-requires c κs = search needs
+
+second-fits-requires : tie.Need-second-fits-requires
+second-fits-requires c κs = search needs
+
+returns : tie.Need-returns
+returns c =
+    let s = c .before in
+    let f = s .before .before .before in
+    let g = f .before .before .before in
+    let h = g .before in
+    let p = h .before .before in
+    let a = p .before .before .before .before .before .before .before .args in
+    words-are (a .n) (a .number) (a .t) (h .held-fits .result) (g .stage-fits .result) (f .first-fits .result) (s .second-fits .result) (p .step-in .result .0)
+    (p .step-in .ensures) (h .held-fits .ensures) (g .stage-fits .ensures) (f .first-fits .ensures) (s .second-fits .ensures)
+
+pub words-fit-spec : {M : Type 1} → statement M
+words-fit-spec =
+    tie.close
+    (tie.spec
+    step-in-requires
+    sub-at
+    mul-at
+    cast-at
+    held-fits-requires
+    mul-stage-fits
+    array-read-stage-fits
+    stage-fits-requires
+    first-fits-requires
+    second-fits-requires
+    returns)

@@ -1,0 +1,79 @@
+-- The first refusal of a giving, and the parts of it that the code has.
+use Prim.Native.Nat.{ℕ, _-_, _*_}
+use mathlib.Core.Bool.{Bool, false, not, _&&_, _||_}
+use mathlib.Core.List.{List, [], _∷_}
+use mathlib.Core.Path.{_≡_, refl}
+use lib.Dec.{eqb, ltb, leb}
+use lib.ListN.{length, getD, replicate, length-replicate}
+use Rattle.laws.specs.Refusals.{test, first-failed}
+use Rattle.laws.specs.Sets.{bit}
+use Rattle.format.specs.Numbers.{D-GET, too-late, too-early, already-held, conflicting as conflict-number}
+use Rattle.format.specs.declared.Fields.{Fields}
+use Rattle.format.specs.Words.{fields-of, step-of}
+use Rattle.format.specs.Statement.{Statement, statement, hmac-code, step}
+use Rattle.format.specs.Bundle.{main-of}
+use Rattle.certificate.specs.declared.Which.{Which}
+use Rattle.certificate.specs.declared.Which.the-variants.{Any, Only}
+use Rattle.certificate.specs.Rules.{which, some}
+use Rattle.sealed.specs.declared.Module.{Module}
+use Rattle.station.specs.declared.Stage.{Stage}
+use Rattle.station.specs.declared.Stage.the-variants.{Gathering, Proposing, Voting}
+use Rattle.station.specs.declared.Station.{Station}
+use Rattle.station.specs.Machine.{stage-step, held-of, conflict, step-tests}
+use Rattle.station.specs.Words.{state-of, held-by}
+use Rattle.station.specs.Calls.{give-tests}
+
+-- the number of the first test that a giving fails, where the lent output has so many words; or 0
+unfoldable pub first-refusal : Module → Station → List ℕ → ℕ → ℕ → ℕ
+first-refusal m t ws coin room = first-failed (give-tests hmac-code m t ws coin (replicate room 0))
+
+-- of the lent output, the tests look at its length alone
+pub first-refusal-by-length : (m : Module) (t : Station) (ws : List ℕ) (coin : ℕ) (out : List ℕ)
+    → first-refusal m t ws coin (length out) ≡ first-failed (give-tests hmac-code m t ws coin out)
+unfolding first-refusal
+first-refusal-by-length m t ws coin out = rw (length-replicate {A = ℕ} (length out) 0)
+
+-- ---- the parts
+-- a statement with such a flag and this value
+abbrev pub having : Which → ℕ → Statement → Bool
+having w v s = which w (s .flag) && eqb (s .value) v
+
+pub having-read : (w : Which) (v : ℕ) (slots : List ℕ) (i : ℕ) (f : Fields) → f ≡ fields-of (getD slots (i * 10) 0)
+    → (which w (f .flag) && eqb (f .value) v) ≡ having w v (statement slots (i * 10))
+unfolding fields-of
+having-read w v slots i f e = rw e
+
+-- one more statement, with a value and a flag, and those of a list have both values with such a flag
+unfoldable pub both-values : Which → ℕ → ℕ → List Statement → Bool
+both-values w value flag h = ((which w flag && eqb value 0) || some (having w 0) h) && ((which w flag && eqb value 1) || some (having w 1) h)
+
+unfoldable pub conflicting : Stage → ℕ → ℕ → List Statement → Bool
+conflicting Gathering value flag h = false
+conflicting (Proposing r f) value flag h = ltb 1 (r .0) && both-values (Only D-GET) value flag h
+conflicting (Voting r) value flag h = both-values Any value flag h
+
+pub conflict-is : (g : Stage) (s : Statement) (h : List Statement) → conflicting g (s .value) (s .flag) h ≡ conflict g (s ∷ h)
+unfolding conflicting both-values conflict some
+conflict-is Gathering s h = refl
+conflict-is (Proposing r f) s h = refl
+conflict-is (Voting r) s h = refl
+
+-- the station's own tests, of a statement with these fields
+unfoldable pub step-refused : Stage → ℕ → List Statement → Fields → ℕ
+step-refused g set h f =
+    first-failed
+    (test (leb (stage-step g) (step-of (f .kind) (f .round .0))) too-late
+    ∷ test (leb (step-of (f .kind) (f .round .0)) (stage-step g)) too-early
+    ∷ test (not (bit set (f .station - 1))) already-held
+    ∷ test (not (conflicting g (f .value) (f .flag) h)) conflict-number
+    ∷ [])
+
+-- where the bit says whether the main statement's station is held, they are those of the table
+pub step-refused-is : (t : Station) (ws : List ℕ) (f : Fields) → f ≡ fields-of (getD ws 1 0)
+    → bit (t .held .heard) (f .station - 1) ≡ held-of (f .station) (held-by t)
+    → step-refused (t .stage) (t .held .heard) (held-by t) f ≡ first-failed (step-tests (state-of t) (main-of ws))
+unfolding step-refused state-of step fields-of
+step-refused-is t ws f e b =
+    let c : conflicting (t .stage) (main-of ws .value) (main-of ws .flag) (held-by t) ≡ conflict (t .stage) (main-of ws ∷ held-by t)
+    = conflict-is (t .stage) (main-of ws) (held-by t) in
+    rw (b, e, c)
