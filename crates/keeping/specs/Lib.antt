@@ -1,0 +1,4 @@
+pub mod Back
+pub mod One
+pub mod Kept
+pub mod Turns
