@@ -1,24 +1,22 @@
 -- Statements that are read from words and written again give the words that they were read from; so do the set, the slots and the groups of a station.
 use Prim.Native.Nat.{ℕ, zero, suc, _+_, _-_, _*_, _/_, _%_, _^_, _≤_, _<_}
-use mathlib.Core.Bool.{Bool, true, false, _&&_, _||_}
-use mathlib.Core.List.{List, [], _∷_, _++_}
-use mathlib.Core.Path.{_≡_, refl, sym, ap, _∙_, subst}
+use mathlib.Core.Bool.{Bool, true, false, _&&_}
+use mathlib.Core.List.{List, _∷_, _++_}
+use mathlib.Core.Path.{_≡_, refl, sym, ap, _∙_}
 use native.Mathlib.Nat.{add-mul, add-zero, div-div-eq-div-mul, div-eq-of-lt, mul-assoc, mul-comm, pow-suc}
 use native.Mathlib.Omega.{arith}
-use lib.Dec.{eqb, ltb}
+use lib.Dec.{eqb}
 use lib.ListN.{length, getD, take, drop, replicate, length-drop, take-append-drop}
 use lib.Seq.{drop-cons, drop-drop, take-add, take-all}
 use borrow.Author.Tests.{eqb-true, eqb-false}
 use Rattle.laws.specs.Pick.{pick}
-use Rattle.laws.specs.Bools.{never, both}
+use Rattle.laws.specs.Bools.{both}
 use Rattle.laws.specs.Sets.{bit}
-use Rattle.format.specs.Words.{fields-of, formed, kind-of, round-of, station-of, step-of}
+use Rattle.format.specs.Words.{fields-of, formed, station-of}
 use Rattle.format.specs.Statement.{Statement, statement, statements, word-0, written}
 use Rattle.format.specs.Bundle.{all-formed}
 use Rattle.format.specs.Layout.{covered-read}
-use Rattle.certificate.specs.Rules.{some}
 use Rattle.certificate.specs.Parts.{parts-length}
-use Rattle.station.specs.Machine.{held-of}
 use Rattle.station.specs.Words.{held-in, set-of, slot-of, slots-of, all-written, group-words, sites}
 use Rattle.station.specs.Fit.{zeros, slot-fits, slots-fit}
 

@@ -1,8 +1,8 @@
 -- A station that fits and is open has one representation: it is the station written from its own state.
-use Prim.Native.Nat.{ℕ, zero, suc, _+_, _-_, _*_, _/_, _%_, _^_, _≤_, _<_}
+use Prim.Native.Nat.{ℕ, suc, _-_, _*_, _^_, _≤_, _<_}
 use mathlib.Core.Bool.{Bool, true, false, _&&_, _||_}
-use mathlib.Core.List.{List, [], _∷_, _++_}
-use mathlib.Core.Path.{_≡_, refl, sym, ap, _∙_, subst}
+use mathlib.Core.List.{List, [], _∷_}
+use mathlib.Core.Path.{_≡_, refl, sym, ap, _∙_}
 use native.Mathlib.Nat.{div-one}
 use native.Mathlib.Omega.{arith}
 use lib.Count.{ones}
@@ -11,7 +11,7 @@ use lib.ListN.{length, getD, take, drop, replicate}
 use borrow.Author.Tests.{eqb-true, ltb-true}
 use Rattle.laws.specs.Pick.{pick}
 use Rattle.laws.specs.Bools.{never, both}
-use Rattle.laws.specs.Refusals.{All, all-map}
+use Rattle.laws.specs.Refusals.{All}
 use Rattle.laws.specs.Sets.{bit}
 use Rattle.format.specs.Numbers.{none}
 use Rattle.format.specs.Group.{quorum}
@@ -21,7 +21,7 @@ use Rattle.certificate.specs.declared.Group.{Group}
 use Rattle.certificate.specs.Check.{every}
 use Rattle.certificate.specs.Rules.{Rising, holds, some}
 use Rattle.station.specs.declared.Station.{Station}
-use Rattle.station.specs.Machine.{State, held-of, stage-step}
+use Rattle.station.specs.Machine.{held-of, stage-step}
 use Rattle.station.specs.Words.{set-of, slot-of, slots-of, group-words, sites, held-by, kept-first, kept-second, state-of}
 use Rattle.station.specs.Words as W
 use Rattle.station.specs.Fit.{slots-fit, zeros, stage-fits, group-fits, held-fits, rest-fits, fits}
@@ -77,7 +77,7 @@ no-slot j (s ∷ h) e = go (eqb (s .station) j) e (no-slot j h)
     go false e ih = ih e
 
 module _ (n number : ℕ) (t : Station) (L : Lengths t) (A : LowWords t) (F : Fit n number t) where
-  rising : Rising 0 (held-by t)
+  pub rising : Rising 0 (held-by t)
   rising =
       read-slots n (t .identity .question) (stage-step (t .stage)) (t .held .heard) (t .held .slots) sites 0 (omega (arith, L .slots)) (F .slots) .rising
 

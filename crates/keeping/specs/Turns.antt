@@ -1,7 +1,7 @@
 -- What one turn of each loop adds, what its end leaves, and what the tests before it tell: each over plain numbers and lists.
-use Prim.Native.Nat.{ℕ, zero, suc, _+_, _-_, _*_, _^_, _%_, _≤_, _<_}
-use mathlib.Core.Bool.{Bool, true, false, not, _&&_, _||_}
-use mathlib.Core.List.{List, [], _∷_, _++_}
+use Prim.Native.Nat.{ℕ, suc, _+_, _-_, _*_, _^_, _%_, _≤_, _<_}
+use mathlib.Core.Bool.{Bool, true, false, not, _&&_}
+use mathlib.Core.List.{List, _∷_, _++_}
 use mathlib.Core.Path.{_≡_, refl, sym, ap, _∙_}
 use native.Mathlib.Nat.{one-mul}
 use native.Mathlib.Numerals.{add-one}
@@ -10,7 +10,7 @@ use lib.Dec.{leb, ltb, lit<}
 use lib.ListN.{length, getD, take, drop, set, replicate, length-drop}
 use lib.Pow.{shl-exact}
 use lib.Seq.{paste, paste-suc, getD-drop}
-use borrow.Author.Tests.{leb-true, ltb-true, ltb-false, not-false}
+use borrow.Author.Tests.{leb-true, ltb-false, not-false}
 use Rattle.laws.specs.Pick.{pick}
 use Rattle.laws.specs.Bools.{both}
 use Rattle.laws.specs.Fill.{put}
@@ -21,7 +21,7 @@ use Rattle.format.specs.Statement.{Statement, statement}
 use Rattle.certificate.specs.Parts.{least, least-fits}
 use Rattle.certificate.specs.Rules.{some}
 use Rattle.station.specs.declared.Stage.{Stage}
-use Rattle.station.specs.Words.{held-in, sites}
+use Rattle.station.specs.Words.{held-in}
 use Rattle.keeping.specs.Kept.{words-kept, supplier, lower-supplier}
 
 -- a number that passed the test is a station's

@@ -4,19 +4,13 @@ use Rattle.laws.specs.Pick.{here, skip}
 use borrow.Author.Needs.{needs}
 use Rattle.keeping.proofs.group_after.Statement.{statement}
 use Rattle.keeping.proofs.group_after.Tie as tie
-use Rattle.keeping.proofs.group_after.Reads as reads
-use Rattle.keeping.proofs.group_after.Lts as lts
-use Rattle.keeping.proofs.group_from.Reads as group-from-reads
 
--- src/lib.rt:148:9
 group-from-requires : tie.Need-group-from-requires
 group-from-requires c κs = search needs
 
--- src/lib.rt:148:9
 returns : tie.Need-returns
 returns c = c .group-from .ensures ∙ here _ _ _ (c .before .if1 .taken)
 
--- src/lib.rt:144:1
 returns-2 : tie.Need-returns-2
 returns-2 c = skip _ _ _ _ (c .if1 .left) refl
 

@@ -1,6 +1,6 @@
 -- The invariant: the first i words are copied, and zeros stand behind them. Each turn copies one more.
 use Prim.Native.Nat.{_-_, _≤_}
-use mathlib.Core.Path.{_≡_, refl, sym, ap, _∙_}
+use mathlib.Core.Path.{_≡_, refl, _∙_}
 use mathlib.Core.List.{_++_}
 use native.Mathlib.Omega.{arith}
 use lib.ListN.{length, take, drop, replicate}
@@ -9,63 +9,52 @@ use Rattle.keeping.specs.Turns.{kept-room, group-turn}
 use borrow.Author.Needs.{needs}
 use Rattle.keeping.proofs.group_from.Statement.{statement}
 use Rattle.keeping.proofs.group_from.Tie as tie
-use Rattle.keeping.proofs.group_from.Reads as reads
-use Rattle.keeping.proofs.group_from.Lts as lts
-use Rattle.keeping.proofs.words_kept.Reads as words-kept-reads
 
 abbrev Inv-loop : tie.InvT-loop
-Inv-loop ws q count out₀ i₀ out i = 
+Inv-loop ws q count out₀ i₀ out i =
     (i ≤ count) × (count ≤ 160) × (count ≤ length ws - 11) × (out ≡ take i (drop 11 ws) ++ replicate (160 - i) 0)
 
 abbrev μ-loop : tie.MeasureT-loop
 μ-loop ws q count out₀ i₀ out i = count - i
 
--- src/lib.rt:96:9
 words-kept-requires : tie.Need-words-kept-requires Inv-loop μ-loop
 words-kept-requires c κs = search needs
 
--- src/lib.rt:99:5
 loop-holds : tie.Need-loop-holds Inv-loop μ-loop
 loop-holds c = let a = c .before .before .args in
     let r = kept-room (a .q) (length (a .ws .now)) in
     (search needs, omega (arith, c .words-kept .ensures), omega (arith, c .words-kept .ensures), refl)
 
--- src/lib.rt:100:21
 add-out : tie.Need-add-out Inv-loop μ-loop
 add-out c = search needs
 
--- src/lib.rt:100:18
 mul-out : tie.Need-mul-out Inv-loop μ-loop
 mul-out c = search needs
 
--- src/lib.rt:100:18
 shared-slice-read-out : tie.Need-shared-slice-read-out Inv-loop μ-loop
 shared-slice-read-out c = search needs
 
--- src/lib.rt:100:9
 mul-out-2 : tie.Need-mul-out-2 Inv-loop μ-loop
 mul-out-2 c = search needs
 
--- src/lib.rt:100:9
 array-write-out : tie.Need-array-write-out Inv-loop μ-loop
 array-write-out c = search needs
 
--- src/lib.rt:101:9
 add-i : tie.Need-add-i Inv-loop μ-loop
 add-i c = search needs
 
--- src/lib.rt:99:5
 loop-less : tie.Need-loop-less Inv-loop μ-loop
 loop-less c = search needs
 
--- src/lib.rt:99:5
 loop-again : tie.Need-loop-again Inv-loop μ-loop
 loop-again c = let a = c .before .before .before .before .before .args in
-    let v = c .before .before .loop in
-    (search needs, v .inv .1, v .inv .2,
-    group-turn (a .ws .now) (v .out) (c .before .before .before .words-kept .result) (v .i) (c .before .loop-test .taken) (v .inv .1) (v .inv .2) (v .inv .3))
+    let v = c .before .before .loop in (
+      search needs,
+      v .inv .1,
+      v .inv .2,
+      group-turn (a .ws .now) (v .out) (c .before .before .before .words-kept .result) (v .i) (c .before .loop-test .taken) (v .inv .1) (v .inv .2) (v .inv .3),
+    )
 
--- src/lib.rt:93:1
 returns : tie.Need-returns Inv-loop μ-loop
 unfolding group-from
 returns c = let a = c .before .before .before .before .args in

@@ -3,33 +3,22 @@ use Rattle.keeping.specs.Kept.{groups-with}
 use borrow.Author.Needs.{needs}
 use Rattle.keeping.proofs.groups_with.Statement.{statement}
 use Rattle.keeping.proofs.groups_with.Tie as tie
-use Rattle.keeping.proofs.groups_with.Reads as reads
-use Rattle.keeping.proofs.groups_with.Lts as lts
-use Rattle.format.proofs.quorum.Reads as quorum-reads
-use Rattle.keeping.proofs.group_after.Reads as group-after-reads
-use Rattle.keeping.proofs.replaces.Reads as replaces-reads
 
--- src/lib.rt:173:9
 quorum-requires : tie.Need-quorum-requires
 quorum-requires c κs = search needs
 
--- src/lib.rt:174:9
 replaces-requires : tie.Need-replaces-requires
 replaces-requires c κs = search needs
 
--- src/lib.rt:175:9
 replaces-requires-2 : tie.Need-replaces-requires-2
 replaces-requires-2 c κs = search needs
 
--- src/lib.rt:176:9
 group-after-requires : tie.Need-group-after-requires
 group-after-requires c κs = search needs
 
--- src/lib.rt:177:9
 group-after-requires-2 : tie.Need-group-after-requires-2
 group-after-requires-2 c κs = search needs
 
--- src/lib.rt:167:1
 returns : tie.Need-returns
 unfolding groups-with
 returns c =

@@ -1,7 +1,7 @@
 -- The invariant: the slots from here on decide the whole. Each turn is one unfolding of the definition.
-use Prim.Native.Nat.{_+_, _-_, _*_, _≤_}
+use Prim.Native.Nat.{_+_, _-_, _≤_}
 use mathlib.Core.Bool.{true, _&&_}
-use mathlib.Core.Path.{_≡_, refl, sym, ap, _∙_}
+use mathlib.Core.Path.{_≡_, refl, sym, _∙_}
 use lib.Dec.{ltb}
 use Rattle.laws.specs.Pick.{pick, here, skip}
 use Rattle.laws.specs.Sets.{bit}
@@ -12,11 +12,6 @@ use Rattle.keeping.specs.Turns.{supplier-turn, held-end}
 use borrow.Author.Needs.{needs}
 use Rattle.keeping.proofs.lower_supplier.Statement.{statement}
 use Rattle.keeping.proofs.lower_supplier.Tie as tie
-use Rattle.keeping.proofs.lower_supplier.Reads as reads
-use Rattle.keeping.proofs.lower_supplier.Lts as lts
-use Rattle.format.proofs.read_fields.Reads as read-fields-reads
-use Rattle.keeping.proofs.in_set.Reads as in-set-reads
-use Rattle.keeping.proofs.supplies.Reads as supplies-reads
 
 abbrev Inv-loop : tie.InvT-loop
 Inv-loop stage group heard slots s i₀ i =
@@ -50,51 +45,39 @@ test d = rw (d .before .in-set .ensures, d .supplies .ensures)
 loop-holds : tie.Need-loop-holds Inv-loop μ-loop
 loop-holds c = (search needs, refl)
 
--- src/lib.rt:123:19
 mul-at : tie.Need-mul-at Inv-loop μ-loop
 mul-at c = search needs
 
--- src/lib.rt:123:18
 cast-at : tie.Need-cast-at Inv-loop μ-loop
 cast-at c = search needs
 
--- src/lib.rt:124:37
 mul-read-fields : tie.Need-mul-read-fields Inv-loop μ-loop
 mul-read-fields c = search needs
 
--- src/lib.rt:124:37
 element-copy-out-read-fields : tie.Need-element-copy-out-read-fields Inv-loop μ-loop
 element-copy-out-read-fields c = search needs
 
--- src/lib.rt:124:13
 read-fields-requires : tie.Need-read-fields-requires Inv-loop μ-loop
 read-fields-requires c κs = search needs
 
--- src/lib.rt:125:13
 in-set-requires : tie.Need-in-set-requires Inv-loop μ-loop
 in-set-requires c κs = search needs
 
--- src/lib.rt:126:13
 supplies-requires : tie.Need-supplies-requires Inv-loop μ-loop
 supplies-requires c κs = search needs
 
--- src/lib.rt:128:13
 returns : tie.Need-returns Inv-loop μ-loop
 returns c = here _ _ _ (test (c .before .before) ∙ c .if1 .taken) ∙ sym (turn (c .before .before .before .before))
 
--- src/lib.rt:130:9
 add-i : tie.Need-add-i Inv-loop μ-loop
 add-i c = search needs
 
--- src/lib.rt:122:5
 loop-less : tie.Need-loop-less Inv-loop μ-loop
 loop-less c = search needs
 
--- src/lib.rt:122:5
 loop-again : tie.Need-loop-again Inv-loop μ-loop
 loop-again c = (search needs, turn (c .before .before .before .before) ∙ sym (skip _ _ _ _ (test (c .before .before) ∙ c .if1 .left) refl))
 
--- src/lib.rt:118:1
 returns-2 : tie.Need-returns-2 Inv-loop μ-loop
 returns-2 c = let a = c .before .before .args in
     let v = c .before .loop in

@@ -1,7 +1,7 @@
 -- The invariant: the first i words are in their place. Each turn puts one more.
 use Prim.Native.Nat.{ℕ, _+_, _-_, _≤_}
 use mathlib.Core.List.{List}
-use mathlib.Core.Path.{_≡_, refl, sym, ap, _∙_}
+use mathlib.Core.Path.{_≡_, ap, _∙_}
 use native.Mathlib.Omega.{arith}
 use lib.ListN.{length, getD, drop, set}
 use lib.Seq.{paste, paste-zero}
@@ -9,8 +9,6 @@ use Rattle.keeping.specs.Turns.{main-turn}
 use borrow.Author.Needs.{needs}
 use Rattle.keeping.proofs.put_main.Statement.{statement}
 use Rattle.keeping.proofs.put_main.Tie as tie
-use Rattle.keeping.proofs.put_main.Reads as reads
-use Rattle.keeping.proofs.put_main.Lts as lts
 
 abbrev Inv-loop : tie.InvT-loop
 Inv-loop at ws out₀ i₀ out i = (i ≤ 10) × (length out₀ ≡ 310) × (out ≡ paste out₀ at (drop 1 ws) i)
@@ -18,50 +16,42 @@ Inv-loop at ws out₀ i₀ out i = (i ≤ 10) × (length out₀ ≡ 310) × (out
 abbrev μ-loop : tie.MeasureT-loop
 μ-loop at ws out₀ i₀ out i = 10 - i
 
--- src/lib.rt:64:5
 loop-holds : tie.Need-loop-holds Inv-loop μ-loop
 loop-holds c = (search needs, search needs, paste-zero (c .args .slots) (c .args .at) (drop 1 (c .args .ws .now)))
 
--- src/lib.rt:65:26
 add-out : tie.Need-add-out Inv-loop μ-loop
 add-out c = search needs
 
--- src/lib.rt:65:23
 mul-out : tie.Need-mul-out Inv-loop μ-loop
 mul-out c = search needs
 
--- src/lib.rt:65:23
 shared-slice-read-out : tie.Need-shared-slice-read-out Inv-loop μ-loop
 shared-slice-read-out c = search needs
 
--- src/lib.rt:65:13
 add-out-2 : tie.Need-add-out-2 Inv-loop μ-loop
 add-out-2 c = search needs
 
--- src/lib.rt:65:9
 mul-out-2 : tie.Need-mul-out-2 Inv-loop μ-loop
 mul-out-2 c = search needs
 
--- src/lib.rt:65:9
 array-write-out : tie.Need-array-write-out Inv-loop μ-loop
 array-write-out c = search needs
 
--- src/lib.rt:66:9
 add-i : tie.Need-add-i Inv-loop μ-loop
 add-i c = search needs
 
--- src/lib.rt:64:5
 loop-less : tie.Need-loop-less Inv-loop μ-loop
 loop-less c = search needs
 
--- src/lib.rt:64:5
 loop-again : tie.Need-loop-again Inv-loop μ-loop
 loop-again c = let a = c .before .before .before .args in
-    let v = c .before .before .loop in
-    (search needs, v .inv .1, ap (λ (l : List ℕ). set l (a .at + v .i) (getD (a .ws .now) (1 + v .i) 0)) (v .inv .2)
-    ∙ main-turn (a .slots) (a .at) (a .ws .now) (v .i) (v .inv .1) (c .before .before .before .pre .0) (c .before .before .before .pre .1) (c .before .loop-test .taken))
+    let v = c .before .before .loop in (
+      search needs,
+      v .inv .1,
+      ap (λ (l : List ℕ). set l (a .at + v .i) (getD (a .ws .now) (1 + v .i) 0)) (v .inv .2)
+          ∙ main-turn (a .slots) (a .at) (a .ws .now) (v .i) (v .inv .1) (c .before .before .before .pre .0) (c .before .before .before .pre .1) (c .before .loop-test .taken),
+    )
 
--- src/lib.rt:58:1
 returns : tie.Need-returns Inv-loop μ-loop
 returns c = let e : c .before .loop .i ≡ 10 = omega arith in
     c .before .loop .inv .2 ∙ rw e

@@ -3,20 +3,13 @@ use Rattle.keeping.specs.Kept.{replacing}
 use borrow.Author.Needs.{needs}
 use Rattle.keeping.proofs.replaces.Statement.{statement}
 use Rattle.keeping.proofs.replaces.Tie as tie
-use Rattle.keeping.proofs.replaces.Reads as reads
-use Rattle.keeping.proofs.replaces.Lts as lts
-use Rattle.keeping.proofs.lower_supplier.Reads as lower-supplier-reads
-use Rattle.keeping.proofs.supplies.Reads as supplies-reads
 
--- src/lib.rt:139:9
 lower-supplier-requires : tie.Need-lower-supplier-requires
 lower-supplier-requires c κs = search needs
 
--- src/lib.rt:140:5
 supplies-requires : tie.Need-supplies-requires
 supplies-requires c κs = search needs
 
--- src/lib.rt:136:1
 returns : tie.Need-returns
 unfolding replacing
 returns c = rw (c .supplies .ensures, c .before .lower-supplier .ensures)

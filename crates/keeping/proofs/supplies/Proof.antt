@@ -3,32 +3,24 @@ use Rattle.keeping.specs.Kept.{supplier}
 use borrow.Author.Needs.{needs}
 use Rattle.keeping.proofs.supplies.Statement.{statement}
 use Rattle.keeping.proofs.supplies.Tie as tie
-use Rattle.keeping.proofs.supplies.Reads as reads
-use Rattle.keeping.proofs.supplies.Lts as lts
 
--- src/lib.rt:111:29
 enum-told : tie.Need-enum-told
 enum-told c = search needs
 
--- src/lib.rt:112:26
 enum-known-stage : tie.Need-enum-known-stage
 enum-known-stage c = search needs
 
--- src/lib.rt:113:30
 enum-told-2 : tie.Need-enum-told-2
 enum-told-2 c = search needs
 
--- src/lib.rt:107:1
 returns : tie.Need-returns
 unfolding supplier
 returns c = cc
 
--- src/lib.rt:107:1
 returns-2 : tie.Need-returns-2
 unfolding supplier
 returns-2 c = cc
 
--- src/lib.rt:107:1
 returns-3 : tie.Need-returns-3
 unfolding supplier
 returns-3 c = cc

@@ -7,33 +7,24 @@ use Rattle.keeping.specs.Turns.{has-main}
 use borrow.Author.Needs.{needs}
 use Rattle.keeping.proofs.with_slot.Statement.{statement}
 use Rattle.keeping.proofs.with_slot.Tie as tie
-use Rattle.keeping.proofs.with_slot.Reads as reads
-use Rattle.keeping.proofs.with_slot.Lts as lts
-use Rattle.keeping.proofs.put_main.Reads as put-main-reads
 
--- src/lib.rt:76:9
 returns : tie.Need-returns
 unfolding with-slot
 returns c = here _ _ _ (c .if1 .taken)
 
--- src/lib.rt:78:23
 sub-put-main : tie.Need-sub-put-main
 sub-put-main c = has-main (c .before .before .args .s) (length (c .before .before .args .ws .now)) (c .if1 .left) .0
 
--- src/lib.rt:78:22
 mul-put-main : tie.Need-mul-put-main
 mul-put-main c = omega (arith, has-main (c .before .before .args .s) (length (c .before .before .args .ws .now)) (c .if1 .left))
 
--- src/lib.rt:78:21
 cast-put-main : tie.Need-cast-put-main
 cast-put-main c = search needs
 
--- src/lib.rt:78:5
 put-main-requires : tie.Need-put-main-requires
 put-main-requires c κs = let m = has-main (c .before .before .args .s) (length (c .before .before .args .ws .now)) (c .if1 .left) in
     (omega arith, m .2)
 
--- src/lib.rt:72:1
 returns-2 : tie.Need-returns-2
 unfolding with-slot
 returns-2 c = skip _ _ _ _ (c .before .if1 .left) (c .put-main .ensures)

@@ -1,6 +1,6 @@
 -- Each way out is a case of the definition; a bit that is clear can be added.
-use Prim.Native.Nat.{_-_, _^_, _≤_}
-use mathlib.Core.Path.{_≡_, refl, sym, ap, _∙_}
+use Prim.Native.Nat.{_-_}
+use mathlib.Core.Path.{refl, sym, _∙_}
 use native.Mathlib.Omega.{arith}
 use Rattle.laws.specs.Pick.{here, skip}
 use Rattle.laws.specs.Sets.{bit-fits}
@@ -9,9 +9,6 @@ use Rattle.keeping.specs.Turns.{is-station, one-bit}
 use borrow.Author.Needs.{needs}
 use Rattle.keeping.proofs.with_station.Statement.{statement}
 use Rattle.keeping.proofs.with_station.Tie as tie
-use Rattle.keeping.proofs.with_station.Reads as reads
-use Rattle.keeping.proofs.with_station.Lts as lts
-use Rattle.keeping.proofs.in_set.Reads as in-set-reads
 
 returns : tie.Need-returns
 unfolding with-station

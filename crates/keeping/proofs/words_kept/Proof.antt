@@ -5,27 +5,19 @@ use Rattle.keeping.specs.Turns.{none-kept}
 use borrow.Author.Needs.{needs}
 use Rattle.keeping.proofs.words_kept.Statement.{statement}
 use Rattle.keeping.proofs.words_kept.Tie as tie
-use Rattle.keeping.proofs.words_kept.Reads as reads
-use Rattle.keeping.proofs.words_kept.Lts as lts
-use Rattle.keeping.proofs.smaller.Reads as smaller-reads
 
--- src/lib.rt:85:24
 mul-smaller : tie.Need-mul-smaller
 mul-smaller c = search needs
 
--- src/lib.rt:85:9
 smaller-requires : tie.Need-smaller-requires
 smaller-requires c κs = search needs
 
--- src/lib.rt:87:9
 returns : tie.Need-returns
 returns c = none-kept (c .before .before .args .q) (c .before .before .args .have) (c .if1 .taken)
 
--- src/lib.rt:89:5
 smaller-requires-2 : tie.Need-smaller-requires-2
 smaller-requires-2 c κs = search needs
 
--- src/lib.rt:82:1
 returns-2 : tie.Need-returns-2
 unfolding words-kept
 returns-2 c = c .smaller2 .ensures ∙ rw (c .before .before .smaller .ensures)
