@@ -1,0 +1,131 @@
+-- The law of keeping: the words of a station with one bundle more are those of the state with that bundle, `keeping`, wherever giving accepts the bundle.
+use Prim.Native.Nat.{ℕ, suc, _+_, _-_, _*_, _^_, _≤_, _<_}
+use mathlib.Core.Bool.{Bool, true, false, _&&_}
+use mathlib.Core.List.{List}
+use mathlib.Core.Path.{_≡_, refl, sym, ap, _∙_}
+use native.Mathlib.Omega.{arith}
+use lib.Dec.{eqb, leb}
+use lib.ListN.{length, getD, take, drop, length-drop}
+use lib.Seq.{paste, length-paste}
+use borrow.Author.Tests.{eqb-true, eqb-false, eq-eqb, ne-eqb, le-leb}
+use Rattle.laws.specs.Pick.{pick, skip, not-f}
+use Rattle.laws.specs.Bools.{both, join}
+use Rattle.laws.specs.Sets.{bit}
+use Rattle.format.specs.Group.{quorum}
+use Rattle.format.specs.Words.{fields-of, formed}
+use Rattle.format.specs.Statement.{Statement, statement, written}
+use Rattle.format.specs.Bundle.{count-in, main-of, certificate-of, all-formed}
+use Rattle.format.specs.Layout.{formed-well}
+use Rattle.format.specs.Shape.{Formed, formed-out}
+use Rattle.certificate.specs.Valid.{Bundle}
+use Rattle.sealed.specs.declared.Module.{Module}
+use Rattle.station.specs.declared.Station.{Station}
+use Rattle.station.specs.Machine.{keeping, insert, held-of, takes, supplies-first, supplies-second}
+use Rattle.station.specs.Words.{set-of, slot-of, slots-of, group-words, sites, held-by, state-of}
+use Rattle.station.specs.Words as W
+use Rattle.station.specs.Slots.{bit-set}
+use Rattle.station.specs.FitSane.{Lengths}
+use Rattle.station.specs.Views.{Accepted}
+use Rattle.keeping.specs.Back.{Low, written-back, all-slots}
+use Rattle.keeping.specs.One.{LowWords, Fit, fit-out, rising, set-same, slot-same, first-same, second-same}
+use Rattle.keeping.specs.Kept.{with-station, with-slot, group-from, replacing, held-with, groups-with, kept-words}
+use Rattle.keeping.specs.Parts.{set-insert, slot-insert, put-slot, supplier-first, supplier-second, group-kept}
+
+module _ (n number : ℕ) (t : Station) (ws : List ℕ) (top : n ≤ 31) (L : Lengths t) (A : LowWords t) (low : Low ws) (F : Fit n number t) (B : Bundle n ws)
+    (new : held-of (main-of ws .station) (held-by t) ≡ false) where
+  formed-all : (formed n (fields-of (getD ws 1 0)) ≡ true) × (all-formed n ws 11 (count-in ws) ≡ true)
+  unfolding all-formed
+  formed-all = both (formed n (fields-of (getD ws 1 0))) _ (B .fields)
+
+  main : Formed n (main-of ws)
+  main = formed-out n (main-of ws) (formed-well n ws 1 (formed-all .0))
+
+  long : length ws ≡ 11 + count-in ws * 10
+  long = omega (arith, B .size)
+
+  of-station : suc (main-of ws .station - 1) ≡ main-of ws .station
+  of-station = omega (arith, main .low)
+
+  in-sites : (leb 1 (main-of ws .station) && leb (main-of ws .station) 31) ≡ true
+  in-sites = join (leb 1 (main-of ws .station)) _ (le-leb _ _ (main .low)) (le-leb (main-of ws .station) 31 (omega (arith, main .high)))
+
+  -- the bit is clear, and is set
+  fresh : bit (t .held .heard) (main-of ws .station - 1) ≡ false
+  fresh =
+      ap (λ (z : ℕ). bit z (main-of ws .station - 1)) (sym (set-same n number t L A F))
+      ∙ bit-set (held-by t) (rising n number t L A F) (main-of ws .station - 1) ∙ ap (λ (k : ℕ). held-of k (held-by t)) of-station ∙ new
+
+  set-after : with-station (t .held .heard) (main-of ws .station) ≡ set-of (insert (main-of ws) (held-by t))
+  unfolding with-station
+  set-after =
+      sym (skip _ _ _ _ (not-f _ in-sites) (skip _ _ _ _ fresh refl))
+      ∙ ap (λ (z : ℕ). z + 2 ^ (main-of ws .station - 1)) (sym (set-same n number t L A F))
+      ∙ sym (set-insert (main-of ws) (held-by t))
+
+  -- the main statement is in its slot, and every other slot is as it was
+  slots-after : with-slot (t .held .slots) (main-of ws .station) ws ≡ slots-of (insert (main-of ws) (held-by t)) 1 sites
+  unfolding with-slot
+  slots-after =
+      sym (skip _ _ _ _ (not-f _ (join (leb 1 (main-of ws .station) && leb (main-of ws .station) 31) _ in-sites (le-leb 11 (length ws) (omega (arith, long))))) refl)
+      ∙ sym (all-slots (insert (main-of ws) (held-by t)) (paste (t .held .slots) ((main-of ws .station - 1) * 10) (drop 1 ws) 10)
+      (length-paste (t .held .slots) ((main-of ws .station - 1) * 10) (drop 1 ws) 10 (omega (arith, L .slots, main .low, main .high)) ten ∙ L .slots) each)
+    where
+      ten : 10 ≤ length (drop 1 ws)
+      ten = rw length-drop (omega (arith, long))
+
+      numbered : (j : ℕ) → eqb (main-of ws .station) (suc j) ≡ eqb (main-of ws .station - 1) j
+      numbered j = go (eqb (main-of ws .station - 1) j) refl
+        where
+          go : (b : Bool) → eqb (main-of ws .station - 1) j ≡ b → eqb (main-of ws .station) (suc j) ≡ b
+          go true e = eq-eqb (main-of ws .station) (suc j) (omega (arith, eqb-true (main-of ws .station - 1) j e, main .low))
+          go false e = ne-eqb (main-of ws .station) (suc j) (λ z. eqb-false (main-of ws .station - 1) j e (omega arith))
+
+      each : (j : ℕ) → j < sites
+          → slot-of (insert (main-of ws) (held-by t)) (suc j) ≡ take 10 (drop (j * 10) (paste (t .held .slots) ((main-of ws .station - 1) * 10) (drop 1 ws) 10))
+      each j few =
+          let w : written (main-of ws) ≡ take 10 (drop 1 ws) = written-back n ws 1 low (omega (arith, long)) (formed-all .0) in
+          slot-insert (main-of ws) (suc j) (held-by t) new
+          ∙ rw (numbered j, w, slot-same n number t L A F j few)
+          (sym (put-slot (t .held .slots) (drop 1 ws) (main-of ws .station - 1) j (L .slots) ten (omega (arith, main .high, main .low)) few))
+
+  -- the bundle's certificate takes the place of a kept group where the state's definition says so
+  takes-first : replacing 0 (t .stage) (held-by t) (fields-of (getD ws 1 0)) ≡ takes (supplies-first (t .stage)) (held-by t) (main-of ws)
+  unfolding replacing fields-of
+  takes-first = ap (λ (p : Statement → Bool). takes p (held-by t) (main-of ws)) (λ i s. supplier-first (t .stage) s i)
+
+  takes-second : replacing 1 (t .stage) (held-by t) (fields-of (getD ws 1 0)) ≡ takes (supplies-second (t .stage)) (held-by t) (main-of ws)
+  unfolding replacing fields-of
+  takes-second = ap (λ (p : Statement → Bool). takes p (held-by t) (main-of ws)) (λ i s. supplier-second (t .stage) s i)
+
+  group-after : (b : Bool) (old : List ℕ) (c : List Statement) → old ≡ group-words c
+      → pick b (group-from (quorum (t .identity .n)) ws) old ≡ group-words (pick b (take (quorum n) (certificate-of ws)) c)
+  unfolding pick
+  group-after true old c e =
+      ap (λ (k : ℕ). group-from (quorum k) ws) (F .same-n) ∙ group-kept n (quorum n) (count-in ws) ws low (omega arith) long (formed-all .1)
+  group-after false old c e = e
+
+  pub kept-is : kept-words t ws ≡ W.station-of n number (keeping n (state-of t) (main-of ws) (certificate-of ws))
+  unfolding kept-words held-with groups-with W.station-of state-of fields-of
+  kept-is =
+      let one : pick (replacing 0 (t .stage) (held-by t) (fields-of (getD ws 1 0))) (group-from (quorum (t .identity .n)) ws) (t .groups .first)
+      ≡ group-words (pick (takes (supplies-first (t .stage)) (held-by t) (main-of ws)) (take (quorum n) (certificate-of ws)) (state-of t .first))
+      = rw takes-first (group-after (takes (supplies-first (t .stage)) (held-by t) (main-of ws)) (t .groups .first) (state-of t .first) (first-same n number t L A F top)) in
+      let two : pick (replacing 1 (t .stage) (held-by t) (fields-of (getD ws 1 0))) (group-from (quorum (t .identity .n)) ws) (t .groups .second)
+      ≡ group-words (pick (takes (supplies-second (t .stage)) (held-by t) (main-of ws)) (take (quorum n) (certificate-of ws)) (state-of t .second))
+      = rw takes-second (group-after (takes (supplies-second (t .stage)) (held-by t) (main-of ws)) (t .groups .second) (state-of t .second) (second-same n number t L A F top)) in
+      λ i.
+      record {
+        identity = record { n = F .same-n i; number = F .same-number i; question = t .identity .question };
+        stage = t .stage;
+        closed = t .closed;
+        decision = t .decision;
+        held = record { heard = set-after i; slots = slots-after i };
+        groups = record { first = one i; second = two i };
+      }
+
+-- under the tests of giving
+pub keeps-state : (mac : List ℕ → List ℕ → List ℕ) (m : Module) (t : Station) (ws : List ℕ) (coin : ℕ) (out : List ℕ) → Lengths t → LowWords t → Low ws
+    → Accepted mac m t ws coin out → kept-words t ws ≡ W.station-of (m .n) (m .number) (keeping (m .n) (state-of t) (main-of ws) (certificate-of ws))
+unfolding state-of
+keeps-state mac m t ws coin out L A low a =
+    kept-is (m .n) (m .number) t ws (a .range .at-most-31) L A low (fit-out (m .n) (m .number) t (a .fit) (a .still-open)) (a .bundle) (a .new)

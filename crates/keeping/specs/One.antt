@@ -1,0 +1,156 @@
+-- A station that fits and is open has one representation: it is the station written from its own state.
+use Prim.Native.Nat.{ℕ, suc, _-_, _*_, _^_, _≤_, _<_}
+use mathlib.Core.Bool.{Bool, true, false, _&&_, _||_}
+use mathlib.Core.List.{List, [], _∷_}
+use mathlib.Core.Path.{_≡_, refl, sym, ap, _∙_}
+use native.Mathlib.Nat.{div-one}
+use native.Mathlib.Omega.{arith}
+use lib.Count.{ones}
+use lib.Dec.{eqb, ltb, leb}
+use lib.ListN.{length, getD, take, drop, replicate}
+use borrow.Author.Tests.{eqb-true, ltb-true}
+use Rattle.laws.specs.Pick.{pick}
+use Rattle.laws.specs.Bools.{never, both}
+use Rattle.laws.specs.Refusals.{All}
+use Rattle.laws.specs.Sets.{bit}
+use Rattle.format.specs.Numbers.{none}
+use Rattle.format.specs.Group.{quorum}
+use Rattle.format.specs.Statement.{Statement, statement, statements, written}
+use Rattle.format.specs.Bundle.{all-formed}
+use Rattle.certificate.specs.declared.Group.{Group}
+use Rattle.certificate.specs.Check.{every}
+use Rattle.certificate.specs.Rules.{Rising, holds, some}
+use Rattle.station.specs.declared.Station.{Station}
+use Rattle.station.specs.Machine.{held-of, stage-step}
+use Rattle.station.specs.Words.{set-of, slot-of, slots-of, group-words, sites, held-by, kept-first, kept-second, state-of}
+use Rattle.station.specs.Words as W
+use Rattle.station.specs.Fit.{slots-fit, zeros, stage-fits, group-fits, held-fits, rest-fits, fits}
+use Rattle.station.specs.Slots.{all-two, bit-set, slot-held}
+use Rattle.station.specs.Sane.{At, find}
+use Rattle.station.specs.FitSane.{Lengths, read-slots, bit-held, first-size, second-size}
+use Rattle.keeping.specs.Back.{Low, group-back, set-back, slot-words, all-slots}
+
+-- the station's arrays are of words of 32 bits
+pub record LowWords (t : Station) : Type 0 where
+  pub slots : Low (t .held .slots)
+  pub first : Low (t .groups .first)
+  pub second : Low (t .groups .second)
+
+-- what fits says of an open station's arrays
+pub record Fit (n number : ℕ) (t : Station) : Type 0 where
+  pub same-n : t .identity .n ≡ n
+  pub same-number : t .identity .number ≡ number
+  pub no-more : t .held .heard < 2 ^ sites
+  pub slots : slots-fit n (t .identity .question) (stage-step (t .stage)) (t .held .heard) (t .held .slots) 0 sites ≡ true
+  pub first : group-fits n (t .identity .question) (kept-first n (t .stage) (held-by t)) (t .groups .first) ≡ true
+  pub second : group-fits n (t .identity .question) (kept-second n (t .stage) (held-by t)) (t .groups .second) ≡ true
+
+pub fit-out : (n number : ℕ) (t : Station) → fits n number t ≡ true → t .closed ≡ false → Fit n number t
+unfolding fits
+fit-out n number t h shut =
+    let a = both (eqb (t .identity .n) n && eqb (t .identity .number) number) _ h in
+    let i = both (eqb (t .identity .n) n) _ (a .0) in
+    let b = both (held-fits n number t) (rest-fits n number t) (rw shut at (a .1)) in
+    let c = both (ltb (t .held .heard) (2 ^ sites) && ltb (ones (t .held .heard)) (quorum n) && bit (t .held .heard) (number - 1)) _ (b .0) in
+    let d = both (ltb (t .held .heard) (2 ^ sites) && ltb (ones (t .held .heard)) (quorum n)) _ (c .0) in
+    let e = both (ltb (t .held .heard) (2 ^ sites)) _ (d .0) in
+    let u = both (stage-fits (t .stage) (getD (t .held .slots) ((number - 1) * 10) 0) && leb (t .decision) none
+    && group-fits n (t .identity .question) (kept-first n (t .stage) (held-by t)) (t .groups .first)) _ (b .1) in
+    let v = both (stage-fits (t .stage) (getD (t .held .slots) ((number - 1) * 10) 0) && leb (t .decision) none) _ (u .0) in
+    record {
+      same-n = eqb-true _ _ (i .0);
+      same-number = eqb-true _ _ (i .1);
+      no-more = ltb-true _ _ (e .0);
+      slots = c .1;
+      first = v .1;
+      second = u .1;
+    }
+
+-- a slot of a station that is not held
+no-slot : (j : ℕ) (h : List Statement) → held-of j h ≡ false → slot-of h j ≡ replicate 10 0
+unfolding some slot-of pick
+no-slot j [] e = refl
+no-slot j (s ∷ h) e = go (eqb (s .station) j) e (no-slot j h)
+  where
+    go : (b : Bool) → (b || held-of j h) ≡ false → (held-of j h ≡ false → slot-of h j ≡ replicate 10 0) → pick b (written s) (slot-of h j) ≡ replicate 10 0
+    go true e ih = never true e refl
+    go false e ih = ih e
+
+module _ (n number : ℕ) (t : Station) (L : Lengths t) (A : LowWords t) (F : Fit n number t) where
+  pub rising : Rising 0 (held-by t)
+  rising =
+      read-slots n (t .identity .question) (stage-step (t .stage)) (t .held .heard) (t .held .slots) sites 0 (omega (arith, L .slots)) (F .slots) .rising
+
+  -- the set is the sum of the bits of the stations held
+  pub set-same : set-of (held-by t) ≡ t .held .heard
+  set-same =
+      set-back n (t .identity .question) (stage-step (t .stage)) (t .held .heard) (t .held .slots) sites 0 (F .slots) (F .no-more)
+      ∙ omega (arith, div-one (t .held .heard))
+
+  -- each slot has the words of its station's statement, or zeros
+  pub slot-same : (i : ℕ) → i < sites → slot-of (held-by t) (suc i) ≡ take 10 (drop (i * 10) (t .held .slots))
+  unfolding pick
+  slot-same i few =
+      go (bit (t .held .heard) i) refl
+      ∙ sym (slot-words n (t .identity .question) (stage-step (t .stage)) (t .held .heard) (t .held .slots) i (A .slots) (L .slots) (F .slots) few)
+    where
+      P : Statement → Type 0
+      P s = (slot-of (held-by t) (s .station) ≡ written s) × (s ≡ statement (t .held .slots) ((s .station - 1) * 10))
+
+      all-P : All P (held-by t)
+      all-P =
+          all-two (λ s. slot-of (held-by t) (s .station) ≡ written s) (λ s. s ≡ statement (t .held .slots) ((s .station - 1) * 10)) (held-by t)
+          (slot-held 0 (held-by t) rising)
+          (read-slots n (t .identity .question) (stage-step (t .stage)) (t .held .heard) (t .held .slots) sites 0 (omega (arith, L .slots)) (F .slots) .placed)
+
+      of : At P (suc i) → slot-of (held-by t) (suc i) ≡ written (statement (t .held .slots) (i * 10))
+      of f =
+          let e : (f .one .station - 1) * 10 ≡ i * 10 = omega (arith, f .of-station) in
+          ap (slot-of (held-by t)) (sym (f .of-station)) ∙ f .has .0 ∙ ap written (f .has .1) ∙ ap (λ (k : ℕ). written (statement (t .held .slots) k)) e
+
+      go : (b : Bool) → bit (t .held .heard) i ≡ b → slot-of (held-by t) (suc i) ≡ pick b (written (statement (t .held .slots) (i * 10))) (replicate 10 0)
+      go true e =
+          of (find P (suc i) (held-by t) all-P
+          (bit-held n (t .identity .question) (stage-step (t .stage)) (t .held .heard) (t .held .slots) sites 0 i (omega (arith, L .slots)) (F .slots) (omega arith) (omega arith) e))
+      go false e = no-slot (suc i) (held-by t) (sym (bit-set (held-by t) rising i) ∙ ap (λ (z : ℕ). bit z i) set-same ∙ e)
+
+  pub slots-same : slots-of (held-by t) 1 sites ≡ t .held .slots
+  slots-same = all-slots (held-by t) (t .held .slots) (L .slots) slot-same
+
+  group-same : (g : Group) (ws : List ℕ) → Low ws → length ws ≡ 160 → g .size ≤ 16 → group-fits n (t .identity .question) g ws ≡ true
+      → ws ≡ group-words (statements ws 0 (g .size))
+  group-same g ws low long few h =
+      let c = statements ws 0 (g .size) in
+      let a = both (holds g c && all-formed n ws 0 (g .size) && every (λ s. eqb (s .question) (t .identity .question)) c) _ h in
+      let b = both (holds g c && all-formed n ws 0 (g .size)) _ (a .0) in
+      group-back n ws (g .size) low long few (both (holds g c) _ (b .0) .1) (a .1)
+
+  pub first-same : n ≤ 31 → t .groups .first ≡ group-words (state-of t .first)
+  unfolding state-of
+  first-same top =
+      group-same (kept-first n (t .stage) (held-by t)) (t .groups .first) (A .first) (L .first) (first-size n (t .stage) (held-by t) top) (F .first)
+      ∙ ap (λ (k : ℕ). group-words (statements (t .groups .first) 0 (kept-first k (t .stage) (held-by t) .size))) (sym (F .same-n))
+
+  pub second-same : n ≤ 31 → t .groups .second ≡ group-words (state-of t .second)
+  unfolding state-of
+  second-same top =
+      group-same (kept-second n (t .stage) (held-by t)) (t .groups .second) (A .second) (L .second) (second-size n (t .stage) (held-by t) top) (F .second)
+      ∙ ap (λ (k : ℕ). group-words (statements (t .groups .second) 0 (kept-second k (t .stage) (held-by t) .size))) (sym (F .same-n))
+
+pub one-form : (n number : ℕ) (t : Station) → n ≤ 31 → Lengths t → LowWords t → fits n number t ≡ true → t .closed ≡ false → t ≡ W.station-of n number (state-of t)
+unfolding state-of W.station-of
+one-form n number t top L A h shut =
+    let F = fit-out n number t h shut in
+    let a : t .held .heard ≡ set-of (held-by t) = sym (set-same n number t L A F) in
+    let b : t .held .slots ≡ slots-of (held-by t) 1 sites = sym (slots-same n number t L A F) in
+    let c = first-same n number t L A F top in
+    let d = second-same n number t L A F top in
+    λ i.
+    record {
+      identity = record { n = F .same-n i; number = F .same-number i; question = t .identity .question };
+      stage = t .stage;
+      closed = t .closed;
+      decision = t .decision;
+      held = record { heard = a i; slots = b i };
+      groups = record { first = c i; second = d i };
+    }
