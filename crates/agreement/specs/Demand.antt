@@ -1,6 +1,5 @@
--- Demand 3 of document 01, stated: the list of calls, the premises, the claim. The steps of the list are the definitions that the functions' promises
--- cite (crates sealed and station). Lists of calls stand with the newest call first, so that what follows the first call is the list before it.
--- `mac` is the code function; `demand-3` in Theorem names HMAC.
+-- Demand 3 of document 01, stated: the list of calls, the premises, the claim. Its steps are the definitions that the functions' promises cite
+-- (crates sealed and station). Lists of calls have the newest call first. `mac` is the code function; `demand-3` in Theorem names HMAC.
 use Prim.Native.Nat.{ℕ, zero, suc, _+_, _*_, _≤_, _<_}
 use mathlib.Core.Bool.{Bool, true, false, not, _&&_, _||_}
 use mathlib.Core.List.{List, [], _∷_, _++_}
@@ -187,6 +186,14 @@ module _ (mac : List ℕ → List ℕ → List ℕ) (key : List ℕ) (n : ℕ) w
     pub names : (i k v : ℕ) (line : Lineage) → Sound i cs → lineage cs i k ≡ found line → v < none → line .present .decision ≡ v
         → Decides cs i k (line .present .identity .question) v
     pub named : (i k question v : ℕ) (line : Lineage) → Sound i cs → lineage cs i k ≡ found line → Decides cs i k question v → line .present .decision ≡ v
+    pub unnamed : (i k : ℕ) (line : Lineage) → Sound i cs → lineage cs i k ≡ found line
+        → ((v : ℕ) → Decides cs i k (line .present .identity .question) v → ⊥) → line .present .decision ≡ none
+    -- "demand 3 holds of the named decision too"
+    pub named-agreement : (i j k l : ℕ) (a b : Lineage) → Sound i cs → Sound j cs → lineage cs i k ≡ found a → lineage cs j l ≡ found b
+        → a .present .identity .question ≡ b .present .identity .question → a .present .decision < none → b .present .decision < none
+        → a .present .decision ≡ b .present .decision
+    pub named-backed : (i k : ℕ) (a : Lineage) → Sound i cs → lineage cs i k ≡ found a → a .present .decision < none
+        → backing n (a .present .decision) ≤ count (proposed (log cs) (a .present .identity .question) (a .present .decision)) n
     -- "Under demand 3's premises 10 never occurs at a sound site's station"
     pub no-conflict : (i k : ℕ) (t : Station) (ws : List ℕ) (coin : ℕ) (out : List ℕ) → Sound i cs → Presents cs i k t → CodesCame (log cs) ws
         → answer cs (gives i k t ws coin out) .number ≡ conflicting → ⊥

@@ -385,16 +385,43 @@ module _ (mac : List ℕ → List ℕ → List ℕ) (eight : (key ws : List ℕ)
     at : (i j : ℕ) → Sound mac key n i cs → Sound mac key n j cs → Inv mac eight key n low top (rest i j) cs
     at i j si sj = inv (rest i j) cs g (rest-sound i j si sj)
 
+    -- the five claims on what a station took, of which those on the named decision follow
+    agreed : (i j k o q v w : ℕ) → Sound mac key n i cs → Sound mac key n j cs → Decides mac key n cs i k q v → Decides mac key n cs j o q w → v ≡ w
+    agreed i j k o q v w si sj d e = agree (rest i j) (rest-few i j) cs (at i j si sj) g i j k o q v w (rest-i i j) (rest-j i j) d e
+
+    enough-proposed : (i k q v : ℕ) → Sound mac key n i cs → Decides mac key n cs i k q v → backing n v ≤ count (proposed (log mac key n cs) q v) n
+    enough-proposed i k q v si d = back (rest i i) (rest-few i i) cs (at i i si si) g i k q v (rest-i i i) d
+
+    here : (i k : ℕ) (line : Lineage) → Sound mac key n i cs → lineage mac key n cs i k ≡ found line
+        → Line mac key n (reads (log mac key n cs)) i (line .present) (line .took)
+    here i k line si e = known (rest i i) (rest-few i i) cs (at i i si si) i k line g (rest-i i i) e
+
+    decides-named : (i k v : ℕ) (line : Lineage) → Sound mac key n i cs → lineage mac key n cs i k ≡ found line → v < none → line .present .decision ≡ v
+        → Decides mac key n cs i k (line .present .identity .question) v
+    decides-named i k v line si e b d = enough-decides (rest i i) (rest-few i i) cs (at i i si si) i k v line e b (here i k line si e .named v b d)
+
     pub claim : Claim mac key n cs
     claim =
         record {
-          agreement = λ i j k o q v w si sj d e. agree (rest i j) (rest-few i j) cs (at i j si sj) g i j k o q v w (rest-i i j) (rest-j i j) d e;
-          backed = λ i k q v si d. back (rest i i) (rest-few i i) cs (at i i si si) g i k q v (rest-i i i) d;
-          names = λ i k v line si e b d.
-              enough-decides (rest i i) (rest-few i i) cs (at i i si si) i k v line e b (known (rest i i) (rest-few i i) cs (at i i si si) i k line g (rest-i i i) e .named v b d);
+          agreement = agreed;
+          backed = enough-proposed;
+          names = decides-named;
           named = λ i k q v line si e d. name-it (rest i i) (rest-few i i) cs (at i i si si) g i k q v line (rest-i i i) e d;
+          unnamed = λ i k line si e never-decides. not-named i k line si e never-decides (ltb (line .present .decision) none) refl;
+          named-agreement = λ i j k o a b si sj e f same x y.
+              agreed i j k o (a .present .identity .question) (a .present .decision) (b .present .decision) si sj
+              (decides-named i k (a .present .decision) a si e x refl)
+              (subst (λ (q : ℕ). Decides mac key n cs j o q (b .present .decision)) (sym same) (decides-named j o (b .present .decision) b sj f y refl));
+          named-backed = λ i k a si e x.
+              enough-proposed i k (a .present .identity .question) (a .present .decision) si (decides-named i k (a .present .decision) a si e x refl);
           no-conflict = λ i k t ws coin out si p c e. never-10 (rest i i) (rest-few i i) cs (at i i si si) g i k t ws coin out (rest-i i i) p c e;
         }
+      where
+        not-named : (i k : ℕ) (line : Lineage) → Sound mac key n i cs → lineage mac key n cs i k ≡ found line
+            → ((v : ℕ) → Decides mac key n cs i k (line .present .identity .question) v → ⊥) → (b : Bool) → ltb (line .present .decision) none ≡ b
+            → line .present .decision ≡ none
+        not-named i k line si e no-v true x = absurd (no-v (line .present .decision) (decides-named i k (line .present .decision) line si e (ltb-true _ _ x) refl))
+        not-named i k line si e no-v false x = omega (arith, ltb-false (line .present .decision) none x, here i k line si e .low)
 
 -- ---- the theorem, for HMAC-SHA-256
 pub demand-3 : (key : List ℕ) (n : ℕ) → 2 ≤ n → n ≤ 31 → (cs : List Call) → Given hmac-code key n cs → FewFaulty hmac-code key n cs → Claim hmac-code key n cs
