@@ -26,7 +26,7 @@ use Rattle.station.specs.Words.{set-of, slot-of, slots-of, group-words, sites, 
 use Rattle.station.specs.Words as W
 use Rattle.station.specs.Fit.{slots-fit, zeros, stage-fits, group-fits, held-fits, rest-fits, fits}
 use Rattle.station.specs.Slots.{all-two, bit-set, slot-held}
-use Rattle.station.specs.Sane.{At, find}
+use Rattle.station.specs.Sane.{At, find, no-slot}
 use Rattle.station.specs.FitSane.{Lengths, read-slots, bit-held, first-size, second-size}
 use Rattle.keeping.specs.Back.{Low, group-back, set-back, slot-words, all-slots}
 
@@ -65,16 +65,6 @@ fit-out n number t h shut =
       first = v .1;
       second = u .1;
     }
-
--- a slot of a station that is not held
-no-slot : (j : ℕ) (h : List Statement) → held-of j h ≡ false → slot-of h j ≡ replicate 10 0
-unfolding some slot-of pick
-no-slot j [] e = refl
-no-slot j (s ∷ h) e = go (eqb (s .station) j) e (no-slot j h)
-  where
-    go : (b : Bool) → (b || held-of j h) ≡ false → (held-of j h ≡ false → slot-of h j ≡ replicate 10 0) → pick b (written s) (slot-of h j) ≡ replicate 10 0
-    go true e ih = never true e refl
-    go false e ih = ih e
 
 module _ (n number : ℕ) (t : Station) (L : Lengths t) (A : LowWords t) (F : Fit n number t) where
   pub rising : Rising 0 (held-by t)

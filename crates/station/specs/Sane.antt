@@ -79,7 +79,8 @@ find P j (s ∷ h) a e = go (eqb (s .station) j) refl e (find P j h (a .1))
     go true x e ih = record { one = s; of-station = eqb-true _ _ x; has = a .0 }
     go false x e ih = ih e
 
-no-slot : (j : ℕ) (h : List Statement) → held-of j h ≡ false → slot-of h j ≡ replicate 10 0
+-- a slot of a station that is not held
+pub no-slot : (j : ℕ) (h : List Statement) → held-of j h ≡ false → slot-of h j ≡ replicate 10 0
 unfolding some slot-of pick
 no-slot j [] e = refl
 no-slot j (s ∷ h) e = go (eqb (s .station) j) e (no-slot j h)
