@@ -4,3 +4,4 @@ pub mod Kept
 pub mod Turns
 pub mod Parts
 pub mod Law
+pub mod Begun

@@ -27,13 +27,13 @@ module _ (n : ℕ) (s : Statement) (c : List Statement) (top : n ≤ 31) (p : Pr
   count-is : count-in ws ≡ length c
   count-is = omega arith
 
-  main-is : main-of ws ≡ s
+  pub main-is : main-of ws ≡ s
   main-is = statement-drop ws 1 ∙ statement-back n s (all-written c) top p
 
   behind : drop 11 ws ≡ all-written c
   behind = drop-at (written s) (all-written c) 10 (length-written n s p)
 
-  certificate-is : certificate-of ws ≡ c
+  pub certificate-is : certificate-of ws ≡ c
   certificate-is =
       ap (statements ws 11) count-is ∙ statements-drop ws 11 (length c)
       ∙ ap (λ (l : List ℕ). statements l 0 (length c)) (behind ∙ sym (append-nil (all-written c))) ∙ statements-back n c [] top a
@@ -52,6 +52,16 @@ module _ (n : ℕ) (s : Statement) (c : List Statement) (top : n ≤ 31) (p : Pr
       (ap (all-formed n ws 11) count-is ∙ all-formed-drop n ws 11 (length c)
       ∙ ap (λ (l : List ℕ). all-formed n l 0 (length c)) (behind ∙ sym (append-nil (all-written c))) ∙ all-formed-back n c [] top a)
 
+  pub bundle-there : Bundle n ws
+  bundle-there =
+      record {
+        head-kind = omega arith;
+        head-zeros = omega arith;
+        few = omega (arith, count-is);
+        size = ws-length ∙ ap bundle-words (sym count-is);
+        fields = formed-in-words;
+      }
+
   pub bundle-valid : (code : List ℕ → List ℕ) → 2 ≤ n → All (λ x. x .question ≡ s .question) c → verifies code s ≡ true → All (λ x. verifies code x ≡ true) c → Backed n s c
       → Valid code n (bundle-of s c)
   unfolding bundle-of
@@ -59,13 +69,7 @@ module _ (n : ℕ) (s : Statement) (c : List Statement) (top : n ≤ 31) (p : Pr
       record {
         at-least-2 = low;
         at-most-31 = top;
-        bundle = record {
-          head-kind = omega arith;
-          head-zeros = omega arith;
-          few = omega (arith, count-is);
-          size = ws-length ∙ ap bundle-words (sym count-is);
-          fields = formed-in-words;
-        };
+        bundle = bundle-there;
         question = subst (λ (l : List Statement). All (λ x. x .question ≡ main-of ws .question) l) (sym certificate-is) (all-map (λ x e. e ∙ ap (λ (y : Statement). y .question) (sym main-is)) c q);
         codes = subst (λ (l : List Statement). All (λ x. verifies code x ≡ true) l) (sym all-in) (v, vs);
         backed = subst (λ (l : List Statement). Backed n (main-of ws) l) (sym certificate-is) (subst (λ (y : Statement). Backed n y c) (sym main-is) b);

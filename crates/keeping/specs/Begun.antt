@@ -1,0 +1,172 @@
+-- A station that has just sent, as words: a blank station that keeps the bundle it wrote. The law ties it to the state's definition, `began`.
+use Prim.Native.Nat.{ℕ, zero, suc, _+_, _-_, _*_, _/_, _%_, _^_, _≤_, _<_}
+use mathlib.Core.Bool.{Bool, true, false, not, _&&_, _||_}
+use mathlib.Core.List.{List, [], _∷_, _++_, append-nil}
+use mathlib.Core.Path.{_≡_, refl, sym, ap, _∙_}
+use native.Mathlib.Omega.{arith}
+use native.Mathlib.Nat.{div-eq-of-lt}
+use lib.Dec.{eqb}
+use lib.Pow.{pow-pos}
+use lib.ListN.{length, getD, take, drop, replicate}
+use borrow.Author.Tests.{eq-eqb}
+use lib.Seq.{take-at}
+use Rattle.laws.specs.Pick.{pick, skip}
+use Rattle.laws.specs.Bools.{join}
+use Rattle.laws.specs.Sets.{bit}
+use Rattle.laws.specs.Refusals.{All}
+use Rattle.format.specs.Numbers.{most-statements, bundle-words}
+use Rattle.format.specs.Group.{quorum}
+use Rattle.format.specs.Statement.{Statement, statements}
+use Rattle.format.specs.Bundle.{main-of, certificate-of, all-formed}
+use Rattle.certificate.specs.declared.Group.{Group}
+use Rattle.certificate.specs.Check.{every}
+use Rattle.station.specs.declared.Stage.{Stage}
+use Rattle.station.specs.declared.Stage.the-variants.{Gathering, Proposing, Voting}
+use Rattle.station.specs.declared.Station.{Station}
+use Rattle.certificate.specs.Rules.{some, holds, in-order}
+use Rattle.station.specs.Machine.{State, stage-step, keeping, insert, held-of, takes, began, supplies-first, supplies-second}
+use Rattle.station.specs.Words.{state-of, bundle-of, held-in, held-by, kept-first, kept-second, no-group}
+use Rattle.station.specs.Words as W
+use Rattle.station.specs.ReadBack.{Proper}
+use Rattle.station.specs.Bundles.{main-is, certificate-is, bundle-there}
+use Rattle.station.specs.Fit.{slots-fit, zeros, group-fits}
+use Rattle.station.specs.FitSane.{Lengths}
+use Rattle.keeping.specs.Back.{Low}
+use Rattle.keeping.specs.One.{LowWords, Fit}
+use Rattle.keeping.specs.Kept.{kept-words}
+use Rattle.keeping.specs.Law.{kept-is}
+
+-- an open station that holds nothing
+unfoldable pub blank : ℕ → ℕ → ℕ → Stage → ℕ → Station
+blank n number question g d =
+    record {
+      identity = record { n = n; number = number; question = question };
+      stage = g;
+      closed = false;
+      decision = d;
+      held = record { heard = 0; slots = replicate 310 0 };
+      groups = record { first = replicate 160 0; second = replicate 160 0 };
+    }
+
+-- its state
+abbrev empty : ℕ → Stage → ℕ → State
+empty question g d = record { question = question; stage = g; closed = false; decision = d; held = []; first = []; second = [] }
+
+abbrev no-words : ℕ → List ℕ
+no-words k = replicate k 0
+
+zero-at : (k i : ℕ) → getD (no-words k) i 0 ≡ 0
+zero-at zero zero = refl
+zero-at zero (suc i) = refl
+zero-at (suc k) zero = refl
+zero-at (suc k) (suc i) = zero-at k i
+
+zeros-low : (k : ℕ) → Low (replicate k 0)
+zeros-low k i = omega (arith, zero-at k i)
+
+zeros-there : (m k at : ℕ) → zeros (replicate m 0) at k ≡ true
+unfolding zeros
+zeros-there m zero at = refl
+zeros-there m (suc k) at = join (eqb (getD (replicate m 0) at 0) 0) _ (eq-eqb _ 0 (zero-at m at)) (zeros-there m k (suc at))
+
+no-bit : (i : ℕ) → bit 0 i ≡ false
+no-bit i = let e : 0 / 2 ^ i ≡ 0 = div-eq-of-lt (pow-pos i) in rw e
+
+none-held : (slots : List ℕ) (k i : ℕ) → held-in 0 slots i k ≡ []
+unfolding held-in
+none-held slots zero i = refl
+none-held slots (suc k) i = sym (skip _ _ _ _ (no-bit i) refl) ∙ none-held slots k (suc i)
+
+none-fit : (n question st k i : ℕ) → slots-fit n question st 0 (replicate 310 0) i k ≡ true
+unfolding slots-fit
+none-fit n question st zero i = refl
+none-fit n question st (suc k) i =
+    join (pick (bit 0 i) _ _) _ (sym (skip _ _ _ _ (no-bit i) refl) ∙ zeros-there 310 10 (i * 10)) (none-fit n question st k (suc i))
+
+no-group-fits : (n question : ℕ) → group-fits n question no-group (replicate 160 0) ≡ true
+unfolding holds in-order all-formed statements every
+no-group-fits n question = zeros-there 160 160 0
+
+module _ (n number question : ℕ) (g : Stage) (d : ℕ) where
+  nothing-held : held-by (blank n number question g d) ≡ []
+  unfolding blank
+  nothing-held = none-held (replicate 310 0) 31 0
+
+  blank-lengths : Lengths (blank n number question g d)
+  unfolding blank
+  blank-lengths = record { slots = refl; first = refl; second = refl }
+
+  blank-low : LowWords (blank n number question g d)
+  unfolding blank
+  blank-low = record { slots = zeros-low 310; first = zeros-low 160; second = zeros-low 160 }
+
+  no-first : kept-first n g (held-by (blank n number question g d)) ≡ no-group
+  unfolding kept-first some pick
+  no-first = ap (kept-first n g) nothing-held
+
+  no-second : kept-second n g (held-by (blank n number question g d)) ≡ no-group
+  unfolding kept-second some pick
+  no-second = ap (kept-second n g) nothing-held
+
+  blank-fit : Fit n number (blank n number question g d)
+  unfolding blank
+  blank-fit =
+      record {
+        same-n = refl;
+        same-number = refl;
+        no-more = omega arith;
+        slots = none-fit n question (stage-step g) 31 0;
+        first = ap (λ (x : Group). group-fits n question x (replicate 160 0)) no-first ∙ no-group-fits n question;
+        second = ap (λ (x : Group). group-fits n question x (replicate 160 0)) no-second ∙ no-group-fits n question;
+      }
+
+  blank-state : state-of (blank n number question g d) ≡ empty question g d
+  unfolding blank state-of statements
+  blank-state =
+      λ i.
+      record {
+        question = question;
+        stage = g;
+        closed = false;
+        decision = d;
+        held = nothing-held i;
+        first = statements (replicate 160 0) 0 (no-first i .size);
+        second = statements (replicate 160 0) 0 (no-second i .size);
+      }
+
+  -- the first q statements of the certificate are its first group, where that is kept
+  group-kept : (b : Bool) (c e : List Statement) → (b ≡ true → length c ≡ quorum n) → pick (b && true) (take (quorum n) (c ++ e)) [] ≡ pick b c []
+  unfolding pick
+  group-kept true c e q = take-at c e (quorum n) (q refl)
+  group-kept false c e q = refl
+
+  state-begun : (s : Statement) (c e : List Statement) → (supplies-first g s ≡ true → length c ≡ quorum n) → (supplies-second g s ≡ true → length c ≡ quorum n)
+      → keeping n (empty question g d) s (c ++ e) ≡ began question g d s c
+  unfolding insert some
+  state-begun s c e one two =
+      λ i.
+      record {
+        question = question;
+        stage = g;
+        closed = false;
+        decision = d;
+        held = s ∷ [];
+        first = group-kept (supplies-first g s) c e one i;
+        second = group-kept (supplies-second g s) c e two i;
+      }
+
+  pub begun : (s : Statement) (c e : List Statement) → n ≤ 31 → Proper n s → All (Proper n) (c ++ e) → length (c ++ e) ≤ most-statements
+      → Low (bundle-of s (c ++ e)) → (supplies-first g s ≡ true → length c ≡ quorum n) → (supplies-second g s ≡ true → length c ≡ quorum n)
+      → kept-words (blank n number question g d) (bundle-of s (c ++ e)) ≡ W.station-of n number (began question g d s c)
+  unfolding bundle-of some
+  begun s c e top p a few low one two =
+      kept-is n number (blank n number question g d) (bundle-of s (c ++ e)) top blank-lengths blank-low low blank-fit (bundle-there n s (c ++ e) top p a few)
+      new
+      ∙ ap (W.station-of n number)
+      (ap (λ (t : State). keeping n t (main-of (bundle-of s (c ++ e))) (certificate-of (bundle-of s (c ++ e)))) blank-state
+      ∙ ap (λ (m : Statement). keeping n (empty question g d) m (certificate-of (bundle-of s (c ++ e)))) (main-is n s (c ++ e) top p a few)
+      ∙ ap (keeping n (empty question g d) s) (certificate-is n s (c ++ e) top p a few)
+      ∙ state-begun s c e one two)
+    where
+      new : held-of (main-of (bundle-of s (c ++ e)) .station) (held-by (blank n number question g d)) ≡ false
+      new = ap (held-of (main-of (bundle-of s (c ++ e)) .station)) nothing-held
