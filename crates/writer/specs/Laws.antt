@@ -98,6 +98,10 @@ module _ (h : ℕ) (slots : List ℕ) where
       rw (add-one k)
       ((rw z at (held-snoc k 0)) ∙ ap (λ (x : List ℕ). held-words h slots 0 k ++ x) (sym (skip (bit h k) _ [] [] e refl)) ∙ append-nil (held-words h slots 0 k))
 
+  pub held-longer : (k at : ℕ) → bit h k ≡ true → at ≡ length (held-words h slots 0 k) → at + 10 ≡ length (held-words h slots 0 (k + 1))
+  held-longer k at e l =
+      sym (ap length (held-in-turn k e) ∙ length-append (held-words h slots 0 k) (part 10 (k * 10) slots) ∙ omega (arith, length-part 10 (k * 10) slots))
+
   pub held-begin : (out : List ℕ) → (0 ≡ length (held-words h slots 0 0)) × (out ≡ laid (held-words h slots 0 0) out)
   unfolding held-words laid
   held-begin out = (refl, refl)

@@ -3,13 +3,13 @@ use Prim.Native.Nat.{ℕ, _+_, _-_, _*_, _≤_}
 use mathlib.Core.Path.{_≡_, refl, sym, ap, _∙_}
 use mathlib.Core.List.{List, _++_}
 use native.Mathlib.Omega.{arith}
-use lib.ListN.{length, length-append}
+use lib.ListN.{length}
 use mathlib.Core.Bool.{true, false}
 use mathlib.Core.Logic.{⊎-elim}
 use Rattle.laws.specs.Pick.{via}
 use Rattle.laws.specs.Sets.{bit}
 use Rattle.writer.specs.Written.{laid, part, held-words}
-use Rattle.writer.specs.Laws.{held-begin, held-in-turn, held-out-turn, length-part, length-laid, put-behind}
+use Rattle.writer.specs.Laws.{held-begin, held-in-turn, held-out-turn, held-longer, length-laid, put-behind}
 use borrow.Author.Needs.{needs}
 use Rattle.writer.proofs.write_held.Statement.{statement}
 use Rattle.writer.proofs.write_held.Tie as tie
@@ -69,7 +69,7 @@ loop-again c =
     (λ w.
     let e : bit (a .set) (v .i) ≡ true = via (c .before .in-set .result) _ true (c .before .in-set .ensures) (w .0 .taken) in
     let h : held-words (a .set) l 0 (v .i + 1) ≡ held-words (a .set) l 0 (v .i) ++ part 10 (v .i * 10) l = held-in-turn (a .set) l (v .i) e in
-    let n : v .at + 10 ≡ length (held-words (a .set) l 0 (v .i + 1)) = rw h (simp length-append (omega (arith, length-part 10 (v .i * 10) l))) in
+    let n : v .at + 10 ≡ length (held-words (a .set) l 0 (v .i + 1)) = held-longer (a .set) l (v .i) (v .at) e (v .inv .2) in
     let room : length (held-words (a .set) l 0 (v .i + 1)) ≤ length (a .out .now) = omega (arith, n) in
     let o : c .if1 .out ≡ laid (held-words (a .set) l 0 (v .i + 1)) (a .out .now) =
     w .5
