@@ -1,0 +1,47 @@
+-- The words of a written bundle, read off the slots, the set and a kept group; words behind the bundle stay as they were.
+use Prim.Native.Nat.{ℕ, zero, suc, _+_, _*_, _^_}
+use mathlib.Core.Bool.{Bool, _&&_}
+use mathlib.Core.List.{List, [], _∷_, _++_}
+use lib.Count.{ones}
+use lib.Dec.{ltb, leb}
+use lib.ListN.{length, getD}
+use Rattle.laws.specs.Pick.{pick}
+use Rattle.laws.specs.Sets.{bit}
+use Rattle.format.specs.Numbers.{output-words, most-statements, bundle-words}
+use Rattle.station.specs.Words.{over, sites}
+
+-- words written over the front of those lent
+unfoldable pub laid : List ℕ → List ℕ → List ℕ
+laid ws out = over ws out
+
+-- n words from a place on, with 0 for each that the list lacks
+unfoldable pub part : ℕ → ℕ → List ℕ → List ℕ
+part zero at l = []
+part (suc n) at l = part n at l ++ (getD l (at + n) 0 ∷ [])
+
+-- the words of those of k slots from slot i on whose bit is set, by rising station
+unfoldable pub held-words : ℕ → List ℕ → ℕ → ℕ → List ℕ
+held-words set slots i zero = []
+held-words set slots i (suc k) =
+    pick (bit set i) (part 10 (i * 10) slots ++ held-words set slots (suc i) k) (held-words set slots (suc i) k)
+
+-- the head word and the main statement's ten words
+unfoldable pub main-words : ℕ → ℕ → ℕ → List ℕ → List ℕ
+main-words count w0 question code = (3 * 2 ^ 30 + count) ∷ w0 ∷ question ∷ part 8 0 code
+
+-- head and main statement, the held statements of the set, and behind them k statements of a kept group
+unfoldable pub words-of : ℕ → ℕ → List ℕ → List ℕ → ℕ → List ℕ → ℕ → List ℕ
+words-of w0 question code slots set group k =
+    main-words (ones set + k) w0 question code ++ held-words set slots 0 sites ++ part (k * 10) 0 group
+
+-- what is lent has room for every bundle, the set names stations only, and a bundle has room for the statements
+unfoldable pub writable : ℕ → ℕ → ℕ → ℕ → Bool
+writable lent set count k = leb output-words lent && ltb set (2 ^ sites) && leb k 16 && leb (count + k) most-statements
+
+-- the lent words behind the call, and the word count: where the bundle cannot be written no word is changed
+unfoldable pub lent-after : ℕ → ℕ → List ℕ → List ℕ → ℕ → List ℕ → ℕ → List ℕ → List ℕ
+lent-after w0 question code slots set group k out =
+    pick (writable (length out) set (ones set) k) (over (words-of w0 question code slots set group k) out) out
+
+unfoldable pub count-after : ℕ → ℕ → ℕ → ℕ
+count-after lent set k = pick (writable lent set (ones set) k) (bundle-words (ones set + k)) 0
