@@ -2,6 +2,7 @@ pub mod Machine
 pub mod Words
 pub mod Fit
 pub mod Calls
+pub mod Marked
 pub mod ReadBack
 pub mod Slots
 pub mod Sane
