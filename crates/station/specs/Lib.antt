@@ -3,6 +3,7 @@ pub mod Words
 pub mod Fit
 pub mod Calls
 pub mod Marked
+pub mod Order
 pub mod Coin
 pub mod ReadBack
 pub mod Slots
