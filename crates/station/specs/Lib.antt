@@ -5,6 +5,7 @@ pub mod Calls
 pub mod Marked
 pub mod Order
 pub mod Coin
+pub mod Decision
 pub mod ReadBack
 pub mod Slots
 pub mod Sane
