@@ -134,3 +134,17 @@ pub marked-hold : (mac : List ℕ → List ℕ → List ℕ) (key : List ℕ) �
 unfolding pick backing seen first-failed rule wanted some in-order holds first-group second-group has-second early-toss rest-holds spread groups-hold every insert number-of first-value those vote-value decided carried follows ended taken conflict step step-of above coding-plain fields-of word-of formed
 marked-hold mac key =
     ((refl, (refl, refl)), ((refl, (refl, refl)), ((refl, (refl, refl)), (refl, (refl, (refl, (refl, (refl, (refl, (refl, (refl, (refl, (refl, tt)))))))))))))
+
+-- "Where several held bundles could supply a second group or a rule 3 group, the lowest-numbered station's is taken.", in either order of coming
+abbrev pub others : List Statement
+others = proposal 1 2 1 D-GET ∷ proposal 1 3 1 D-GET ∷ proposal 1 4 1 D-GET ∷ []
+
+abbrev pub lowest : List Row
+lowest =
+    gives 4 (voting 1) (vote 1 1 none by mixed) (vote 1 3 1 by others ∷ vote 1 2 1 by all-of 1 ∷ []) 0 (writes sent kind-P 1 D-GET 2 (all-of 1) none)
+    ∷ gives 4 (voting 1) (vote 1 1 none by mixed) (vote 1 2 1 by all-of 1 ∷ vote 1 3 1 by others ∷ []) 0 (writes sent kind-P 1 D-GET 2 (all-of 1) none)
+    ∷ []
+
+pub lowest-hold : (mac : List ℕ → List ℕ → List ℕ) (key : List ℕ) → All (Holds mac key) lowest
+unfolding pick backing seen first-failed rule wanted some in-order holds first-group second-group has-second early-toss rest-holds spread groups-hold every insert number-of first-value those vote-value decided carried follows ended taken conflict step step-of above
+lowest-hold mac key = (refl, (refl, tt))
