@@ -1,14 +1,14 @@
 -- The module's pair rises with each coding, plain or with the coin; a refusal leaves the module as it was.
-use Prim.Native.Nat.{ℕ, _+_, _*_, _<_}
+use Prim.Native.Nat.{ℕ, _<_}
 use mathlib.Core.Bool.{Bool, true, false, not, _&&_, _||_}
-use mathlib.Core.List.{List, [], _∷_}
-use mathlib.Core.Path.{_≡_, refl, sym, ap, _∙_}
+use mathlib.Core.List.{List, _∷_}
+use mathlib.Core.Path.{_≡_, refl}
 use native.Mathlib.Omega.{arith}
 use lib.Dec.{eqb, ltb}
-use borrow.Author.Tests.{eqb-true, eqb-false, ltb-true, ltb-false, eq-eqb, ne-eqb}
+use borrow.Author.Tests.{eqb-true, eqb-false, ltb-true}
 use Rattle.laws.specs.Pick.{pick}
-use Rattle.laws.specs.Bools.{never, both}
-use Rattle.laws.specs.Refusals.{All, Test, test, first-failed, all-passed}
+use Rattle.laws.specs.Bools.{both}
+use Rattle.laws.specs.Refusals.{test, first-failed, all-passed}
 use Rattle.format.specs.Numbers.{out-of-range}
 use Rattle.format.specs.Statement.{Statement, statement, written, step}
 use Rattle.sealed.specs.declared.Last.{Last}

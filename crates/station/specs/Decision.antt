@@ -1,6 +1,6 @@
 -- An opening in order is answered 20 and names no decision; "The first decision is kept", whatever is given.
 use Prim.Native.Nat.{ℕ}
-use mathlib.Core.Bool.{Bool, true, false, _&&_, _||_}
+use mathlib.Core.Bool.{Bool, true, false, _||_}
 use mathlib.Core.List.{List, [], _++_}
 use mathlib.Core.Path.{_≡_, refl}
 use lib.Dec.{eqb, ltb, leb}
@@ -17,7 +17,7 @@ use Rattle.sealed.specs.Sealed.{module-fits, last-for, above, advanced}
 use Rattle.station.specs.declared.Stage.{Stage}
 use Rattle.station.specs.declared.Stage.the-variants.{Gathering, Proposing, Voting}
 use Rattle.station.specs.declared.Station.{Station}
-use Rattle.station.specs.Machine.{State, Outcome, refused, keeps, sends, Next, own, began, shut, moved, keeping, follows, decided, decision-after, decision-at, closes, ended, taken}
+use Rattle.station.specs.Machine.{State, Outcome, refused, keeps, sends, Next, own, began, shut, moved, keeping, follows, decision-at, closes, ended, taken}
 use Rattle.station.specs.Words.{state-of, station-of, bundle-of, over}
 use Rattle.station.specs.Calls.{Returned, returned, opening, give-tests, giving}
 

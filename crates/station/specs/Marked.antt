@@ -1,8 +1,7 @@
 -- "Marked examples of the count": the whole table, and one theorem over it. Each row goes through the definitions of the calls themselves: a station that
 -- holds its own statement is given bundles, one after the other, each tested by its rule and by the station's step tests; a module codes ten words.
-use Prim.Native.Nat.{ℕ, _+_}
-use mathlib.Core.Bool.{Bool}
-use mathlib.Core.List.{List, [], _∷_, _++_}
+use Prim.Native.Nat.{ℕ}
+use mathlib.Core.List.{List, [], _∷_}
 use mathlib.Core.Path.{_≡_, refl}
 use lib.ListN.{replicate}
 use Rattle.laws.specs.Pick.{pick}
