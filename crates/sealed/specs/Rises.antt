@@ -51,7 +51,7 @@ pub data Did (m : Module) (ws : List ℕ) (s : Statement) (x : Coded) : Type 0 w
   coded : x .number ≡ 0 → Above (last-for m (s .question)) (s .question) (step s) → last-for (x .after) (s .question) ≡ pair (s .question) (step s) → Did m ws s x
   refused : (x .number ≡ 0 → ⊥) → x .after ≡ m → x .lent ≡ ws → Did m ws s x
 
--- the statement that is coded differs from the words' in its value alone, so that its pair is theirs; its way is tested before
+-- the statement that is coded differs from that of the words at most in its value, so that the pair that was tested is its own
 did : (code : List ℕ → List ℕ) (m : Module) (ws : List ℕ) (s : Statement) (range way : Bool)
     → s .question ≡ statement ws 0 .question → step s ≡ step (statement ws 0)
     → Did m ws s (coding code m s ws (first-failed (test range out-of-range ∷ coding-tests m ws way)))

@@ -135,6 +135,7 @@ module _ (mac : List ℕ → List ℕ → List ℕ) (m : Module) (t : Station) (
   unfolding returned
   tossed-says r d votes coin = (refl, refl)
 
+  -- coin 0 and coin 1: the same answer in every part, or a toss in both calls
   pub data CoinEffect : Type 0 where
     no-effect : giving mac m t ws 0 out ≡ giving mac m t ws 1 out → CoinEffect
     tossed : (r d : ℕ) (votes : List Statement) → giving mac m t ws 0 out ≡ tossed-with r d votes 0 → giving mac m t ws 1 out ≡ tossed-with r d votes 1 → CoinEffect
