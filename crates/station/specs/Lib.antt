@@ -2,6 +2,10 @@ pub mod Machine
 pub mod Words
 pub mod Fit
 pub mod Calls
+pub mod Marked
+pub mod Order
+pub mod Coin
+pub mod Decision
 pub mod ReadBack
 pub mod Slots
 pub mod Sane

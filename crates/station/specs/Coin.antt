@@ -1,0 +1,159 @@
+-- "A coin in range has no effect where none is tossed": a bundle given with coin 0 and with coin 1 has one and the same answer (number, word count,
+-- station, module and lent words), unless both calls are answered 20 and write a P flagged R-GET, of one round and with one certificate.
+use Prim.Native.Nat.{ℕ, _+_}
+use mathlib.Core.Bool.{Bool, true, false, _&&_, _||_}
+use mathlib.Core.List.{List, [], _∷_, _++_}
+use mathlib.Core.Path.{_≡_, refl, sym, ap, _∙_}
+use lib.Dec.{eqb, ltb}
+use lib.ListN.{length}
+use Rattle.laws.specs.Pick.{pick}
+use Rattle.laws.specs.Bools.{never}
+use Rattle.laws.specs.Refusals.{first-failed}
+use Rattle.format.specs.Numbers.{kind-P, none, D-GET, R-GET, kept, sent, sent-decided, closed-now, not-above}
+use Rattle.format.specs.Group.{quorum}
+use Rattle.format.specs.Statement.{Statement, step}
+use Rattle.format.specs.Bundle.{main-of, certificate-of}
+use Rattle.certificate.specs.Rules.{some, some-value}
+use Rattle.certificate.specs.Check.{every}
+use Rattle.sealed.specs.declared.Last.{Last}
+use Rattle.sealed.specs.declared.Module.{Module}
+use Rattle.sealed.specs.Sealed.{last-for, above}
+use Rattle.station.specs.declared.Stage.{Stage}
+use Rattle.station.specs.declared.Stage.the-variants.{Gathering, Proposing, Voting}
+use Rattle.station.specs.declared.Station.{Station}
+use Rattle.station.specs.Machine.{State, Outcome, refused, keeps, sends, Next, next, proposing, insert, has-value, vote-value, decided, carried, decision-after, keeping, follows, decision-at, closes, shut, moved, own, began, ended, taken}
+use Rattle.station.specs.Words.{state-of, bundle-of, over}
+use Rattle.station.specs.Calls.{Returned, returned, give-tests, giving}
+
+-- no vote for 0 or 1 among some: none is decided, and no call first decides
+no-votes : (s : Statement) (h : List Statement) → ltb (carried (s ∷ h)) none ≡ false → decided (s ∷ h) ≡ none
+unfolding carried decided vote-value some every pick
+no-votes s h = go (eqb (s .value) 0) (eqb (s .value) 1) (some-value 0 h) (some-value 1 h)
+  where
+    go : (a b x y : Bool) → ltb (pick ((a && true) || x) 0 (pick ((b && true) || y) 1 none)) none ≡ false
+        → pick (a && every (has-value 0) h) 0 (pick (b && every (has-value 1) h) 1 none) ≡ none
+    go true b x y e = never true e refl
+    go false true true y e = never true e refl
+    go false true false y e = never true e refl
+    go false false x y e = refl
+
+inserted : (m : Statement) (h : List Statement) → ltb (carried (insert m h)) none ≡ false → decided (insert m h) ≡ none
+unfolding insert pick
+inserted m [] = no-votes m []
+inserted m (s ∷ h) = go (ltb (m .station) (s .station))
+  where
+    go : (b : Bool) → ltb (carried (pick b (m ∷ s ∷ h) (s ∷ insert m h))) none ≡ false → decided (pick b (m ∷ s ∷ h) (s ∷ insert m h)) ≡ none
+    go true = no-votes m (s ∷ h)
+    go false = no-votes s (insert m h)
+
+number-20 : (old new : ℕ) → new ≡ none → pick (ltb old none || eqb (decision-after old new) none) sent sent-decided ≡ sent
+unfolding pick
+number-20 old new e = rw e (go (ltb old none))
+  where
+    go : (b : Bool) → pick (b || eqb (pick b old none) none) sent sent-decided ≡ sent
+    go true = refl
+    go false = refl
+
+module _ (code : List ℕ → List ℕ) (n number : ℕ) (last : Last) where
+  -- a coin tossed: 20, and the P flagged R-GET with the coin as its value, sent with the votes and then held
+  abbrev pub tossing : ℕ → ℕ → ℕ → List Statement → ℕ → Outcome
+  tossing question r d votes coin =
+      let s = own code number question kind-P coin R-GET r in
+      sends sent s (votes ++ []) (began question (proposing r R-GET) d s votes)
+
+  -- what comes of coin 0 and of coin 1
+  pub data Tossed (question : ℕ) (of-0 of-1 : Outcome) : Type 0 where
+    no-toss : of-0 ≡ of-1 → Tossed question of-0 of-1
+    toss : (r d : ℕ) (votes : List Statement) → of-0 ≡ tossing question r d votes 0 → of-1 ≡ tossing question r d votes 1 → Tossed question of-0 of-1
+
+  ended-tossed : (t : State) → (ltb (carried (t .held)) none ≡ false → decided (t .held) ≡ none) → Tossed (t .question) (ended code n number last t 0) (ended code n number last t 1)
+  unfolding ended pick follows step
+  ended-tossed t nothing = go (closes (t .stage)) (t .stage)
+    where
+      d : Stage → ℕ
+      d g = decision-at g (t .decision) (t .held)
+
+      go : (c : Bool) (g : Stage) → Tossed (t .question)
+          (pick c (keeps closed-now (shut code n number last t (d g))) (moved code n number last t (follows n g t 0) (d g)))
+          (pick c (keeps closed-now (shut code n number last t (d g))) (moved code n number last t (follows n g t 1) (d g)))
+      go true g = no-toss refl
+      go false Gathering = no-toss refl
+      go false (Proposing r f) = no-toss refl
+      go false (Voting r) = votes (ltb (carried (t .held)) none) refl
+        where
+          e : ℕ
+          e = decision-after (t .decision) (decided (t .held))
+
+          by-votes : Next
+          by-votes = next kind-P (carried (t .held)) D-GET (r .0 + 1) (t .first) [] (proposing (r .0 + 1) D-GET)
+
+          by-coin-0 : Next
+          by-coin-0 = next kind-P 0 R-GET (r .0 + 1) (t .held) [] (proposing (r .0 + 1) R-GET)
+
+          by-coin-1 : Next
+          by-coin-1 = next kind-P 1 R-GET (r .0 + 1) (t .held) [] (proposing (r .0 + 1) R-GET)
+
+          answer : ℕ
+          answer = pick (ltb (t .decision) none || eqb e none) sent sent-decided
+
+          votes : (b : Bool) → ltb (carried (t .held)) none ≡ b
+              → Tossed (t .question) (moved code n number last t (pick b by-votes by-coin-0) e) (moved code n number last t (pick b by-votes by-coin-1) e)
+          votes true h = no-toss refl
+          votes false h = coins (above last (t .question) (step (own code number (t .question) kind-P 0 R-GET (r .0 + 1))))
+            where
+              s : ℕ → Statement
+              s coin = own code number (t .question) kind-P coin R-GET (r .0 + 1)
+
+              u : ℕ → State
+              u coin = began (t .question) (proposing (r .0 + 1) R-GET) e (s coin) (t .held)
+
+              coins : (a : Bool) → Tossed (t .question)
+                  (pick a (sends answer (s 0) (t .held ++ []) (u 0)) (refused not-above)) (pick a (sends answer (s 1) (t .held ++ []) (u 1)) (refused not-above))
+              coins true =
+                  let k : answer ≡ sent = number-20 (t .decision) (decided (t .held)) (nothing h) in
+                  toss (r .0 + 1) e (t .held) (ap (λ (x : ℕ). sends x (s 0) (t .held ++ []) (u 0)) k) (ap (λ (x : ℕ). sends x (s 1) (t .held ++ []) (u 1)) k)
+              coins false = no-toss refl
+
+  taken-tossed : (t : State) (m : Statement) (c : List Statement) → Tossed (t .question) (taken code n number last t m c 0) (taken code n number last t m c 1)
+  unfolding taken pick
+  taken-tossed t m c = go (ltb (length (insert m (t .held))) (quorum n))
+    where
+      go : (b : Bool) → Tossed (t .question) (pick b (keeps kept (keeping n t m c)) (ended code n number last (keeping n t m c) 0))
+          (pick b (keeps kept (keeping n t m c)) (ended code n number last (keeping n t m c) 1))
+      go true = no-toss refl
+      go false = ended-tossed (keeping n t m c) (inserted m (t .held))
+
+-- ---- all that giving returns
+module _ (mac : List ℕ → List ℕ → List ℕ) (m : Module) (t : Station) (ws out : List ℕ) where
+  -- 20, and the written bundle is a P flagged R-GET of round r with the coin as its value; its certificate, the votes, is the same for either coin
+  abbrev pub tossed-with : ℕ → ℕ → List Statement → ℕ → Returned
+  tossed-with r d votes coin = returned m t out (tossing (mac (m .key)) (m .n) (m .number) (last-for m (t .identity .question)) (t .identity .question) r d votes coin)
+
+  pub tossed-says : (r d : ℕ) (votes : List Statement) (coin : ℕ)
+      → (tossed-with r d votes coin .number ≡ sent)
+      × (tossed-with r d votes coin .lent ≡ over (bundle-of (own (mac (m .key)) (m .number) (t .identity .question) kind-P coin R-GET r) (votes ++ [])) out)
+  unfolding returned
+  tossed-says r d votes coin = (refl, refl)
+
+  -- coin 0 and coin 1: the same answer in every part, or a toss in both calls
+  pub data CoinEffect : Type 0 where
+    no-effect : giving mac m t ws 0 out ≡ giving mac m t ws 1 out → CoinEffect
+    tossed : (r d : ℕ) (votes : List Statement) → giving mac m t ws 0 out ≡ tossed-with r d votes 0 → giving mac m t ws 1 out ≡ tossed-with r d votes 1 → CoinEffect
+
+  pub coin-effect : CoinEffect
+  unfolding giving pick state-of
+  coin-effect = go (eqb (first-failed (give-tests mac m t ws 0 out)) 0) refl refl
+    where
+      k : ℕ
+      k = first-failed (give-tests mac m t ws 0 out)
+
+      whole : ℕ → Outcome
+      whole coin = taken (mac (m .key)) (m .n) (m .number) (last-for m (t .identity .question)) (state-of t) (main-of ws) (certificate-of ws) coin
+
+      go : (b : Bool) → giving mac m t ws 0 out ≡ returned m t out (pick b (whole 0) (refused k)) → giving mac m t ws 1 out ≡ returned m t out (pick b (whole 1) (refused k)) → CoinEffect
+      go true x y = from (taken-tossed (mac (m .key)) (m .n) (m .number) (last-for m (t .identity .question)) (state-of t) (main-of ws) (certificate-of ws))
+        where
+          from : Tossed (mac (m .key)) (m .n) (m .number) (last-for m (t .identity .question)) (t .identity .question) (whole 0) (whole 1) → CoinEffect
+          from (no-toss e) = no-effect (x ∙ ap (returned m t out) e ∙ sym y)
+          from (toss r d votes e f) = tossed r d votes (x ∙ ap (returned m t out) e) (y ∙ ap (returned m t out) f)
+      go false x y = no-effect (x ∙ sym y)

@@ -1,0 +1,91 @@
+-- An opening in order is answered 20 and names no decision; "The first decision is kept", whatever is given.
+use Prim.Native.Nat.{ℕ}
+use mathlib.Core.Bool.{Bool, true, false, _||_}
+use mathlib.Core.List.{List, [], _++_}
+use mathlib.Core.Path.{_≡_, refl}
+use lib.Dec.{eqb, ltb, leb}
+use lib.ListN.{length}
+use Rattle.laws.specs.Pick.{pick}
+use Rattle.laws.specs.Refusals.{first-failed}
+use Rattle.format.specs.Numbers.{kind-INIT, none, D-GET, kept, sent, sent-decided, closed-now, not-above, output-words, bundle-words}
+use Rattle.format.specs.Group.{quorum}
+use Rattle.format.specs.Words.{step-of}
+use Rattle.format.specs.Statement.{Statement, step}
+use Rattle.format.specs.Bundle.{main-of, certificate-of}
+use Rattle.sealed.specs.declared.Module.{Module}
+use Rattle.sealed.specs.Sealed.{module-fits, last-for, above, advanced}
+use Rattle.station.specs.declared.Stage.{Stage}
+use Rattle.station.specs.declared.Stage.the-variants.{Gathering, Proposing, Voting}
+use Rattle.station.specs.declared.Station.{Station}
+use Rattle.station.specs.Machine.{State, Outcome, refused, keeps, sends, Next, own, began, shut, moved, keeping, follows, decision-at, closes, ended, taken}
+use Rattle.station.specs.Words.{state-of, station-of, bundle-of, over}
+use Rattle.station.specs.Calls.{Returned, returned, opening, give-tests, giving}
+
+-- 20, eleven words, and a station that gathers, holds its INIT alone and names no decision
+abbrev pub opened-with : (List ℕ → List ℕ → List ℕ) → Module → ℕ → ℕ → List ℕ → Returned
+opened-with mac m question proposal out =
+    let s = own (mac (m .key)) (m .number) question kind-INIT proposal D-GET 0 in
+    record {
+      number = sent;
+      count = bundle-words 0;
+      station = station-of (m .n) (m .number) (began question Gathering none s []);
+      after = advanced m question 0;
+      lent = over (bundle-of s []) out;
+    }
+
+pub opens : (mac : List ℕ → List ℕ → List ℕ) (m : Module) (question proposal : ℕ) (out : List ℕ) → leb output-words (length out) ≡ true
+    → module-fits m ≡ true → ltb proposal 2 ≡ true → above (last-for m question) question 0 ≡ true
+    → opening mac m question proposal out ≡ opened-with mac m question proposal out
+unfolding opening returned first-failed pick step step-of
+opens mac m question proposal out room fit bit later = rw (room, fit, bit, later)
+
+pub opened-undecided : (mac : List ℕ → List ℕ → List ℕ) (m : Module) (question proposal : ℕ) (out : List ℕ)
+    → opened-with mac m question proposal out .station .decision ≡ none
+unfolding station-of
+opened-undecided mac m question proposal out = refl
+
+-- a decision that is there stays
+stays : (g : Stage) (old : ℕ) (h : List Statement) → ltb old none ≡ true → decision-at g old h ≡ old
+unfolding pick
+stays Gathering old h e = refl
+stays (Proposing r f) old h e = refl
+stays (Voting r) old h e = rw e
+
+module _ (mac : List ℕ → List ℕ → List ℕ) (m : Module) (t : Station) (ws : List ℕ) (coin : ℕ) (out : List ℕ) (there : ltb (t .decision) none ≡ true) where
+  Keeps : Outcome → Type 0
+  Keeps o = returned m t out o .station .decision ≡ t .decision
+
+  pub first-kept : giving mac m t ws coin out .station .decision ≡ t .decision
+  unfolding giving returned taken ended station-of state-of pick Keeps
+  first-kept = go (eqb (first-failed (give-tests mac m t ws coin out)) 0)
+    where
+      k : State
+      k = keeping (m .n) (state-of t) (main-of ws) (certificate-of ws)
+
+      d : ℕ
+      d = decision-at (t .stage) (t .decision) (k .held)
+
+      x : Next
+      x = follows (m .n) (t .stage) k coin
+
+      s : Statement
+      s = own (mac (m .key)) (m .number) (t .identity .question) (x .kind) (x .value) (x .flag) (x .round)
+
+      sent-on : (a : Bool) (number : ℕ) → Keeps (pick a (sends number s (x .first ++ x .second) (began (t .identity .question) (x .stage) d s (x .first))) (refused not-above))
+      sent-on true number = stays (t .stage) (t .decision) (k .held) there
+      sent-on false number = refl
+
+      end : (c : Bool) → Keeps (pick c (keeps closed-now (shut (mac (m .key)) (m .n) (m .number) (last-for m (t .identity .question)) k d))
+          (moved (mac (m .key)) (m .n) (m .number) (last-for m (t .identity .question)) k x d))
+      end true = stays (t .stage) (t .decision) (k .held) there
+      end false =
+          sent-on (above (last-for m (t .identity .question)) (t .identity .question) (step s)) (pick (ltb (t .decision) none || eqb d none) sent sent-decided)
+
+      take-in : (b : Bool) → Keeps (pick b (keeps kept k) (ended (mac (m .key)) (m .n) (m .number) (last-for m (t .identity .question)) k coin))
+      take-in true = refl
+      take-in false = end (closes (t .stage))
+
+      go : (b : Bool) → Keeps (pick b (taken (mac (m .key)) (m .n) (m .number) (last-for m (t .identity .question)) (state-of t) (main-of ws) (certificate-of ws) coin)
+          (refused (first-failed (give-tests mac m t ws coin out))))
+      go true = take-in (ltb (length (k .held)) (quorum (m .n)))
+      go false = refl

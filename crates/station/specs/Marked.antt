@@ -1,0 +1,149 @@
+-- "Marked examples of the count": the whole table, and one theorem over it. Each row goes through the definitions of the calls themselves: a station that
+-- holds its own statement is given bundles, one after the other, each tested by its rule and by the station's step tests; a module codes ten words.
+use Prim.Native.Nat.{ℕ}
+use mathlib.Core.List.{List, [], _∷_}
+use mathlib.Core.Path.{_≡_, refl}
+use lib.ListN.{replicate}
+use Rattle.laws.specs.Pick.{pick}
+use Rattle.laws.specs.Refusals.{All, test, first-failed}
+use Rattle.format.specs.Numbers.{kind-INIT, kind-P, kind-V, none, D-GET, R-GET, no-certificate, kept, sent, sent-decided, conflicting, not-above}
+use Rattle.format.specs.Group.{quorum, backing}
+use Rattle.format.specs.Words.{fields-of, word-of, formed, step-of}
+use Rattle.format.specs.Statement.{Statement, written, step}
+use Rattle.certificate.specs.Rules.{rule, wanted, some, in-order, holds, first-group, second-group, has-second, early-toss, rest-holds, spread, groups-hold}
+use Rattle.certificate.specs.Check.{every}
+use Rattle.sealed.specs.declared.Module.{Module}
+use Rattle.sealed.specs.Sealed.{no-pair, pair, above, coding-plain}
+use Rattle.station.specs.declared.Stage.{Stage}
+use Rattle.station.specs.declared.Stage.the-variants.{Gathering}
+use Rattle.station.specs.Machine.{State, Outcome, refused, keeps, sends, proposing, voting, began, insert, number-of, first-value, those, vote-value, decided, carried, follows, ended, taken, conflict, step-tests}
+use Rattle.station.specs.Calls.{unless}
+
+-- ---- statements of question 1, by round, station, value and flag
+abbrev pub says : ℕ → ℕ → ℕ → ℕ → ℕ → Statement
+says kind r s v f = record { kind = kind; value = v; flag = f; station = s; round = r; question = 1; code = replicate 8 0 }
+
+abbrev pub init : ℕ → ℕ → Statement
+init s v = says kind-INIT 0 s v D-GET
+
+abbrev pub proposal : ℕ → ℕ → ℕ → ℕ → Statement
+proposal r s v f = says kind-P r s v f
+
+abbrev pub vote : ℕ → ℕ → ℕ → Statement
+vote r s v = says kind-V r s v D-GET
+
+-- certificates: round 1's proposals of v; its proposals of both values; its none votes
+abbrev pub all-of : ℕ → List Statement
+all-of v = proposal 1 1 v D-GET ∷ proposal 1 2 v D-GET ∷ proposal 1 3 v D-GET ∷ []
+
+abbrev pub mixed : List Statement
+mixed = proposal 1 1 0 D-GET ∷ proposal 1 2 1 D-GET ∷ proposal 1 3 1 D-GET ∷ []
+
+abbrev pub nones : List Statement
+nones = vote 1 1 none ∷ vote 1 2 none ∷ vote 1 3 none ∷ []
+
+-- ---- a bundle, and what is seen of a call
+pub record Bundle : Type 0 where
+  pub main : Statement
+  pub certificate : List Statement
+
+infixl 70 _by_
+abbrev pub _by_ : Statement → List Statement → Bundle
+m by c = record { main = m; certificate = c }
+
+-- the number returned; and, where a bundle is written, its main statement's kind, value, flag and round, its certificate, and the decision then named
+pub data Seen : Type 0 where
+  answers : ℕ → Seen
+  writes : (number kind value flag round : ℕ) (certificate : List Statement) (decision : ℕ) → Seen
+
+abbrev pub unless-kept : (ℕ → State → Seen) → Outcome → Seen
+unless-kept f (refused k) = answers k
+unless-kept f (keeps k t) = f k t
+unless-kept f (sends k s c t) = writes k (s .kind) (s .value) (s .flag) (s .round) c (t .decision)
+
+module _ (code : List ℕ → List ℕ) (n coin : ℕ) where
+  -- station 1, whose module has coded nothing yet, is given a bundle that is read already
+  abbrev pub given : State → Bundle → Outcome
+  given t b =
+      unless (test (rule n (b .main) (b .certificate)) no-certificate ∷ step-tests t (b .main))
+      (taken code n 1 no-pair t (b .main) (b .certificate) coin)
+
+  -- while it keeps, it is given the next
+  unfoldable pub seen : List Bundle → Outcome → Seen
+  seen [] o = unless-kept (λ k t. answers k) o
+  seen (b ∷ l) o = unless-kept (λ k t. seen l (given t b)) o
+
+-- ---- a row: its case, and what it gives
+pub data Row : Type 0 where
+  -- n: the quorum, and the backings of 0 and of 1
+  counts : (n q of-0 of-1 : ℕ) → Row
+  -- a station of n in a stage, its own bundle, the bundles given, and the coin: what is seen in the end
+  gives : (n : ℕ) → Stage → Bundle → List Bundle → (coin : ℕ) → Seen → Row
+  -- the step last coded, the statement to code plain: the number returned
+  codes : (last : ℕ) → Statement → (number : ℕ) → Row
+
+-- station 1's module of 4, which has coded a step of question 1
+abbrev pub module-at : List ℕ → ℕ → Module
+module-at key last = record { key = key; n = 4; number = 1; last = pair 1 last }
+
+abbrev pub Holds : (List ℕ → List ℕ → List ℕ) → List ℕ → Row → Type 0
+Holds mac key (counts n q a b) = (quorum n ≡ q) × ((backing n 0 ≡ a) × (backing n 1 ≡ b))
+Holds mac key (gives n g b l coin x) = seen (mac key) n coin l (keeps kept (began 1 g none (b .main) (b .certificate))) ≡ x
+Holds mac key (codes last s k) = coding-plain mac (module-at key last) (written s) .number ≡ k
+
+abbrev pub marked : List Row
+marked =
+    -- n 2: q 2, backings 1 and 2
+    counts 2 2 1 2
+    -- n 6: q 4, backings 2 and 3
+    ∷ counts 6 4 2 3
+    -- n 31: q 16, backings 8 and 9
+    ∷ counts 31 16 8 9
+    -- n 3, INITs 0, 1: P 0, with the one INIT of 0
+    ∷ gives 3 Gathering (init 1 0 by []) (init 2 1 by [] ∷ []) 1
+    (writes sent kind-P 0 D-GET 1 (init 1 0 ∷ []) none)
+    -- n 4, INITs 0, 1, 1: P 1, with the two INITs of 1
+    ∷ gives 4 Gathering (init 1 0 by []) (init 2 1 by [] ∷ init 3 1 by [] ∷ []) 0
+    (writes sent kind-P 1 D-GET 1 (init 2 1 ∷ init 3 1 ∷ []) none)
+    -- n 4, V 0, 0, 0: decides 0
+    ∷ gives 4 (voting 1) (vote 1 1 0 by all-of 0) (vote 1 2 0 by all-of 0 ∷ vote 1 3 0 by all-of 0 ∷ []) 1
+    (writes sent-decided kind-P 0 D-GET 2 (all-of 0) 0)
+    -- n 4, V none, 1, none: no decision, P 1 D-GET
+    ∷ gives 4 (voting 1) (vote 1 1 none by mixed) (vote 1 2 1 by all-of 1 ∷ vote 1 3 none by mixed ∷ []) 0
+    (writes sent kind-P 1 D-GET 2 (all-of 1) none)
+    -- n 4, V all none, coin 1: P 1 R-GET
+    ∷ gives 4 (voting 1) (vote 1 1 none by mixed) (vote 1 2 none by mixed ∷ vote 1 3 none by mixed ∷ []) 1
+    (writes sent kind-P 1 R-GET 2 nones none)
+    -- n 4, round 2, P 0 R, 0 D, 0 R: V 0 with a second group, round 1's proposals of 0
+    ∷ gives 4 (proposing 2 R-GET) (proposal 2 1 0 R-GET by nones) (proposal 2 2 0 D-GET by all-of 0 ∷ proposal 2 3 0 R-GET by nones ∷ []) 1
+    (writes sent kind-V 0 D-GET 2 (proposal 2 1 0 R-GET ∷ proposal 2 2 0 D-GET ∷ proposal 2 3 0 R-GET ∷ all-of 0) none)
+    -- n 4, round 2, P 0 D, 1 R, 0 R: V none with round 1 none votes
+    ∷ gives 4 (proposing 2 D-GET) (proposal 2 1 0 D-GET by all-of 0) (proposal 2 2 1 R-GET by nones ∷ proposal 2 3 0 R-GET by nones ∷ []) 0
+    (writes sent kind-V none D-GET 2 (proposal 2 1 0 D-GET ∷ proposal 2 2 1 R-GET ∷ proposal 2 3 0 R-GET ∷ nones) none)
+    -- n 4, round 2, holding P 0 D, then 1 D: 10
+    ∷ gives 4 (proposing 2 D-GET) (proposal 2 1 0 D-GET by all-of 0) (proposal 2 2 1 D-GET by all-of 1 ∷ []) 0 (answers conflicting)
+    -- module at step 4, step 4: 12
+    ∷ codes 4 (proposal 2 1 0 D-GET) not-above
+    -- module at step 4, step 5: coded
+    ∷ codes 4 (vote 2 1 0) 0
+    ∷ []
+
+-- every row holds, whatever the code and the key
+pub marked-hold : (mac : List ℕ → List ℕ → List ℕ) (key : List ℕ) → All (Holds mac key) marked
+unfolding pick backing seen first-failed rule wanted some in-order holds first-group second-group has-second early-toss rest-holds spread groups-hold every insert number-of first-value those vote-value decided carried follows ended taken conflict step step-of above coding-plain fields-of word-of formed
+marked-hold mac key =
+    ((refl, (refl, refl)), ((refl, (refl, refl)), ((refl, (refl, refl)), (refl, (refl, (refl, (refl, (refl, (refl, (refl, (refl, (refl, (refl, tt)))))))))))))
+
+-- "Where several held bundles could supply a second group or a rule 3 group, the lowest-numbered station's is taken.", in either order of coming
+abbrev pub others : List Statement
+others = proposal 1 2 1 D-GET ∷ proposal 1 3 1 D-GET ∷ proposal 1 4 1 D-GET ∷ []
+
+abbrev pub lowest : List Row
+lowest =
+    gives 4 (voting 1) (vote 1 1 none by mixed) (vote 1 3 1 by others ∷ vote 1 2 1 by all-of 1 ∷ []) 0 (writes sent kind-P 1 D-GET 2 (all-of 1) none)
+    ∷ gives 4 (voting 1) (vote 1 1 none by mixed) (vote 1 2 1 by all-of 1 ∷ vote 1 3 1 by others ∷ []) 0 (writes sent kind-P 1 D-GET 2 (all-of 1) none)
+    ∷ []
+
+pub lowest-hold : (mac : List ℕ → List ℕ → List ℕ) (key : List ℕ) → All (Holds mac key) lowest
+unfolding pick backing seen first-failed rule wanted some in-order holds first-group second-group has-second early-toss rest-holds spread groups-hold every insert number-of first-value those vote-value decided carried follows ended taken conflict step step-of above
+lowest-hold mac key = (refl, (refl, tt))
