@@ -26,6 +26,7 @@ use Rattle.station.specs.declared.Station.{Station}
 use Rattle.station.specs.Machine.{insert, number-of, first-value, those, vote-value, decided, carried, follows, ended, taken, conflict}
 use Rattle.station.specs.Words.{held-in, leading, kept-first, kept-second, state-of, set-of, slot-of, slots-of, all-written, station-of, bundle-of}
 use Rattle.station.specs.Fit.{zeros, slots-fit, fits}
+use Rattle.station.specs.FitSane.{Lengths}
 use Rattle.station.specs.Calls.{Returned, returned, opening, giving, no-station}
 use Rattle.station.specs.Views.{unrefused}
 use Rattle.agreement.specs.Demand.{Call, opens, gives, codes, Entry, Lineage, Found, found, own, gave, member, logged, votes, act, modules, answer, coded-in, log, openings, lineage, Sound, FewFaulty, CodesCame, Given, Decides, Claim}
@@ -267,110 +268,137 @@ abbrev pub example : List Call
 example = calls-12
 
 -- ---- the numbers answered
-pub number-1 : answer-1 .number ≡ 20
-unfolding pick count first-failed ones backing fields-of word-of formed step-of statements same-words verifies well-formed step laid-out all-formed bundle-fits wanted some in-order holds first-group second-group has-second early-toss rest-holds spread groups-hold rule every above making coding-plain insert number-of first-value those vote-value decided carried follows ended taken conflict held-in leading kept-first kept-second state-of set-of slot-of slots-of all-written station-of bundle-of zeros slots-fit fits returned opening giving no-station act modules
-number-1 = refl
+pub record Answered : Type 0 where
+  pub at-1 : answer-1 .number ≡ 20
+  pub at-2 : answer-2 .number ≡ 20
+  pub at-3 : answer-3 .number ≡ 0
+  pub at-4 : answer-4 .number ≡ 2
+  pub at-5 : answer-5 .number ≡ 5
+  pub at-6 : answer-6 .number ≡ 20
+  pub at-7 : answer-7 .number ≡ 20
+  pub at-8 : answer-8 .number ≡ 20
+  pub at-9 : answer-9 .number ≡ 20
+  pub at-10 : answer-10 .number ≡ 20
+  pub at-11 : answer-11 .number ≡ 21
+  pub at-12 : answer-12 .number ≡ 21
 
-pub number-2 : answer-2 .number ≡ 20
+pub answered : Answered
 unfolding pick count first-failed ones backing fields-of word-of formed step-of statements same-words verifies well-formed step laid-out all-formed bundle-fits wanted some in-order holds first-group second-group has-second early-toss rest-holds spread groups-hold rule every above making coding-plain insert number-of first-value those vote-value decided carried follows ended taken conflict held-in leading kept-first kept-second state-of set-of slot-of slots-of all-written station-of bundle-of zeros slots-fit fits returned opening giving no-station act modules
-number-2 = refl
-
-pub number-3 : answer-3 .number ≡ 0
-unfolding pick count first-failed ones backing fields-of word-of formed step-of statements same-words verifies well-formed step laid-out all-formed bundle-fits wanted some in-order holds first-group second-group has-second early-toss rest-holds spread groups-hold rule every above making coding-plain insert number-of first-value those vote-value decided carried follows ended taken conflict held-in leading kept-first kept-second state-of set-of slot-of slots-of all-written station-of bundle-of zeros slots-fit fits returned opening giving no-station act modules
-number-3 = refl
-
-pub number-4 : answer-4 .number ≡ 2
-unfolding pick count first-failed ones backing fields-of word-of formed step-of statements same-words verifies well-formed step laid-out all-formed bundle-fits wanted some in-order holds first-group second-group has-second early-toss rest-holds spread groups-hold rule every above making coding-plain insert number-of first-value those vote-value decided carried follows ended taken conflict held-in leading kept-first kept-second state-of set-of slot-of slots-of all-written station-of bundle-of zeros slots-fit fits returned opening giving no-station act modules
-number-4 = refl
-
-pub number-5 : answer-5 .number ≡ 5
-unfolding pick count first-failed ones backing fields-of word-of formed step-of statements same-words verifies well-formed step laid-out all-formed bundle-fits wanted some in-order holds first-group second-group has-second early-toss rest-holds spread groups-hold rule every above making coding-plain insert number-of first-value those vote-value decided carried follows ended taken conflict held-in leading kept-first kept-second state-of set-of slot-of slots-of all-written station-of bundle-of zeros slots-fit fits returned opening giving no-station act modules
-number-5 = refl
-
-pub number-6 : answer-6 .number ≡ 20
-unfolding pick count first-failed ones backing fields-of word-of formed step-of statements same-words verifies well-formed step laid-out all-formed bundle-fits wanted some in-order holds first-group second-group has-second early-toss rest-holds spread groups-hold rule every above making coding-plain insert number-of first-value those vote-value decided carried follows ended taken conflict held-in leading kept-first kept-second state-of set-of slot-of slots-of all-written station-of bundle-of zeros slots-fit fits returned opening giving no-station act modules
-number-6 = refl
-
-pub number-7 : answer-7 .number ≡ 20
-unfolding pick count first-failed ones backing fields-of word-of formed step-of statements same-words verifies well-formed step laid-out all-formed bundle-fits wanted some in-order holds first-group second-group has-second early-toss rest-holds spread groups-hold rule every above making coding-plain insert number-of first-value those vote-value decided carried follows ended taken conflict held-in leading kept-first kept-second state-of set-of slot-of slots-of all-written station-of bundle-of zeros slots-fit fits returned opening giving no-station act modules
-number-7 = refl
-
-pub number-8 : answer-8 .number ≡ 20
-unfolding pick count first-failed ones backing fields-of word-of formed step-of statements same-words verifies well-formed step laid-out all-formed bundle-fits wanted some in-order holds first-group second-group has-second early-toss rest-holds spread groups-hold rule every above making coding-plain insert number-of first-value those vote-value decided carried follows ended taken conflict held-in leading kept-first kept-second state-of set-of slot-of slots-of all-written station-of bundle-of zeros slots-fit fits returned opening giving no-station act modules
-number-8 = refl
-
-pub number-9 : answer-9 .number ≡ 20
-unfolding pick count first-failed ones backing fields-of word-of formed step-of statements same-words verifies well-formed step laid-out all-formed bundle-fits wanted some in-order holds first-group second-group has-second early-toss rest-holds spread groups-hold rule every above making coding-plain insert number-of first-value those vote-value decided carried follows ended taken conflict held-in leading kept-first kept-second state-of set-of slot-of slots-of all-written station-of bundle-of zeros slots-fit fits returned opening giving no-station act modules
-number-9 = refl
-
-pub number-10 : answer-10 .number ≡ 20
-unfolding pick count first-failed ones backing fields-of word-of formed step-of statements same-words verifies well-formed step laid-out all-formed bundle-fits wanted some in-order holds first-group second-group has-second early-toss rest-holds spread groups-hold rule every above making coding-plain insert number-of first-value those vote-value decided carried follows ended taken conflict held-in leading kept-first kept-second state-of set-of slot-of slots-of all-written station-of bundle-of zeros slots-fit fits returned opening giving no-station act modules
-number-10 = refl
-
-pub number-11 : answer-11 .number ≡ 21
-unfolding pick count first-failed ones backing fields-of word-of formed step-of statements same-words verifies well-formed step laid-out all-formed bundle-fits wanted some in-order holds first-group second-group has-second early-toss rest-holds spread groups-hold rule every above making coding-plain insert number-of first-value those vote-value decided carried follows ended taken conflict held-in leading kept-first kept-second state-of set-of slot-of slots-of all-written station-of bundle-of zeros slots-fit fits returned opening giving no-station act modules
-number-11 = refl
-
-pub number-12 : answer-12 .number ≡ 21
-unfolding pick count first-failed ones backing fields-of word-of formed step-of statements same-words verifies well-formed step laid-out all-formed bundle-fits wanted some in-order holds first-group second-group has-second early-toss rest-holds spread groups-hold rule every above making coding-plain insert number-of first-value those vote-value decided carried follows ended taken conflict held-in leading kept-first kept-second state-of set-of slot-of slots-of all-written station-of bundle-of zeros slots-fit fits returned opening giving no-station act modules
-number-12 = refl
+answered =
+    record {
+      at-1 = refl;
+      at-2 = refl;
+      at-3 = refl;
+      at-4 = refl;
+      at-5 = refl;
+      at-6 = refl;
+      at-7 = refl;
+      at-8 = refl;
+      at-9 = refl;
+      at-10 = refl;
+      at-11 = refl;
+      at-12 = refl;
+    }
 
 -- ---- the premises hold
-given-1 : Given toy [] 3 calls-1
-unfolding pick count first-failed ones backing fields-of word-of formed step-of statements same-words verifies well-formed step laid-out all-formed bundle-fits wanted some in-order holds first-group second-group has-second early-toss rest-holds spread groups-hold rule every above making coding-plain insert number-of first-value those vote-value decided carried follows ended taken conflict held-in leading kept-first kept-second state-of set-of slot-of slots-of all-written station-of bundle-of zeros slots-fit fits returned opening giving no-station act modules coded-in log openings lineage Sound Given checked
-given-1 = ((omega arith, omega arith), tt)
+lengths : (t : Station) → length (t .held .slots) ≡ 310 → length (t .groups .first) ≡ 160 → length (t .groups .second) ≡ 160 → Lengths t
+lengths t a b c = record { slots = a; first = b; second = c }
 
-given-2 : Given toy [] 3 calls-2
-unfolding pick count first-failed ones backing fields-of word-of formed step-of statements same-words verifies well-formed step laid-out all-formed bundle-fits wanted some in-order holds first-group second-group has-second early-toss rest-holds spread groups-hold rule every above making coding-plain insert number-of first-value those vote-value decided carried follows ended taken conflict held-in leading kept-first kept-second state-of set-of slot-of slots-of all-written station-of bundle-of zeros slots-fit fits returned opening giving no-station act modules coded-in log openings lineage Sound Given checked
-given-2 = ((omega arith, omega arith), given-1)
-
-given-3 : Given toy [] 3 calls-3
-unfolding pick count first-failed ones backing fields-of word-of formed step-of statements same-words verifies well-formed step laid-out all-formed bundle-fits wanted some in-order holds first-group second-group has-second early-toss rest-holds spread groups-hold rule every above making coding-plain insert number-of first-value those vote-value decided carried follows ended taken conflict held-in leading kept-first kept-second state-of set-of slot-of slots-of all-written station-of bundle-of zeros slots-fit fits returned opening giving no-station act modules coded-in log openings lineage Sound Given checked
-given-3 = ((omega arith, omega arith), given-2)
-
-given-4 : Given toy [] 3 calls-4
-unfolding pick count first-failed ones backing fields-of word-of formed step-of statements same-words verifies well-formed step laid-out all-formed bundle-fits wanted some in-order holds first-group second-group has-second early-toss rest-holds spread groups-hold rule every above making coding-plain insert number-of first-value those vote-value decided carried follows ended taken conflict held-in leading kept-first kept-second state-of set-of slot-of slots-of all-written station-of bundle-of zeros slots-fit fits returned opening giving no-station act modules coded-in log openings lineage Sound Given checked
-given-4 = ((omega arith, omega arith), given-3)
-
-given-5 : Given toy [] 3 calls-5
-unfolding pick count first-failed ones backing fields-of word-of formed step-of statements same-words verifies well-formed step laid-out all-formed bundle-fits wanted some in-order holds first-group second-group has-second early-toss rest-holds spread groups-hold rule every above making coding-plain insert number-of first-value those vote-value decided carried follows ended taken conflict held-in leading kept-first kept-second state-of set-of slot-of slots-of all-written station-of bundle-of zeros slots-fit fits returned opening giving no-station act modules coded-in log openings lineage Sound Given checked
-given-5 = ((omega arith, omega arith), (record { slots = refl; first = refl; second = refl }, (came (log toy [] 3 calls-4) miscoded 5 refl (omega arith), given-4)))
-
-given-6 : Given toy [] 3 calls-6
-unfolding pick count first-failed ones backing fields-of word-of formed step-of statements same-words verifies well-formed step laid-out all-formed bundle-fits wanted some in-order holds first-group second-group has-second early-toss rest-holds spread groups-hold rule every above making coding-plain insert number-of first-value those vote-value decided carried follows ended taken conflict held-in leading kept-first kept-second state-of set-of slot-of slots-of all-written station-of bundle-of zeros slots-fit fits returned opening giving no-station act modules coded-in log openings lineage Sound Given checked
-given-6 = ((omega arith, omega arith), (record { slots = refl; first = refl; second = refl }, (came (log toy [] 3 calls-5) (bundle answer-1) 5 refl (omega arith), given-5)))
-
-given-7 : Given toy [] 3 calls-7
-unfolding pick count first-failed ones backing fields-of word-of formed step-of statements same-words verifies well-formed step laid-out all-formed bundle-fits wanted some in-order holds first-group second-group has-second early-toss rest-holds spread groups-hold rule every above making coding-plain insert number-of first-value those vote-value decided carried follows ended taken conflict held-in leading kept-first kept-second state-of set-of slot-of slots-of all-written station-of bundle-of zeros slots-fit fits returned opening giving no-station act modules coded-in log openings lineage Sound Given checked
-given-7 = ((omega arith, omega arith), (record { slots = refl; first = refl; second = refl }, (came (log toy [] 3 calls-6) (bundle answer-2) 5 refl (omega arith), given-6)))
-
-given-8 : Given toy [] 3 calls-8
-unfolding pick count first-failed ones backing fields-of word-of formed step-of statements same-words verifies well-formed step laid-out all-formed bundle-fits wanted some in-order holds first-group second-group has-second early-toss rest-holds spread groups-hold rule every above making coding-plain insert number-of first-value those vote-value decided carried follows ended taken conflict held-in leading kept-first kept-second state-of set-of slot-of slots-of all-written station-of bundle-of zeros slots-fit fits returned opening giving no-station act modules coded-in log openings lineage Sound Given checked
-given-8 = ((omega arith, omega arith), (record { slots = refl; first = refl; second = refl }, (came (log toy [] 3 calls-7) (bundle answer-1) 5 refl (omega arith), given-7)))
-
-given-9 : Given toy [] 3 calls-9
-unfolding pick count first-failed ones backing fields-of word-of formed step-of statements same-words verifies well-formed step laid-out all-formed bundle-fits wanted some in-order holds first-group second-group has-second early-toss rest-holds spread groups-hold rule every above making coding-plain insert number-of first-value those vote-value decided carried follows ended taken conflict held-in leading kept-first kept-second state-of set-of slot-of slots-of all-written station-of bundle-of zeros slots-fit fits returned opening giving no-station act modules coded-in log openings lineage Sound Given checked
-given-9 = ((omega arith, omega arith), (record { slots = refl; first = refl; second = refl }, (came (log toy [] 3 calls-8) (bundle answer-8) 5 refl (omega arith), given-8)))
-
-given-10 : Given toy [] 3 calls-10
-unfolding pick count first-failed ones backing fields-of word-of formed step-of statements same-words verifies well-formed step laid-out all-formed bundle-fits wanted some in-order holds first-group second-group has-second early-toss rest-holds spread groups-hold rule every above making coding-plain insert number-of first-value those vote-value decided carried follows ended taken conflict held-in leading kept-first kept-second state-of set-of slot-of slots-of all-written station-of bundle-of zeros slots-fit fits returned opening giving no-station act modules coded-in log openings lineage Sound Given checked
-given-10 = ((omega arith, omega arith), (record { slots = refl; first = refl; second = refl }, (came (log toy [] 3 calls-9) (bundle answer-7) 5 refl (omega arith), given-9)))
-
-given-11 : Given toy [] 3 calls-11
-unfolding pick count first-failed ones backing fields-of word-of formed step-of statements same-words verifies well-formed step laid-out all-formed bundle-fits wanted some in-order holds first-group second-group has-second early-toss rest-holds spread groups-hold rule every above making coding-plain insert number-of first-value those vote-value decided carried follows ended taken conflict held-in leading kept-first kept-second state-of set-of slot-of slots-of all-written station-of bundle-of zeros slots-fit fits returned opening giving no-station act modules coded-in log openings lineage Sound Given checked
-given-11 = ((omega arith, omega arith), (record { slots = refl; first = refl; second = refl }, (came (log toy [] 3 calls-10) (bundle answer-10) 5 refl (omega arith), given-10)))
-
-given-12 : Given toy [] 3 calls-12
-unfolding pick count first-failed ones backing fields-of word-of formed step-of statements same-words verifies well-formed step laid-out all-formed bundle-fits wanted some in-order holds first-group second-group has-second early-toss rest-holds spread groups-hold rule every above making coding-plain insert number-of first-value those vote-value decided carried follows ended taken conflict held-in leading kept-first kept-second state-of set-of slot-of slots-of all-written station-of bundle-of zeros slots-fit fits returned opening giving no-station act modules coded-in log openings lineage Sound Given checked
-given-12 = ((omega arith, omega arith), (record { slots = refl; first = refl; second = refl }, (came (log toy [] 3 calls-11) (bundle answer-9) 5 refl (omega arith), given-11)))
+given : Given toy [] 3 example
+unfolding pick count first-failed ones backing fields-of word-of formed step-of statements same-words verifies well-formed step laid-out all-formed bundle-fits wanted some in-order holds first-group second-group has-second early-toss rest-holds spread groups-hold rule every above making coding-plain insert number-of first-value those vote-value decided carried follows ended taken conflict held-in leading kept-first kept-second state-of set-of slot-of slots-of all-written station-of bundle-of zeros slots-fit fits returned opening giving no-station act modules coded-in log Given checked
+given = (
+  (omega arith, omega arith),
+  (
+    lengths (answer-10 .station) refl refl refl,
+    (
+      came (log toy [] 3 calls-11) (bundle answer-9) 5 refl (omega arith),
+      (
+        (omega arith, omega arith),
+        (
+          lengths (answer-9 .station) refl refl refl,
+          (
+            came (log toy [] 3 calls-10) (bundle answer-10) 5 refl (omega arith),
+            (
+              (omega arith, omega arith),
+              (
+                lengths (answer-8 .station) refl refl refl,
+                (
+                  came (log toy [] 3 calls-9) (bundle answer-7) 5 refl (omega arith),
+                  (
+                    (omega arith, omega arith),
+                    (
+                      lengths (answer-7 .station) refl refl refl,
+                      (
+                        came (log toy [] 3 calls-8) (bundle answer-8) 5 refl (omega arith),
+                        (
+                          (omega arith, omega arith),
+                          (
+                            lengths (answer-2 .station) refl refl refl,
+                            (
+                              came (log toy [] 3 calls-7) (bundle answer-1) 5 refl (omega arith),
+                              (
+                                (omega arith, omega arith),
+                                (
+                                  lengths (answer-1 .station) refl refl refl,
+                                  (
+                                    came (log toy [] 3 calls-6) (bundle answer-2) 5 refl (omega arith),
+                                    (
+                                      (omega arith, omega arith),
+                                      (
+                                        lengths forged refl refl refl,
+                                        (
+                                          came (log toy [] 3 calls-5) (bundle answer-1) 5 refl (omega arith),
+                                          (
+                                            (omega arith, omega arith),
+                                            (
+                                              lengths (answer-1 .station) refl refl refl,
+                                              (
+                                                came (log toy [] 3 calls-4) miscoded 5 refl (omega arith),
+                                                (
+                                                  (omega arith, omega arith),
+                                                  (
+                                                    (omega arith, omega arith),
+                                                    (
+                                                      (omega arith, omega arith),
+                                                      (
+                                                        (omega arith, omega arith),
+                                                        tt,
+                                                      ),
+                                                    ),
+                                                  ),
+                                                ),
+                                              ),
+                                            ),
+                                          ),
+                                        ),
+                                      ),
+                                    ),
+                                  ),
+                                ),
+                              ),
+                            ),
+                          ),
+                        ),
+                      ),
+                    ),
+                  ),
+                ),
+              ),
+            ),
+          ),
+        ),
+      ),
+    ),
+  ),
+)
 
 -- the histories of the two sound sites' stations
 abbrev pub line-1-1 : Lineage
 line-1-1 = begun answer-1
 
 opens-1 : (unrefused (answer-1 .number) && eqb (openings toy [] 3 [] 1) 0) ≡ true
-unfolding pick count first-failed ones backing fields-of word-of formed step-of statements same-words verifies well-formed step laid-out all-formed bundle-fits wanted some in-order holds first-group second-group has-second early-toss rest-holds spread groups-hold rule every above making coding-plain insert number-of first-value those vote-value decided carried follows ended taken conflict held-in leading kept-first kept-second state-of set-of slot-of slots-of all-written station-of bundle-of zeros slots-fit fits returned opening giving no-station act modules openings
-opens-1 = refl
+unfolding openings pick
+opens-1 = ap (λ (x : ℕ). unrefused x && true) (answered .at-1)
 
 lined-1-1 : lineage toy [] 3 calls-1 1 0 ≡ found line-1-1
 lined-1-1 = line-opened [] 1 0 1 0 out opens-1
@@ -382,10 +410,10 @@ lined-1-3 : lineage toy [] 3 calls-3 1 0 ≡ found line-1-1
 lined-1-3 = past-coding calls-2 1 0 line-1-1 lined-1-2 3 init-3
 
 lined-1-4 : lineage toy [] 3 calls-4 1 0 ≡ found line-1-1
-lined-1-4 = past-opening calls-3 1 0 line-1-1 lined-1-3 1 2 2 out (ap (λ (x : ℕ). unrefused x && eqb (openings toy [] 3 calls-3 1) 0) number-4)
+lined-1-4 = past-opening calls-3 1 0 line-1-1 lined-1-3 1 2 2 out (ap (λ (x : ℕ). unrefused x && eqb (openings toy [] 3 calls-3 1) 0) (answered .at-4))
 
 lined-1-5 : lineage toy [] 3 calls-5 1 0 ≡ found line-1-1
-lined-1-5 = past-giving calls-4 1 0 line-1-1 lined-1-4 1 0 (answer-1 .station) miscoded 0 out (ap (λ (x : ℕ). unrefused x && true) number-5)
+lined-1-5 = past-giving calls-4 1 0 line-1-1 lined-1-4 1 0 (answer-1 .station) miscoded 0 out (ap (λ (x : ℕ). unrefused x && true) (answered .at-5))
 
 lined-1-6 : lineage toy [] 3 calls-6 1 0 ≡ found line-1-1
 lined-1-6 = past-giving calls-5 1 0 line-1-1 lined-1-5 3 0 forged (bundle answer-1) 0 out refl
@@ -394,7 +422,7 @@ abbrev pub line-1-7 : Lineage
 line-1-7 = grown answer-7 (bundle answer-2) line-1-1
 
 lined-1-7 : lineage toy [] 3 calls-7 1 0 ≡ found line-1-7
-lined-1-7 = line-given calls-6 1 0 line-1-1 lined-1-6 (answer-1 .station) (bundle answer-2) 0 out (ap (λ (x : ℕ). unrefused x && true) number-7)
+lined-1-7 = line-given calls-6 1 0 line-1-1 lined-1-6 (answer-1 .station) (bundle answer-2) 0 out (ap (λ (x : ℕ). unrefused x && true) (answered .at-7))
 
 lined-1-8 : lineage toy [] 3 calls-8 1 0 ≡ found line-1-7
 lined-1-8 = past-giving calls-7 1 0 line-1-7 lined-1-7 2 0 (answer-2 .station) (bundle answer-1) 0 out refl
@@ -403,7 +431,7 @@ abbrev pub line-1-9 : Lineage
 line-1-9 = grown answer-9 (bundle answer-8) line-1-7
 
 lined-1-9 : lineage toy [] 3 calls-9 1 0 ≡ found line-1-9
-lined-1-9 = line-given calls-8 1 0 line-1-7 lined-1-8 (answer-7 .station) (bundle answer-8) 0 out (ap (λ (x : ℕ). unrefused x && true) number-9)
+lined-1-9 = line-given calls-8 1 0 line-1-7 lined-1-8 (answer-7 .station) (bundle answer-8) 0 out (ap (λ (x : ℕ). unrefused x && true) (answered .at-9))
 
 lined-1-10 : lineage toy [] 3 calls-10 1 0 ≡ found line-1-9
 lined-1-10 = past-giving calls-9 1 0 line-1-9 lined-1-9 2 0 (answer-8 .station) (bundle answer-7) 0 out refl
@@ -412,7 +440,7 @@ abbrev pub line-1-11 : Lineage
 line-1-11 = grown answer-11 (bundle answer-10) line-1-9
 
 lined-1-11 : lineage toy [] 3 calls-11 1 0 ≡ found line-1-11
-lined-1-11 = line-given calls-10 1 0 line-1-9 lined-1-10 (answer-9 .station) (bundle answer-10) 0 out (ap (λ (x : ℕ). unrefused x && true) number-11)
+lined-1-11 = line-given calls-10 1 0 line-1-9 lined-1-10 (answer-9 .station) (bundle answer-10) 0 out (ap (λ (x : ℕ). unrefused x && true) (answered .at-11))
 
 lined-1-12 : lineage toy [] 3 calls-12 1 0 ≡ found line-1-11
 lined-1-12 = past-giving calls-11 1 0 line-1-11 lined-1-11 2 0 (answer-10 .station) (bundle answer-9) 0 out refl
@@ -421,8 +449,8 @@ abbrev pub line-2-2 : Lineage
 line-2-2 = begun answer-2
 
 opens-2 : (unrefused (answer-2 .number) && eqb (openings toy [] 3 calls-1 2) 0) ≡ true
-unfolding pick count first-failed ones backing fields-of word-of formed step-of statements same-words verifies well-formed step laid-out all-formed bundle-fits wanted some in-order holds first-group second-group has-second early-toss rest-holds spread groups-hold rule every above making coding-plain insert number-of first-value those vote-value decided carried follows ended taken conflict held-in leading kept-first kept-second state-of set-of slot-of slots-of all-written station-of bundle-of zeros slots-fit fits returned opening giving no-station act modules openings
-opens-2 = refl
+unfolding openings pick
+opens-2 = ap (λ (x : ℕ). unrefused x && true) (answered .at-2)
 
 lined-2-2 : lineage toy [] 3 calls-2 2 0 ≡ found line-2-2
 lined-2-2 = line-opened calls-1 2 0 1 0 out opens-2
@@ -446,7 +474,7 @@ abbrev pub line-2-8 : Lineage
 line-2-8 = grown answer-8 (bundle answer-1) line-2-2
 
 lined-2-8 : lineage toy [] 3 calls-8 2 0 ≡ found line-2-8
-lined-2-8 = line-given calls-7 2 0 line-2-2 lined-2-7 (answer-2 .station) (bundle answer-1) 0 out (ap (λ (x : ℕ). unrefused x && true) number-8)
+lined-2-8 = line-given calls-7 2 0 line-2-2 lined-2-7 (answer-2 .station) (bundle answer-1) 0 out (ap (λ (x : ℕ). unrefused x && true) (answered .at-8))
 
 lined-2-9 : lineage toy [] 3 calls-9 2 0 ≡ found line-2-8
 lined-2-9 = past-giving calls-8 2 0 line-2-8 lined-2-8 1 0 (answer-7 .station) (bundle answer-8) 0 out refl
@@ -455,7 +483,7 @@ abbrev pub line-2-10 : Lineage
 line-2-10 = grown answer-10 (bundle answer-7) line-2-8
 
 lined-2-10 : lineage toy [] 3 calls-10 2 0 ≡ found line-2-10
-lined-2-10 = line-given calls-9 2 0 line-2-8 lined-2-9 (answer-8 .station) (bundle answer-7) 0 out (ap (λ (x : ℕ). unrefused x && true) number-10)
+lined-2-10 = line-given calls-9 2 0 line-2-8 lined-2-9 (answer-8 .station) (bundle answer-7) 0 out (ap (λ (x : ℕ). unrefused x && true) (answered .at-10))
 
 lined-2-11 : lineage toy [] 3 calls-11 2 0 ≡ found line-2-10
 lined-2-11 = past-giving calls-10 2 0 line-2-10 lined-2-10 1 0 (answer-9 .station) (bundle answer-10) 0 out refl
@@ -464,111 +492,77 @@ abbrev pub line-2-12 : Lineage
 line-2-12 = grown answer-12 (bundle answer-9) line-2-10
 
 lined-2-12 : lineage toy [] 3 calls-12 2 0 ≡ found line-2-12
-lined-2-12 = line-given calls-11 2 0 line-2-10 lined-2-11 (answer-10 .station) (bundle answer-9) 0 out (ap (λ (x : ℕ). unrefused x && true) number-12)
+lined-2-12 = line-given calls-11 2 0 line-2-10 lined-2-11 (answer-10 .station) (bundle answer-9) 0 out (ap (λ (x : ℕ). unrefused x && true) (answered .at-12))
 
-sound-1-1 : Sound toy [] 3 1 calls-1
+sound-1 : Sound toy [] 3 1 example
 unfolding Sound
-sound-1-1 = tt
+sound-1 = (
+  (λ e. absurd (omega (arith, e))),
+  (
+    (λ e u. record { line = line-1-9; is = lined-1-10; now = refl }),
+    (
+      (λ e. absurd (omega (arith, e))),
+      (
+        (λ e u. record { line = line-1-7; is = lined-1-8; now = refl }),
+        (
+          (λ e. absurd (omega (arith, e))),
+          (
+            (λ e u. record { line = line-1-1; is = lined-1-6; now = refl }),
+            (
+              (λ e. absurd (omega (arith, e))),
+              (
+                (λ e u. record { line = line-1-1; is = lined-1-4; now = refl }),
+                (
+                  (λ e. absurd (omega (arith, e))),
+                  tt,
+                ),
+              ),
+            ),
+          ),
+        ),
+      ),
+    ),
+  ),
+)
 
-sound-1-2 : Sound toy [] 3 1 calls-2
+sound-2 : Sound toy [] 3 2 example
 unfolding Sound
-sound-1-2 = sound-1-1
-
-sound-1-3 : Sound toy [] 3 1 calls-3
-unfolding Sound
-sound-1-3 = ((λ e. absurd (omega (arith, e))), sound-1-2)
-
-sound-1-4 : Sound toy [] 3 1 calls-4
-unfolding Sound
-sound-1-4 = sound-1-3
-
-sound-1-5 : Sound toy [] 3 1 calls-5
-unfolding Sound
-sound-1-5 = ((λ e u. record { line = line-1-1; is = lined-1-4; now = refl }), sound-1-4)
-
-sound-1-6 : Sound toy [] 3 1 calls-6
-unfolding Sound
-sound-1-6 = ((λ e. absurd (omega (arith, e))), sound-1-5)
-
-sound-1-7 : Sound toy [] 3 1 calls-7
-unfolding Sound
-sound-1-7 = ((λ e u. record { line = line-1-1; is = lined-1-6; now = refl }), sound-1-6)
-
-sound-1-8 : Sound toy [] 3 1 calls-8
-unfolding Sound
-sound-1-8 = ((λ e. absurd (omega (arith, e))), sound-1-7)
-
-sound-1-9 : Sound toy [] 3 1 calls-9
-unfolding Sound
-sound-1-9 = ((λ e u. record { line = line-1-7; is = lined-1-8; now = refl }), sound-1-8)
-
-sound-1-10 : Sound toy [] 3 1 calls-10
-unfolding Sound
-sound-1-10 = ((λ e. absurd (omega (arith, e))), sound-1-9)
-
-sound-1-11 : Sound toy [] 3 1 calls-11
-unfolding Sound
-sound-1-11 = ((λ e u. record { line = line-1-9; is = lined-1-10; now = refl }), sound-1-10)
-
-sound-1-12 : Sound toy [] 3 1 calls-12
-unfolding Sound
-sound-1-12 = ((λ e. absurd (omega (arith, e))), sound-1-11)
-
-sound-2-1 : Sound toy [] 3 2 calls-1
-unfolding Sound
-sound-2-1 = tt
-
-sound-2-2 : Sound toy [] 3 2 calls-2
-unfolding Sound
-sound-2-2 = sound-2-1
-
-sound-2-3 : Sound toy [] 3 2 calls-3
-unfolding Sound
-sound-2-3 = ((λ e. absurd (omega (arith, e))), sound-2-2)
-
-sound-2-4 : Sound toy [] 3 2 calls-4
-unfolding Sound
-sound-2-4 = sound-2-3
-
-sound-2-5 : Sound toy [] 3 2 calls-5
-unfolding Sound
-sound-2-5 = ((λ e. absurd (omega (arith, e))), sound-2-4)
-
-sound-2-6 : Sound toy [] 3 2 calls-6
-unfolding Sound
-sound-2-6 = ((λ e. absurd (omega (arith, e))), sound-2-5)
-
-sound-2-7 : Sound toy [] 3 2 calls-7
-unfolding Sound
-sound-2-7 = ((λ e. absurd (omega (arith, e))), sound-2-6)
-
-sound-2-8 : Sound toy [] 3 2 calls-8
-unfolding Sound
-sound-2-8 = ((λ e u. record { line = line-2-2; is = lined-2-7; now = refl }), sound-2-7)
-
-sound-2-9 : Sound toy [] 3 2 calls-9
-unfolding Sound
-sound-2-9 = ((λ e. absurd (omega (arith, e))), sound-2-8)
-
-sound-2-10 : Sound toy [] 3 2 calls-10
-unfolding Sound
-sound-2-10 = ((λ e u. record { line = line-2-8; is = lined-2-9; now = refl }), sound-2-9)
-
-sound-2-11 : Sound toy [] 3 2 calls-11
-unfolding Sound
-sound-2-11 = ((λ e. absurd (omega (arith, e))), sound-2-10)
-
-sound-2-12 : Sound toy [] 3 2 calls-12
-unfolding Sound
-sound-2-12 = ((λ e u. record { line = line-2-10; is = lined-2-11; now = refl }), sound-2-11)
+sound-2 = (
+  (λ e u. record { line = line-2-10; is = lined-2-11; now = refl }),
+  (
+    (λ e. absurd (omega (arith, e))),
+    (
+      (λ e u. record { line = line-2-8; is = lined-2-9; now = refl }),
+      (
+        (λ e. absurd (omega (arith, e))),
+        (
+          (λ e u. record { line = line-2-2; is = lined-2-7; now = refl }),
+          (
+            (λ e. absurd (omega (arith, e))),
+            (
+              (λ e. absurd (omega (arith, e))),
+              (
+                (λ e. absurd (omega (arith, e))),
+                (
+                  (λ e. absurd (omega (arith, e))),
+                  tt,
+                ),
+              ),
+            ),
+          ),
+        ),
+      ),
+    ),
+  ),
+)
 
 few-faulty : FewFaulty toy [] 3 example
 few-faulty = record { faulty = 3 ∷ []; few = omega arith; others = others }
   where
     others : (i : ℕ) → 1 ≤ i → i ≤ 3 → member i (3 ∷ []) ≡ false → Sound toy [] 3 i example
     others zero a b h = absurd (omega arith)
-    others (suc zero) a b h = sound-1-12
-    others (suc (suc zero)) a b h = sound-2-12
+    others (suc zero) a b h = sound-1
+    others (suc (suc zero)) a b h = sound-2
     others (suc (suc (suc zero))) a b h = never true h refl
     others (suc (suc (suc (suc i)))) a b h = absurd (omega arith)
 
@@ -597,7 +591,7 @@ decision-2 = refl
 
 -- ---- all of it at once: a list within the premises, for which the claim therefore holds, with two sites that decide
 pub record Witness (cs : List Call) : Type 1 where
-  pub given : Given toy [] 3 cs
+  pub within : Given toy [] 3 cs
   pub few : FewFaulty toy [] 3 cs
   pub first : Decides toy [] 3 cs 1 0 1 0
   pub second : Decides toy [] 3 cs 2 0 1 0
@@ -606,9 +600,9 @@ pub record Witness (cs : List Call) : Type 1 where
 pub witness : Witness example
 witness =
     record {
-      given = given-12;
+      within = given;
       few = few-faulty;
       first = decides-1;
       second = decides-2;
-      claimed = claim toy (λ key ws. refl) [] 3 (omega arith) (omega arith) example given-12 few-faulty;
+      claimed = claim toy (λ key ws. refl) [] 3 (omega arith) (omega arith) example given few-faulty;
     }
