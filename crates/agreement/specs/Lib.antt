@@ -10,3 +10,4 @@ pub mod Giving
 pub mod Invariant
 pub mod Run
 pub mod Theorem
+pub mod Example
