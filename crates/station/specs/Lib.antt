@@ -18,3 +18,4 @@ pub mod Views
 pub mod Fits
 pub mod Bundles
 pub mod Written
+pub mod Answers
