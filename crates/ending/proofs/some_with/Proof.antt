@@ -1,0 +1,23 @@
+-- The number is not 0.
+use Rattle.certificate.specs.declared.Which.the-variants.{Any, Only}
+use Rattle.station.specs.Words.{held-in, sites}
+use Rattle.ending.specs.Number.{some-such}
+use borrow.Author.Needs.{needs}
+use Rattle.ending.proofs.some_with.Statement.{statement}
+use Rattle.ending.proofs.some_with.Tie as tie
+use Rattle.ending.proofs.some_with.Reads as reads
+use Rattle.ending.proofs.some_with.Lts as lts
+use Rattle.ending.proofs.number_held.Reads as number-held-reads
+
+-- src/lib.rt:55:9
+number-held-requires : tie.Need-number-held-requires
+number-held-requires c κs = search needs
+
+-- src/lib.rt:52:1
+returns : tie.Need-returns
+returns c =
+    let a = c .before .args in
+    some-such (Only (a .value)) Any (held-in (a .set) (a .slots .now) 0 sites) (c .number-held .result) (c .number-held .ensures)
+
+pub some-with-spec : {M : Type 1} → statement M
+some-with-spec = tie.close (tie.spec number-held-requires returns)
