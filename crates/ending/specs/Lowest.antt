@@ -3,12 +3,12 @@ use Prim.Native.Nat.{ℕ, zero, suc, _+_, _-_, _*_, _/_, _%_, _^_, _≤_, _<_}
 use mathlib.Core.Bool.{Bool, true, false, _&&_}
 use mathlib.Core.List.{List, [], _∷_}
 use mathlib.Core.Path.{_≡_, refl, sym, ap, _∙_}
-use native.Mathlib.Nat.{pow-suc, add-mul, mul-assoc, mul-comm, div-one, sub-zero}
+use native.Mathlib.Nat.{pow-suc, add-mul, mul-assoc, mul-comm, div-one, sub-zero, one-mul, zero-mul, lt-of-lt-of-le}
 use native.Mathlib.Numerals.{add-one}
 use native.Mathlib.Omega.{arith}
 use lib.Dec.{eqb, ltb}
 use lib.ListN.{getD, take}
-use lib.Pow.{shr-shr}
+use lib.Pow.{shr-shr, pow-mono}
 use borrow.Author.Tests.{eq-eqb, ne-eqb, ltb-true, ltb-false}
 use Rattle.laws.specs.Pick.{pick}
 use Rattle.laws.specs.Count.{one-if}
@@ -18,6 +18,7 @@ use Rattle.format.specs.Words.{fields-of}
 use Rattle.format.specs.Statement.{Statement, statement}
 use Rattle.station.specs.Machine.{those, has-value}
 use Rattle.station.specs.Words.{sites, held-in}
+use Rattle.keeping.specs.Turns.{one-bit}
 
 -- whether slot i is taken, where k more are to be
 abbrev pub is-taken : (Statement → Bool) → ℕ → List ℕ → ℕ → ℕ → Bool
@@ -57,7 +58,7 @@ module _ (p : Statement → Bool) (set : ℕ) (slots : List ℕ) where
   unfolding taken-from
   taken-suc i m k = refl
 
-  pub whole-turn : (out i k : ℕ) (b : Bool) → i < sites → b ≡ is-taken p set slots i k → whole out i k ≡ whole (out + one-if b * 2 ^ i) (i + 1) (k - one-if b)
+  whole-turn : (out i k : ℕ) (b : Bool) → i < sites → b ≡ is-taken p set slots i k → whole out i k ≡ whole (out + one-if b * 2 ^ i) (i + 1) (k - one-if b)
   whole-turn out i k b h e =
       let f : sites - i ≡ suc (sites - suc i) = omega arith in
       let t = is-taken p set slots i k in
@@ -65,6 +66,22 @@ module _ (p : Statement → Bool) (set : ℕ) (slots : List ℕ) where
       let g : (one-if t + 2 * l) * 2 ^ i ≡ one-if t * 2 ^ i + l * 2 ^ suc i
       = shifted (one-if t) l (2 ^ i) ∙ ap (λ (x : ℕ). one-if t * 2 ^ i + l * x) (sym (pow-suc 2 i)) in
       rw (f, e, add-one i, taken-suc i (sites - suc i) k) (omega (arith, g))
+
+  -- the bit that is added, and what is left to take
+  pub taken-turn : (total out i k one more : ℕ) (b t : Bool) → i < sites → b ≡ bit set i → t ≡ p (statement slots (i * 10))
+      → one ≡ one-if (b && (t && ltb 0 k)) → more ≡ one-if (b && (t && ltb 0 k)) * 2 ^ i → total ≡ whole out i k
+      → (one ≤ k) × (total ≡ whole (out + more) (i + 1) (k - one))
+  taken-turn total out i k one more b t h e f g m inv =
+      let x : (b && (t && ltb 0 k)) ≡ is-taken p set slots i k = rw (e, f) in
+      let y : total ≡ whole (out + one-if (b && (t && ltb 0 k)) * 2 ^ i) (i + 1) (k - one-if (b && (t && ltb 0 k)))
+      = inv ∙ whole-turn out i k (b && (t && ltb 0 k)) h x in
+      (rw g (some-left b t (ltb 0 k) refl), rw (g, m) y)
+    where
+      some-left : (x y z : Bool) → ltb 0 k ≡ z → one-if (x && (y && z)) ≤ k
+      some-left true true true l = omega (arith, ltb-true 0 k l)
+      some-left true true false l = omega arith
+      some-left true false z l = omega arith
+      some-left false y z l = omega arith
 
   pub whole-end : (out i k : ℕ) → sites ≤ i → whole out i k ≡ out
   unfolding taken-from
@@ -112,3 +129,21 @@ module _ (p : Statement → Bool) (set : ℕ) (slots : List ℕ) where
   pub lowest-held : (k : ℕ) → held-in (lowest p set slots k) slots 0 sites ≡ take k (those p (held-in set slots 0 sites))
   unfolding lowest
   lowest-held k = taken-held sites 0 k (taken-from p set slots 0 sites k) (div-one (taken-from p set slots 0 sites k))
+
+-- a bit below the word's last
+pub bit-when : (i : ℕ) → i < sites → 1 * 2 ^ i % 2 ^ 32 ≡ one-if true * 2 ^ i
+bit-when i h = one-bit i (omega arith) ∙ sym (one-mul (2 ^ i))
+
+pub bit-not : (i : ℕ) → 0 ≡ one-if false * 2 ^ i
+bit-not i = sym (zero-mul (2 ^ i))
+
+-- the set so far is a word, with room for the next bit
+pub word-room : (out more i : ℕ) (b : Bool) → i < sites → out < 2 ^ i → more ≡ one-if b * 2 ^ i → (out + more < 2 ^ (i + 1)) × (out + more < 2 ^ 32)
+word-room out more i b h l e =
+    let r : out + more < 2 ^ (i + 1) = rw (e, add-one i, pow-suc) (room b) in
+    let m : i + 1 ≤ 32 = omega arith in
+    (r, lt-of-lt-of-le r (pow-mono m))
+  where
+    room : (x : Bool) → out + one-if x * 2 ^ i < 2 ^ i * 2
+    room true = omega (arith, one-mul (2 ^ i))
+    room false = omega (arith, zero-mul (2 ^ i))

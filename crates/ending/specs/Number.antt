@@ -17,7 +17,7 @@ use Rattle.certificate.specs.declared.Which.{Which}
 use Rattle.certificate.specs.declared.Which.the-variants.{Any, Only}
 use Rattle.certificate.specs.Rules.{which, some}
 use Rattle.certificate.specs.Check.{every}
-use Rattle.station.specs.Machine.{number-of, has-value}
+use Rattle.station.specs.Machine.{number-of, has-value, first-value}
 use Rattle.station.specs.Words.{sites, held-in}
 use Rattle.fitness.specs.Scan.{from, held-turn, held-end}
 
@@ -131,3 +131,9 @@ every-value v h number all e f = rw (e, f, number-all h) (every-by-number (has-v
 
 pub some-such : (value flag : Which) (h : List Statement) (number : ℕ) → number ≡ number-of (such value flag) h → ltb 0 number ≡ some (such value flag) h
 some-such value flag h number e = rw e (some-by-number (such value flag) h)
+
+-- the count of INITs, where all have been counted, and those with 0
+pub first-by-number : (h : List Statement) (all zeros : ℕ) → all ≡ number-of (such Any Any) h → zeros ≡ number-of (has-value 0) h
+    → pick (leb all (2 * zeros)) 0 1 ≡ first-value h
+unfolding first-value
+first-by-number h all zeros e f = rw (e, f, number-all h)
