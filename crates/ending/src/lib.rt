@@ -172,10 +172,11 @@ fn first_decision(old: u32, new: u32) -> u32
 pub fn decision_after(stage: Stage, old: u32, set: u32, slots: &[u32; 310]) -> u32
     ensures { λ r. ⌜ r ≡ decision-at stage old (held-in set (now (slots .entry)) 0 sites) ⌝ }
 {
+    let agreed = vote_value(slots, set);
     match stage {
         Stage::Gathering => old,
         Stage::Proposing(_, _) => old,
-        Stage::Voting(_) => first_decision(old, vote_value(slots, set)),
+        Stage::Voting(_) => first_decision(old, agreed),
     }
 }
 

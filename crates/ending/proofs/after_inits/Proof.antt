@@ -3,11 +3,6 @@ use Rattle.ending.specs.After.{inits-given}
 use borrow.Author.Needs.{needs}
 use Rattle.ending.proofs.after_inits.Statement.{statement}
 use Rattle.ending.proofs.after_inits.Tie as tie
-use Rattle.ending.proofs.after_inits.Reads as reads
-use Rattle.ending.proofs.after_inits.Lts as lts
-use Rattle.ending.proofs.first_value.Reads as first-value-reads
-use Rattle.ending.proofs.lowest_with.Reads as lowest-with-reads
-use Rattle.format.proofs.backing.Reads as backing-reads
 
 first-value-requires : tie.Need-first-value-requires
 first-value-requires c κs = search needs

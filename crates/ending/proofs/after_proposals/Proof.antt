@@ -3,11 +3,6 @@ use Rattle.ending.specs.After.{proposals-given}
 use borrow.Author.Needs.{needs}
 use Rattle.ending.proofs.after_proposals.Statement.{statement}
 use Rattle.ending.proofs.after_proposals.Tie as tie
-use Rattle.ending.proofs.after_proposals.Reads as reads
-use Rattle.ending.proofs.after_proposals.Lts as lts
-use Rattle.ending.proofs.second_source.Reads as second-source-reads
-use Rattle.ending.proofs.some_d_get.Reads as some-d-get-reads
-use Rattle.ending.proofs.vote_value.Reads as vote-value-reads
 
 vote-value-requires : tie.Need-vote-value-requires
 vote-value-requires c κs = search needs

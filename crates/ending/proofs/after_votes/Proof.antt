@@ -3,10 +3,6 @@ use Rattle.ending.specs.After.{votes-carry, votes-toss}
 use borrow.Author.Needs.{needs}
 use Rattle.ending.proofs.after_votes.Statement.{statement}
 use Rattle.ending.proofs.after_votes.Tie as tie
-use Rattle.ending.proofs.after_votes.Reads as reads
-use Rattle.ending.proofs.after_votes.Lts as lts
-use Rattle.ending.proofs.carried.Reads as carried-reads
-use Rattle.ending.proofs.round_after.Reads as round-after-reads
 
 carried-requires : tie.Need-carried-requires
 carried-requires c κs = search needs

@@ -3,8 +3,6 @@ use Rattle.ending.specs.Lowest.{bit-when, bit-not}
 use borrow.Author.Needs.{needs}
 use Rattle.ending.proofs.bit_if.Statement.{statement}
 use Rattle.ending.proofs.bit_if.Tie as tie
-use Rattle.ending.proofs.bit_if.Reads as reads
-use Rattle.ending.proofs.bit_if.Lts as lts
 
 shl-result : tie.Need-shl-result
 shl-result c = search needs

@@ -3,10 +3,6 @@ use Rattle.station.specs.Machine.{carried}
 use borrow.Author.Needs.{needs}
 use Rattle.ending.proofs.carried.Statement.{statement}
 use Rattle.ending.proofs.carried.Tie as tie
-use Rattle.ending.proofs.carried.Reads as reads
-use Rattle.ending.proofs.carried.Lts as lts
-use Rattle.ending.proofs.some_with.Reads as some-with-reads
-use Rattle.ending.proofs.value_by.Reads as value-by-reads
 
 some-with-requires : tie.Need-some-with-requires
 some-with-requires c κs = search needs

@@ -2,8 +2,6 @@
 use borrow.Author.Needs.{needs}
 use Rattle.ending.proofs.closes.Statement.{statement}
 use Rattle.ending.proofs.closes.Tie as tie
-use Rattle.ending.proofs.closes.Reads as reads
-use Rattle.ending.proofs.closes.Lts as lts
 
 enum-told : tie.Need-enum-told
 enum-told c = search needs

@@ -3,10 +3,9 @@ use Rattle.station.specs.Machine.{decided}
 use borrow.Author.Needs.{needs}
 use Rattle.ending.proofs.decision_after.Statement.{statement}
 use Rattle.ending.proofs.decision_after.Tie as tie
-use Rattle.ending.proofs.decision_after.Reads as reads
-use Rattle.ending.proofs.decision_after.Lts as lts
-use Rattle.ending.proofs.first_decision.Reads as first-decision-reads
-use Rattle.ending.proofs.vote_value.Reads as vote-value-reads
+
+vote-value-requires : tie.Need-vote-value-requires
+vote-value-requires c κs = search needs
 
 enum-told : tie.Need-enum-told
 enum-told c = search needs
@@ -16,9 +15,6 @@ enum-told-2 c = search needs
 
 enum-told-3 : tie.Need-enum-told-3
 enum-told-3 c = search needs
-
-vote-value-requires : tie.Need-vote-value-requires
-vote-value-requires c κs = search needs
 
 first-decision-requires : tie.Need-first-decision-requires
 first-decision-requires c κs = search needs
@@ -31,16 +27,16 @@ returns-2 c = search needs
 
 returns-3 : tie.Need-returns-3
 unfolding decided
-returns-3 c = rw (c .first-decision .ensures, c .before .vote-value .ensures, c .before .before .enum-told3 .given .1)
+returns-3 c = rw (c .first-decision .ensures, c .before .before .before .vote-value .ensures, c .before .enum-told3 .given .1)
 
 pub decision-after-spec : {M : Type 1} → statement M
 decision-after-spec =
     tie.close
     (tie.spec
+    vote-value-requires
     enum-told
     enum-told-2
     enum-told-3
-    vote-value-requires
     first-decision-requires
     returns
     returns-2

@@ -3,8 +3,6 @@ use Rattle.laws.specs.Pick.{cases}
 use borrow.Author.Needs.{needs}
 use Rattle.ending.proofs.first_decision.Statement.{statement}
 use Rattle.ending.proofs.first_decision.Tie as tie
-use Rattle.ending.proofs.first_decision.Reads as reads
-use Rattle.ending.proofs.first_decision.Lts as lts
 
 returns : tie.Need-returns
 returns c = search cases depth 24

@@ -10,10 +10,6 @@ use Rattle.ending.specs.Number.{number-few, first-by-number}
 use borrow.Author.Needs.{needs}
 use Rattle.ending.proofs.first_value.Statement.{statement}
 use Rattle.ending.proofs.first_value.Tie as tie
-use Rattle.ending.proofs.first_value.Reads as reads
-use Rattle.ending.proofs.first_value.Lts as lts
-use Rattle.ending.proofs.number_held.Reads as number-held-reads
-use Rattle.ending.proofs.number_with.Reads as number-with-reads
 
 number-held-requires : tie.Need-number-held-requires
 number-held-requires c κs = search needs

@@ -9,12 +9,6 @@ use Rattle.ending.specs.Lowest.{lowest, whole, whole-start, whole-end, v
 use borrow.Author.Needs.{needs}
 use Rattle.ending.proofs.lowest_with.Statement.{statement}
 use Rattle.ending.proofs.lowest_with.Tie as tie
-use Rattle.ending.proofs.lowest_with.Reads as reads
-use Rattle.ending.proofs.lowest_with.Lts as lts
-use Rattle.ending.proofs.bit_if.Reads as bit-if-reads
-use Rattle.ending.proofs.one_if.Reads as one-if-reads
-use Rattle.fitness.proofs.is_heard.Reads as is-heard-reads
-use Rattle.format.proofs.read_fields.Reads as read-fields-reads
 
 abbrev Inv-loop : tie.InvT-loop
 Inv-loop slots set value k out₀ left₀ i₀ out left i =
@@ -47,7 +41,6 @@ turn d =
     taken-turn (has-value (a .value)) (a .set) (a .slots .now) (lowest (has-value (a .value)) (a .set) (a .slots .now) (a .k)) (v .out) (v .i) (v .left) (d .one-if .result)
     (d .before .bit-if .result) (d .before .before .before .is-heard .result) (eqb (r .result .value) (a .value)) (d .before .before .before .before .before .before .loop-test .taken) (d .before .before .before .is-heard .ensures)
     (value-read (a .value) (a .slots .now) (v .i) (r .result) (r .ensures)) (d .one-if .ensures) (d .before .bit-if .ensures) (v .inv .2)
-
 
 loop-holds : tie.Need-loop-holds Inv-loop μ-loop
 loop-holds c =

@@ -3,11 +3,6 @@ use Rattle.ending.specs.After.{next-by}
 use borrow.Author.Needs.{needs}
 use Rattle.ending.proofs.next.Statement.{statement}
 use Rattle.ending.proofs.next.Tie as tie
-use Rattle.ending.proofs.next.Reads as reads
-use Rattle.ending.proofs.next.Lts as lts
-use Rattle.ending.proofs.after_inits.Reads as after-inits-reads
-use Rattle.ending.proofs.after_proposals.Reads as after-proposals-reads
-use Rattle.ending.proofs.after_votes.Reads as after-votes-reads
 
 enum-told : tie.Need-enum-told
 enum-told c = search needs

@@ -9,12 +9,6 @@ use Rattle.ending.specs.Number.{such, such-read, number-turn, number-end
 use borrow.Author.Needs.{needs}
 use Rattle.ending.proofs.number_held.Statement.{statement}
 use Rattle.ending.proofs.number_held.Tie as tie
-use Rattle.ending.proofs.number_held.Reads as reads
-use Rattle.ending.proofs.number_held.Lts as lts
-use Rattle.certificate.proofs.allows.Reads as allows-reads
-use Rattle.ending.proofs.one_if.Reads as one-if-reads
-use Rattle.fitness.proofs.is_heard.Reads as is-heard-reads
-use Rattle.format.proofs.read_fields.Reads as read-fields-reads
 
 abbrev Inv-loop : tie.InvT-loop
 Inv-loop slots set value flag count₀ i₀ count i =
@@ -43,63 +37,48 @@ turn d =
     (d .before .is-heard .ensures) (such-read (a .value) (a .flag) (a .slots .now) (v .i) (r .result) (x .result) (y .result) (r .ensures) (x .ensures) (y .ensures))
     (d .one-if .ensures) (v .inv .2)
 
--- src/lib.rt:26:5
 loop-holds : tie.Need-loop-holds Inv-loop μ-loop
 loop-holds c = (search needs, search needs, omega arith)
 
--- src/lib.rt:27:19
 mul-at : tie.Need-mul-at Inv-loop μ-loop
 mul-at c = search needs
 
--- src/lib.rt:27:18
 cast-at : tie.Need-cast-at Inv-loop μ-loop
 cast-at c = search needs
 
--- src/lib.rt:28:37
 mul-read-fields : tie.Need-mul-read-fields Inv-loop μ-loop
 mul-read-fields c = search needs
 
--- src/lib.rt:28:37
 element-copy-out-read-fields : tie.Need-element-copy-out-read-fields Inv-loop μ-loop
 element-copy-out-read-fields c = search needs
 
--- src/lib.rt:28:13
 read-fields-requires : tie.Need-read-fields-requires Inv-loop μ-loop
 read-fields-requires c κs = search needs
 
--- src/lib.rt:29:22
 allows-requires : tie.Need-allows-requires Inv-loop μ-loop
 allows-requires c κs = search needs
 
--- src/lib.rt:29:60
 allows-requires-2 : tie.Need-allows-requires-2 Inv-loop μ-loop
 allows-requires-2 c κs = search needs
 
--- src/lib.rt:30:25
 is-heard-requires : tie.Need-is-heard-requires Inv-loop μ-loop
 is-heard-requires c κs = search needs
 
--- src/lib.rt:30:18
 one-if-requires : tie.Need-one-if-requires Inv-loop μ-loop
 one-if-requires c κs = search needs
 
--- src/lib.rt:30:9
 add-count : tie.Need-add-count Inv-loop μ-loop
 add-count c = omega (arith, turn c .0)
 
--- src/lib.rt:31:9
 add-i : tie.Need-add-i Inv-loop μ-loop
 add-i c = search needs
 
--- src/lib.rt:26:5
 loop-less : tie.Need-loop-less Inv-loop μ-loop
 loop-less c = search needs
 
--- src/lib.rt:26:5
 loop-again : tie.Need-loop-again Inv-loop μ-loop
 loop-again c = (search needs, omega (arith, turn c .0), turn c .1)
 
--- src/lib.rt:21:1
 returns : tie.Need-returns Inv-loop μ-loop
 returns c =
     let a = c .before .before .args in

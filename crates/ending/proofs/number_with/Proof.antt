@@ -5,15 +5,10 @@ use Rattle.ending.specs.Number.{number-value}
 use borrow.Author.Needs.{needs}
 use Rattle.ending.proofs.number_with.Statement.{statement}
 use Rattle.ending.proofs.number_with.Tie as tie
-use Rattle.ending.proofs.number_with.Reads as reads
-use Rattle.ending.proofs.number_with.Lts as lts
-use Rattle.ending.proofs.number_held.Reads as number-held-reads
 
--- src/lib.rt:40:5
 number-held-requires : tie.Need-number-held-requires
 number-held-requires c κs = search needs
 
--- src/lib.rt:37:1
 returns : tie.Need-returns
 returns c =
     let a = c .before .args in

@@ -4,8 +4,6 @@ use Rattle.ending.specs.After.{round-after}
 use borrow.Author.Needs.{needs}
 use Rattle.ending.proofs.round_after.Statement.{statement}
 use Rattle.ending.proofs.round_after.Tie as tie
-use Rattle.ending.proofs.round_after.Reads as reads
-use Rattle.ending.proofs.round_after.Lts as lts
 
 add-result : tie.Need-add-result
 add-result c = search needs

@@ -5,8 +5,6 @@ use Rattle.ending.specs.After.{second-source}
 use borrow.Author.Needs.{needs}
 use Rattle.ending.proofs.second_source.Statement.{statement}
 use Rattle.ending.proofs.second_source.Tie as tie
-use Rattle.ending.proofs.second_source.Reads as reads
-use Rattle.ending.proofs.second_source.Lts as lts
 
 returns : tie.Need-returns
 unfolding second-source pick

@@ -5,15 +5,10 @@ use Rattle.ending.specs.Number.{some-such}
 use borrow.Author.Needs.{needs}
 use Rattle.ending.proofs.some_d_get.Statement.{statement}
 use Rattle.ending.proofs.some_d_get.Tie as tie
-use Rattle.ending.proofs.some_d_get.Reads as reads
-use Rattle.ending.proofs.some_d_get.Lts as lts
-use Rattle.ending.proofs.number_held.Reads as number-held-reads
 
--- src/lib.rt:62:9
 number-held-requires : tie.Need-number-held-requires
 number-held-requires c κs = search needs
 
--- src/lib.rt:59:1
 returns : tie.Need-returns
 returns c =
     let a = c .before .args in

@@ -3,8 +3,6 @@ use Rattle.laws.specs.Pick.{cases}
 use borrow.Author.Needs.{needs}
 use Rattle.ending.proofs.value_by.Statement.{statement}
 use Rattle.ending.proofs.value_by.Tie as tie
-use Rattle.ending.proofs.value_by.Reads as reads
-use Rattle.ending.proofs.value_by.Lts as lts
 
 returns : tie.Need-returns
 returns c = search cases depth 24

@@ -3,10 +3,6 @@ use Rattle.station.specs.Machine.{vote-value}
 use borrow.Author.Needs.{needs}
 use Rattle.ending.proofs.vote_value.Statement.{statement}
 use Rattle.ending.proofs.vote_value.Tie as tie
-use Rattle.ending.proofs.vote_value.Reads as reads
-use Rattle.ending.proofs.vote_value.Lts as lts
-use Rattle.ending.proofs.all_with.Reads as all-with-reads
-use Rattle.ending.proofs.value_by.Reads as value-by-reads
 
 all-with-requires : tie.Need-all-with-requires
 all-with-requires c κs = search needs
