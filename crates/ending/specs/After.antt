@@ -5,8 +5,7 @@ use mathlib.Core.Bool.{Bool, true, false}
 use mathlib.Core.List.{List, []}
 use mathlib.Core.Path.{_≡_, refl, sym, ap, _∙_}
 use native.Mathlib.Omega.{arith}
-use lib.Dec.{eqb, ltb}
-use lib.ListN.{take}
+use lib.Dec.{ltb}
 use borrow.Author.Tests.{eqb-false, lt-ltb, le-ltb}
 use Rattle.laws.specs.Pick.{pick, here, skip}
 use Rattle.format.specs.Numbers.{kind-P, kind-V, none, D-GET, R-GET, last-round}
@@ -15,8 +14,9 @@ use Rattle.format.specs.Statement.{Statement}
 use Rattle.certificate.specs.Rules.{some-D-GET}
 use Rattle.station.specs.declared.Stage.{Stage}
 use Rattle.station.specs.declared.Stage.the-variants.{Gathering, Proposing, Voting}
-use Rattle.station.specs.Machine.{State, Next, next, proposing, voting, round-in, has-value, those, first-value, vote-value, carried, follows, closes}
-use Rattle.station.specs.Words.{sites, held-in}
+use Rattle.station.specs.Machine.{State, Next, next, proposing, voting, round-in, has-value, first-value, vote-value, carried, follows, closes}
+use Rattle.station.specs.declared.Station.{Station}
+use Rattle.station.specs.Words.{sites, held-in, state-of}
 use Rattle.ending.specs.declared.Source.{Source}
 use Rattle.ending.specs.declared.Source.the-variants.{Nothing, Slots, First, Second}
 use Rattle.ending.specs.declared.Following.{Following}
@@ -127,3 +127,10 @@ next-is n (Voting r) set slots coin t e goes top =
     rw (e, a)
     (pick-next (ltb (carried h) none) (following kind-P (carried h) D-GET (r .0 + 1) First Nothing (proposing (r .0 + 1) D-GET))
     (following kind-P coin R-GET (r .0 + 1) (Slots set) Nothing (proposing (r .0 + 1) R-GET)) slots (t .first) (t .second))
+
+-- the same of a station's own words
+pub next-of : (n coin : ℕ) (t : Station) → closes (t .stage) ≡ false → round-in (t .stage) ≤ last-round
+    → as-next (next-by n (t .stage) (t .held .heard) (t .held .slots) coin) (t .held .slots) (state-of t .first) (state-of t .second)
+    ≡ follows n (t .stage) (state-of t) coin
+unfolding state-of
+next-of n coin t goes top = next-is n (t .stage) (t .held .heard) (t .held .slots) coin (state-of t) refl goes top

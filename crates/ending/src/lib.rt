@@ -1,4 +1,5 @@
-// What follows the end of a step, from a station's words (document 01, "The station"). The contracts cite specs/ of crate station.
+// What follows the end of a step, from a station's words (document 01, "The station"). The contracts cite specs/ here and of
+// crate station.
 use certificate::Which;
 use format::Round;
 use station::Stage;

@@ -1,6 +1,5 @@
 -- Each way out is a case of the definition.
 use Rattle.laws.specs.Pick.{cases}
-use borrow.Author.Needs.{needs}
 use Rattle.ending.proofs.first_decision.Statement.{statement}
 use Rattle.ending.proofs.first_decision.Tie as tie
 

@@ -2,7 +2,6 @@
 use Prim.Native.Nat.{_+_, _-_, _^_, _≤_, _<_}
 use mathlib.Core.Bool.{_&&_}
 use mathlib.Core.Path.{_≡_, sym, _∙_}
-use native.Mathlib.Omega.{arith}
 use lib.Dec.{eqb, ltb}
 use Rattle.station.specs.Machine.{has-value}
 use Rattle.ending.specs.Lowest.{lowest, whole, whole-start, whole-end, value-read, taken-turn, word-room}

@@ -1,7 +1,7 @@
 -- The invariant: what is counted so far, and the number of the slots from here on, are the whole. Each turn is one unfolding of the definition.
 use Prim.Native.Nat.{_+_, _-_, _≤_}
 use mathlib.Core.Bool.{_&&_}
-use mathlib.Core.Path.{_≡_, refl, sym, _∙_}
+use mathlib.Core.Path.{_≡_}
 use native.Mathlib.Omega.{arith}
 use Rattle.station.specs.Machine.{number-of}
 use Rattle.station.specs.Words.{held-in, sites}

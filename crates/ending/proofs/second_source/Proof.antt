@@ -2,7 +2,6 @@
 use borrow.Author.Tests.{lt-ltb, le-ltb}
 use Rattle.laws.specs.Pick.{pick}
 use Rattle.ending.specs.After.{second-source}
-use borrow.Author.Needs.{needs}
 use Rattle.ending.proofs.second_source.Statement.{statement}
 use Rattle.ending.proofs.second_source.Tie as tie
 
