@@ -32,7 +32,7 @@ module _ (set : ℕ) (slots : List ℕ) (p : Statement → Bool) where
   abbrev pub from : ℕ → List Statement
   from i = held-in set slots i (sites - i)
 
-  held-turn : (i : ℕ) → i < sites → from i ≡ pick (bit set i) (statement slots (i * 10) ∷ from (i + 1)) (from (i + 1))
+  pub held-turn : (i : ℕ) → i < sites → from i ≡ pick (bit set i) (statement slots (i * 10) ∷ from (i + 1)) (from (i + 1))
   unfolding held-in
   held-turn i h =
       let e : sites - i ≡ suc (sites - (i + 1)) = omega arith in
@@ -61,7 +61,7 @@ module _ (set : ℕ) (slots : List ℕ) (p : Statement → Bool) where
         go false y q = refl
 
   module _ (i : ℕ) (h : sites ≤ i) where
-    held-end : from i ≡ []
+    pub held-end : from i ≡ []
     unfolding held-in
     held-end =
         let e : sites - i ≡ 0 = omega arith in

@@ -1,3 +1,4 @@
+-- By what the calls answer, put together by one law; the word count fits the words lent.
 use mathlib.Core.Path.{_≡_}
 use native.Mathlib.Omega.{arith}
 use lib.ListN.{length}
