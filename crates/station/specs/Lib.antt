@@ -19,3 +19,4 @@ pub mod Fits
 pub mod Bundles
 pub mod Written
 pub mod Answers
+pub mod Refused

@@ -1,0 +1,47 @@
+-- "At a refusal station, module and lent words keep their values", and the word count is zero: of giving, and of opening, which returns its one fixed station.
+use Prim.Native.Nat.{ℕ}
+use mathlib.Core.Bool.{Bool, true, false, _||_}
+use mathlib.Core.List.{List}
+use mathlib.Core.Path.{_≡_, refl, ap, _∙_}
+use lib.Dec.{eqb, ltb}
+use Rattle.laws.specs.Pick.{pick}
+use Rattle.laws.specs.Bools.{never}
+use Rattle.format.specs.Numbers.{none, sent, sent-decided}
+use Rattle.sealed.specs.declared.Module.{Module}
+use Rattle.station.specs.declared.Station.{Station}
+use Rattle.station.specs.Machine.{Outcome}
+use Rattle.station.specs.Calls.{Returned, returned, opening, opening-outcome, giving, giving-outcome, no-station}
+use Rattle.station.specs.FitSane.{Lengths}
+use Rattle.station.specs.Views.{unrefused, decision-then, Gives, refuses, holds-on, shuts, goes-on, gives-view, Opens, no-opening, begins, opens-view}
+
+-- nothing but the number
+abbrev pub as-given : ℕ → Module → Station → List ℕ → Returned
+as-given k m t out = record { number = k; count = 0; station = t; after = m; lent = out }
+
+sent-number : (b : Bool) → unrefused (pick b sent sent-decided) ≡ true
+unfolding pick
+sent-number true = refl
+sent-number false = refl
+
+module _ (mac : List ℕ → List ℕ → List ℕ) (m : Module) where
+  pub giving-refused : (t : Station) (ws : List ℕ) (coin : ℕ) (out : List ℕ) → Lengths t → unrefused (giving mac m t ws coin out .number) ≡ false
+      → giving mac m t ws coin out ≡ as-given (giving mac m t ws coin out .number) m t out
+  unfolding giving returned
+  giving-refused t ws coin out L = go (giving-outcome mac m t ws coin out) (gives-view mac m t ws coin out L)
+    where
+      go : (o : Outcome) → Gives mac m t ws coin out o → unrefused (returned m t out o .number) ≡ false
+          → returned m t out o ≡ as-given (returned m t out o .number) m t out
+      go _ (refuses e) u = refl
+      go _ (holds-on A few) u = never true u refl
+      go _ (shuts A size c) u = never true u refl
+      go _ (goes-on {k} A size c above e) u = never (unrefused k) u (ap unrefused e ∙ sent-number (ltb (t .decision) none || eqb (decision-then mac m t ws coin out) none))
+
+  pub opening-refused : (question proposal : ℕ) (out : List ℕ) → unrefused (opening mac m question proposal out .number) ≡ false
+      → opening mac m question proposal out ≡ as-given (opening mac m question proposal out .number) m no-station out
+  unfolding opening returned
+  opening-refused question proposal out = go (opening-outcome mac m question proposal out) (opens-view mac m question proposal out)
+    where
+      go : (o : Outcome) → Opens mac m question proposal out o → unrefused (returned m no-station out o .number) ≡ false
+          → returned m no-station out o ≡ as-given (returned m no-station out o .number) m no-station out
+      go _ (no-opening e) u = refl
+      go _ (begins room r p a) u = never true u refl
