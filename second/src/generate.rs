@@ -7,7 +7,11 @@ use crate::bundle_cases::bundles;
 use crate::call_cases::calls;
 use crate::hmac::{bytes_of, hmac};
 use crate::sha256::sha256;
+use crate::small_host;
 use crate::valley_cases::valleys;
+
+/// What the small host is run on in the gate: all three groups, and questions of each kind.
+const SMALL_HOST: &[u8] = b"a01mmm0m1m";
 
 /// Every file that is written, by its place below the directory, with what it holds.
 pub fn files() -> Vec<(&'static str, Vec<u8>)> {
@@ -20,6 +24,11 @@ pub fn files() -> Vec<(&'static str, Vec<u8>)> {
         ("crates/bundle_cases/stdout", bundle_results.into_bytes()),
         ("cases/calls/stdin", call_script.into_bytes()),
         ("cases/calls/stdout", call_results.into_bytes()),
+        ("crates/small_host/stdin", SMALL_HOST.to_vec()),
+        (
+            "crates/small_host/stdout",
+            small_host::run(SMALL_HOST).into_bytes(),
+        ),
         ("cases/valley/stdin", valley_inputs),
         ("cases/valley/stdout", valley_outputs),
     ]

@@ -26,4 +26,5 @@ pub mod call_cases;
 pub mod fit_cases;
 pub mod generate;
 pub mod samples;
+pub mod small_host;
 pub mod valley_cases;
