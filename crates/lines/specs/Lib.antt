@@ -1,2 +1,5 @@
 pub mod Read
 pub mod Print
+pub mod Short
+pub mod Width
+pub mod Example
