@@ -1,8 +1,7 @@
 -- Worked examples: lines that are read, lines that can't be, and printed numbers.
 use mathlib.Core.Path.{_≡_, refl}
-use mathlib.Core.List.{List, [], _∷_}
+use mathlib.Core.List.{[], _∷_}
 use Rattle.laws.specs.Pick.{pick}
-use Rattle.lines.specs.declared.Line.{Line}
 use Rattle.lines.specs.declared.Line.the-variants.{Group, Open, Give, Unreadable}
 use Rattle.lines.specs.Read.{split, all-digits, is-number, value-behind, same, read-words, read-line}
 use Rattle.lines.specs.Print.{decimal-in, decimal, event-line, bad-line}

@@ -4,4 +4,6 @@ pub mod Short
 pub mod Width
 pub mod Decimal
 pub mod Put
+pub mod Words
+pub mod Says
 pub mod Example

@@ -1,15 +1,15 @@
 -- How a line is put together at the front of a lent buffer: each text is put behind what was put before.
 use Prim.Native.Nat.{ℕ, suc, _+_, _^_, _≤_, _<_}
-use mathlib.Core.Path.{_≡_, refl, sym, ap, _∙_}
+use mathlib.Core.Path.{_≡_, sym, ap, _∙_}
 use mathlib.Core.List.{List, [], _∷_, _++_, append-assoc}
 use native.Mathlib.Nat.{zero-add}
 use native.Mathlib.Numerals.{add-one}
 use native.Mathlib.Omega.{arith}
-use lib.ListN.{length, take, drop, getD, set, length-append, length-drop}
+use lib.ListN.{length, take, drop, getD, set, length-append}
 use Rattle.lines.specs.Read.{space, newline}
 use Rattle.lines.specs.Print.{decimal, event-line, bad-line-bytes, bad-line}
 use Rattle.lines.specs.Width.{decimal-64, decimal-32, event-line-length, bad-line-length}
-use lib.Seq.{append-snoc, drop-set-lt, take-suc-set, paste, paste-suc, paste-zero, take-append-seam, drop-append-seam, drop-append-add, take-length, drop-drop, drop-cons, set-append-seam, length-paste}
+use lib.Seq.{append-snoc, drop-set-lt, take-suc-set, paste, paste-suc, take-append-seam, drop-append-add, take-length, drop-drop, drop-cons, set-append-seam, length-paste}
 
 -- the buffer with a text at its front
 unfoldable pub front : List ℕ → List ℕ → List ℕ

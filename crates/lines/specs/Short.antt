@@ -1,22 +1,21 @@
 -- A line that can be read has at most 22 bytes: a keyword of at most 4, three numbers of at most 5, three spaces.
-use Prim.Native.Nat.{ℕ, zero, suc, _+_, _≤_, _<_}
+use Prim.Native.Nat.{ℕ, suc, _+_, _≤_, _<_}
 use mathlib.Core.Path.{_≡_, refl, sym, ap, _∙_}
 use mathlib.Core.Bool.{Bool, true, false, _&&_}
 use mathlib.Core.List.{List, [], _∷_}
 use native.Mathlib.Decide.{decLt}
 use native.Mathlib.Omega.{arith}
 use lib.Dec.{eqb, leb}
-use lib.ListN.{length, take, length-take}
+use lib.ListN.{length, take}
 use lib.Seq.{take-all, length-take-le}
 use borrow.Author.Tests.{leb-true}
 use Rattle.laws.specs.Pick.{pick}
 use Rattle.laws.specs.Bools.{both, never}
-use Rattle.lines.specs.declared.Line.{Line}
 use Rattle.lines.specs.declared.Line.the-variants.{Group, Open, Give, Unreadable}
 use Rattle.lines.specs.Read.{space, longer, split, is-number, value, same, word-n, word-open, word-give, all-digits, read-words, read-line}
 
 -- the bytes of the words, and one more for each word
-unfoldable total : List (List ℕ) → ℕ
+unfoldable pub total : List (List ℕ) → ℕ
 total [] = 0
 total (word ∷ words) = suc (length word + total words)
 
@@ -25,7 +24,7 @@ unfolding total
 total-longer b [] n e = absurd (omega arith)
 total-longer b (word ∷ words) n e = omega arith
 
-total-split : (separator : ℕ) (text : List ℕ) → total (split separator text) ≡ suc (length text)
+pub total-split : (separator : ℕ) (text : List ℕ) → total (split separator text) ≡ suc (length text)
 unfolding total split pick
 total-split separator [] = refl
 total-split separator (b ∷ text) = go (eqb b separator) (total-split separator text)
@@ -35,14 +34,14 @@ total-split separator (b ∷ text) = go (eqb b separator) (total-split separator
     go true ih = omega arith
     go false ih = total-longer b (split separator text) (length text) ih
 
-same-length : (text other : List ℕ) → same text other ≡ true → length text ≡ length other
+pub same-length : (text other : List ℕ) → same text other ≡ true → length text ≡ length other
 unfolding same
 same-length [] [] e = refl
 same-length [] (c ∷ other) e = never false refl e
 same-length (b ∷ text) [] e = never false refl e
 same-length (b ∷ text) (c ∷ other) e = ap suc (same-length text other (both (eqb b c) (same text other) e .1))
 
-number-short : (word : List ℕ) → is-number word ≡ true → length word ≤ 5
+pub number-short : (word : List ℕ) → is-number word ≡ true → length word ≤ 5
 unfolding is-number
 number-short word e =
     leb-true (length word) 5 (both (leb 1 (length word)) (leb (length word) 5) (both (leb 1 (length word) && leb (length word) 5) (all-digits word) e .0) .1)

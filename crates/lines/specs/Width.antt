@@ -1,16 +1,15 @@
 -- How many bytes the printed lines have.
-use Prim.Native.Nat.{ℕ, zero, suc, _+_, _*_, _/_, _%_, _^_, _≤_, _<_}
+use Prim.Native.Nat.{ℕ, zero, suc, _+_, _/_, _%_, _^_, _≤_, _<_}
 use mathlib.Core.Path.{_≡_, refl}
 use mathlib.Core.Bool.{Bool, true, false}
-use mathlib.Core.List.{List, [], _∷_, _++_}
+use mathlib.Core.List.{[], _∷_, _++_}
 use native.Mathlib.Nat.{pow-suc}
 use native.Mathlib.Omega.{arith}
 use lib.Dec.{ltb}
 use lib.ListN.{length, length-append}
-use borrow.Author.Tests.{ltb-true, ltb-false}
+use borrow.Author.Tests.{ltb-false}
 use Rattle.laws.specs.Pick.{pick}
-use Rattle.lines.specs.Read.{space, newline}
-use Rattle.lines.specs.Print.{digit, decimal-in, decimal, event-line, bad-line-bytes, bad-line}
+use Rattle.lines.specs.Print.{digit, decimal-in, decimal, event-line, bad-line}
 
 -- a number below 10 ^ (k + 1) has at most k + 1 digits
 decimal-in-fits : (most k n : ℕ) → n < 10 ^ suc k → length (decimal-in most n) ≤ suc k
