@@ -1,27 +1,42 @@
 -- The numbers one behind the other, and the line's end.
+use Prim.Native.Nat.{_≤_}
 use native.Mathlib.Omega.{arith}
+use lib.ListN.{length}
+use Rattle.lines.specs.Print.{decimal}
 use Rattle.lines.specs.Width.{decimal-64, decimal-32}
 use Rattle.lines.specs.Put.{event-line-put}
 use Rattle.lines.proofs.event_line.Statement.{statement}
 use Rattle.lines.proofs.event_line.Tie as tie
 
+-- how many digits the numbers have at most
+widths : (c : tie.Start) → (length (decimal (c .args .event)) ≤ 20)
+    × (length (decimal (c .args .number)) ≤ 10)
+    × (length (decimal (c .args .step)) ≤ 20)
+    × (length (decimal (c .args .decision)) ≤ 10)
+widths c = (
+  decimal-64 (c .args .event) (c .fits .event .fits),
+  decimal-32 (c .args .number) (c .fits .number .fits),
+  decimal-64 (c .args .step) (c .fits .step .fits),
+  decimal-32 (c .args .decision) (c .fits .decision .fits),
+)
+
 put-number-requires : tie.Need-put-number-requires
-put-number-requires c κs = omega (arith, decimal-64 (c .before .args .event) (c .before .fits .event .fits))
+put-number-requires c κs = omega (arith, widths (c .before))
 
 put-spaced-requires : tie.Need-put-spaced-requires
-put-spaced-requires c κs = omega (arith, decimal-64 (c .before .before .before .args .event) (c .before .before .before .fits .event .fits), decimal-32 (c .before .before .before .args .number) (c .before .before .before .fits .number .fits))
+put-spaced-requires c κs = omega (arith, widths (c .before .before .before))
 
 put-spaced-requires-2 : tie.Need-put-spaced-requires-2
-put-spaced-requires-2 c κs = omega (arith, decimal-64 (c .before .before .before .before .before .args .event) (c .before .before .before .before .before .fits .event .fits), decimal-32 (c .before .before .before .before .before .args .number) (c .before .before .before .before .before .fits .number .fits), decimal-64 (c .before .before .before .before .before .args .step) (c .before .before .before .before .before .fits .step .fits))
+put-spaced-requires-2 c κs = omega (arith, widths (c .before .before .before .before .before))
 
 put-spaced-requires-3 : tie.Need-put-spaced-requires-3
-put-spaced-requires-3 c κs = omega (arith, decimal-64 (c .before .before .before .before .before .before .before .args .event) (c .before .before .before .before .before .before .before .fits .event .fits), decimal-32 (c .before .before .before .before .before .before .before .args .number) (c .before .before .before .before .before .before .before .fits .number .fits), decimal-64 (c .before .before .before .before .before .before .before .args .step) (c .before .before .before .before .before .before .before .fits .step .fits), decimal-32 (c .before .before .before .before .before .before .before .args .decision) (c .before .before .before .before .before .before .before .fits .decision .fits))
+put-spaced-requires-3 c κs = omega (arith, widths (c .before .before .before .before .before .before .before))
 
 element-write-out : tie.Need-element-write-out
-element-write-out c = omega (arith, decimal-64 (c .before .before .before .before .before .before .before .before .args .event) (c .before .before .before .before .before .before .before .before .fits .event .fits), decimal-32 (c .before .before .before .before .before .before .before .before .args .number) (c .before .before .before .before .before .before .before .before .fits .number .fits), decimal-64 (c .before .before .before .before .before .before .before .before .args .step) (c .before .before .before .before .before .before .before .before .fits .step .fits), decimal-32 (c .before .before .before .before .before .before .before .before .args .decision) (c .before .before .before .before .before .before .before .before .fits .decision .fits))
+element-write-out c = omega (arith, widths (c .before .before .before .before .before .before .before .before))
 
 add-result : tie.Need-add-result
-add-result c = omega (arith, decimal-64 (c .before .before .before .before .before .before .before .before .args .event) (c .before .before .before .before .before .before .before .before .fits .event .fits), decimal-32 (c .before .before .before .before .before .before .before .before .args .number) (c .before .before .before .before .before .before .before .before .fits .number .fits), decimal-64 (c .before .before .before .before .before .before .before .before .args .step) (c .before .before .before .before .before .before .before .before .fits .step .fits), decimal-32 (c .before .before .before .before .before .before .before .before .args .decision) (c .before .before .before .before .before .before .before .before .fits .decision .fits))
+add-result c = omega (arith, widths (c .before .before .before .before .before .before .before .before))
 
 returns : tie.Need-returns
 returns c =
