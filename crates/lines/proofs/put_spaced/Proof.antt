@@ -23,7 +23,8 @@ same-length c = c .before .before .put-number .kept .1 .0 ∙ simp length-set
 
 returns : tie.Need-returns
 returns c =
-    let start = c .before .before .before .before .before .args in
+    let start = c .before .before .before .before .before in
+    let start = start .args in
     (omega arith, put-after (start .out .now) (decimal (start .n)) (c .before .before .put-number .last .1 .0) (start .at) space (omega arith) (c .before .before .put-number .ensures .1))
 
 pub put-spaced-spec : {M : Type 1} → statement M

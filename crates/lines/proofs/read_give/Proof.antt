@@ -22,38 +22,42 @@ is-number-requires-3 c κs = search needs
 
 value-requires : tie.Need-value-requires
 value-requires c κs =
+    let start = c .before .before .before .before .before .before .before .before .before .before in
     second-is
     (c .before .before .before .before .same .result)
     (c .before .before .before .is-number .result)
-    (c .before .before .before .before .before .before .before .before .before .before .args .s .now)
+    (start .args .s .now)
     (c .before .before .before .is-number .ensures)
     (first-part (c .before .before .before .before .same .result && c .before .before .before .is-number .result) (c .before .before .is-number2 .result) (first-part (c .before .before .before .before .same .result && c .before .before .before .is-number .result && c .before .before .is-number2 .result) (c .before .is-number3 .result) (c .if1 .taken)))
 
 value-requires-2 : tie.Need-value-requires-2
 value-requires-2 c κs =
+    let start = c .before .before .before .before .before .before .before .before .before .before .before in
     second-is
     (c .before .before .before .before .before .same .result && c .before .before .before .before .is-number .result)
     (c .before .before .before .is-number2 .result)
-    (c .before .before .before .before .before .before .before .before .before .before .before .args .k .now)
+    (start .args .k .now)
     (c .before .before .before .is-number2 .ensures)
     (first-part (c .before .before .before .before .before .same .result && c .before .before .before .before .is-number .result && c .before .before .before .is-number2 .result) (c .before .before .is-number3 .result) (c .before .if1 .taken))
 
 value-requires-3 : tie.Need-value-requires-3
 value-requires-3 c κs =
+    let start = c .before .before .before .before .before .before .before .before .before .before .before .before in
     second-is
     (c .before .before .before .before .before .before .same .result && c .before .before .before .before .before .is-number .result && c .before .before .before .before .is-number2 .result)
     (c .before .before .before .is-number3 .result)
-    (c .before .before .before .before .before .before .before .before .before .before .before .before .args .c .now)
+    (start .args .c .now)
     (c .before .before .before .is-number3 .ensures)
     (c .before .before .if1 .taken)
 
 returns : tie.Need-returns
 returns c =
+    let start = c .before .before .before .before .before .before .before .before .before .before .before .before .before in
     give-read
-    (c .before .before .before .before .before .before .before .before .before .before .before .before .before .args .keyword .now)
-    (c .before .before .before .before .before .before .before .before .before .before .before .before .before .args .s .now)
-    (c .before .before .before .before .before .before .before .before .before .before .before .before .before .args .k .now)
-    (c .before .before .before .before .before .before .before .before .before .before .before .before .before .args .c .now)
+    (start .args .keyword .now)
+    (start .args .s .now)
+    (start .args .k .now)
+    (start .args .c .now)
     (c .before .before .before .before .before .before .before .same .result)
     (c .before .before .before .before .before .before .is-number .result)
     (c .before .before .before .before .before .is-number2 .result)
@@ -72,11 +76,12 @@ returns c =
 
 returns-2 : tie.Need-returns-2
 returns-2 c =
+    let start = c .before .before .before .before .before .before .before .before .before .before in
     give-not
-    (c .before .before .before .before .before .before .before .before .before .before .args .keyword .now)
-    (c .before .before .before .before .before .before .before .before .before .before .args .s .now)
-    (c .before .before .before .before .before .before .before .before .before .before .args .k .now)
-    (c .before .before .before .before .before .before .before .before .before .before .args .c .now)
+    (start .args .keyword .now)
+    (start .args .s .now)
+    (start .args .k .now)
+    (start .args .c .now)
     (c .before .before .before .before .same .result)
     (c .before .before .before .is-number .result)
     (c .before .before .is-number2 .result)

@@ -17,13 +17,20 @@ returns : tie.Need-returns
 returns c = one-word (c .before .before .before .args .text .now) (c .before .word-end .result) (c .before .word-end .ensures) (c .if1 .taken)
 
 add-first : tie.Need-add-first
-add-first c = omega (arith, c .if1 .left, end-inside (c .before .before .before .args .text .now) 0 (c .before .word-end .result) (omega arith) (c .before .word-end .ensures))
+add-first c =
+    let start = c .before .before .before in
+    omega (arith, c .if1 .left, end-inside (start .args .text .now) 0 (c .before .word-end .result) (omega arith) (c .before .word-end .ensures))
 
 word-end-requires-2 : tie.Need-word-end-requires-2
-word-end-requires-2 c κs = omega (arith, c .if1 .left, end-inside (c .before .before .before .args .text .now) 0 (c .before .word-end .result) (omega arith) (c .before .word-end .ensures))
+word-end-requires-2 c κs =
+    let start = c .before .before .before in
+    omega (arith, c .if1 .left, end-inside (start .args .text .now) 0 (c .before .word-end .result) (omega arith) (c .before .word-end .ensures))
 
 slice-aggregate-read-group : tie.Need-slice-aggregate-read-group
-slice-aggregate-read-group c = sym (length-take-le (c .before .before .before .before .word-end .result) (c .before .before .before .before .before .before .args .text .now) (end-inside (c .before .before .before .before .before .before .args .text .now) 0 (c .before .before .before .before .word-end .result) (omega arith) (c .before .before .before .before .word-end .ensures) .1))
+slice-aggregate-read-group c =
+    let start = c .before .before .before .before .before .before in
+    let text = start .args .text .now in
+    sym (length-take-le (c .before .before .before .before .word-end .result) text (end-inside text 0 (c .before .before .before .before .word-end .result) (omega arith) (c .before .before .before .before .word-end .ensures) .1))
 
 sub-read-group : tie.Need-sub-read-group
 sub-read-group c = search needs
@@ -39,8 +46,9 @@ read-group-requires c κs = search needs
 
 returns-2 : tie.Need-returns-2
 returns-2 c =
+    let start = c .before .before .before .before .before .before .before .before in
     two-words
-    (c .before .before .before .before .before .before .before .before .args .text .now)
+    (start .args .text .now)
     (c .before .before .before .before .before .before .word-end .result)
     (c .before .before .before .before .word-end2 .result)
     (c .read-group .result)
@@ -52,10 +60,12 @@ returns-2 c =
 
 read-longer-requires : tie.Need-read-longer-requires
 read-longer-requires c κs =
-    let text = c .before .before .before .before .before .args .text .now in
+    let start = c .before .before .before .before .before in
+    let text = start .args .text .now in
+    let text = text in
     let a = c .before .before .before .word-end .result in
     let b = c .before .word-end2 .result in
-    let a-in : (0 ≤ a) × (a ≤ length text) = end-inside (c .before .before .before .before .before .args .text .now) 0 (c .before .before .before .word-end .result) (omega arith) (c .before .before .before .word-end .ensures) in
+    let a-in : (0 ≤ a) × (a ≤ length text) = end-inside text 0 (c .before .before .before .word-end .result) (omega arith) (c .before .before .before .word-end .ensures) in
     let b-in : (a + 1 ≤ b) × (b ≤ length text) = end-inside text (a + 1) b (omega (arith, c .before .before .if1 .left)) (c .before .word-end2 .ensures) in
     (a-in .1, b-in .0, omega (arith, c .if2 .left))
 

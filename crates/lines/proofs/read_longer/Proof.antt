@@ -17,7 +17,9 @@ word-end-requires : tie.Need-word-end-requires
 word-end-requires c κs = search needs
 
 slice-aggregate-read-open : tie.Need-slice-aggregate-read-open
-slice-aggregate-read-open c = sym (length-take-le (c .before .before .before .before .args .a) (c .before .before .before .before .args .text .now) (c .before .before .before .before .pre .0))
+slice-aggregate-read-open c =
+    let start = c .before .before .before .before in
+    sym (length-take-le (start .args .a) (start .args .text .now) (start .pre .0))
 
 sub-read-open : tie.Need-sub-read-open
 sub-read-open c = search needs
@@ -42,26 +44,34 @@ read-open-requires c κs = search needs
 
 returns : tie.Need-returns
 returns c =
+    let start = c .before .before .before .before .before .before .before in
+    let text = start .args .text .now in
     three-words
-    (c .before .before .before .before .before .before .before .args .text .now)
-    (take (c .before .before .before .before .before .before .before .args .a) (c .before .before .before .before .before .before .before .args .text .now))
-    (take (c .before .before .before .before .before .before .before .args .b - c .before .before .before .before .before .before .before .args .first) (drop (c .before .before .before .before .before .before .before .args .first) (c .before .before .before .before .before .before .before .args .text .now)))
-    (c .before .before .before .before .before .before .before .args .b)
+    text
+    (take (start .args .a) text)
+    (take (start .args .b - start .args .first) (drop (start .args .first) text))
+    (start .args .b)
     (c .before .before .before .before .before .word-end .result)
-    (c .before .before .before .before .before .before .before .pre .2)
+    (start .pre .2)
     (c .before .before .before .before .before .word-end .ensures)
     (c .read-open .result)
     (c .before .before .before .before .if1 .taken)
     (c .read-open .ensures)
 
 add-third : tie.Need-add-third
-add-third c = omega (arith, c .if1 .left, end-inside (c .before .before .before .args .text .now) (c .before .before .before .args .b + 1) (c .before .word-end .result) (omega (arith, c .before .before .before .pre)) (c .before .word-end .ensures))
+add-third c =
+    let start = c .before .before .before in
+    omega (arith, c .if1 .left, end-inside (start .args .text .now) (start .args .b + 1) (c .before .word-end .result) (omega (arith, start .pre)) (c .before .word-end .ensures))
 
 word-end-requires-2 : tie.Need-word-end-requires-2
-word-end-requires-2 c κs = omega (arith, c .if1 .left, end-inside (c .before .before .before .args .text .now) (c .before .before .before .args .b + 1) (c .before .word-end .result) (omega (arith, c .before .before .before .pre)) (c .before .word-end .ensures))
+word-end-requires-2 c κs =
+    let start = c .before .before .before in
+    omega (arith, c .if1 .left, end-inside (start .args .text .now) (start .args .b + 1) (c .before .word-end .result) (omega (arith, start .pre)) (c .before .word-end .ensures))
 
 slice-aggregate-read-give : tie.Need-slice-aggregate-read-give
-slice-aggregate-read-give c = sym (length-take-le (c .before .before .before .before .before .before .args .a) (c .before .before .before .before .before .before .args .text .now) (c .before .before .before .before .before .before .pre .0))
+slice-aggregate-read-give c =
+    let start = c .before .before .before .before .before .before in
+    sym (length-take-le (start .args .a) (start .args .text .now) (start .pre .0))
 
 sub-read-give : tie.Need-sub-read-give
 sub-read-give c = search needs
@@ -95,13 +105,15 @@ read-give-requires c κs = search needs
 
 returns-2 : tie.Need-returns-2
 returns-2 c =
+    let start = c .before .before .before .before .before .before .before .before .before .before in
+    let text = start .args .text .now in
     four-words
-    (c .before .before .before .before .before .before .before .before .before .before .args .text .now)
-    (take (c .before .before .before .before .before .before .before .before .before .before .args .a) (c .before .before .before .before .before .before .before .before .before .before .args .text .now))
-    (take (c .before .before .before .before .before .before .before .before .before .before .args .b - c .before .before .before .before .before .before .before .before .before .before .args .first) (drop (c .before .before .before .before .before .before .before .before .before .before .args .first) (c .before .before .before .before .before .before .before .before .before .before .args .text .now)))
-    (c .before .before .before .before .before .before .before .before .before .before .args .b)
+    text
+    (take (start .args .a) text)
+    (take (start .args .b - start .args .first) (drop (start .args .first) text))
+    (start .args .b)
     (c .before .before .before .before .before .before .before .before .word-end .result)
-    (c .before .before .before .before .before .before .before .before .before .before .pre .2)
+    (start .pre .2)
     (c .before .before .before .before .before .before .before .before .word-end .ensures)
     (c .before .before .before .before .before .before .word-end2 .result)
     (c .read-give .result)
@@ -112,13 +124,15 @@ returns-2 c =
 
 returns-3 : tie.Need-returns-3
 returns-3 c =
+    let start = c .before .before .before .before .before in
+    let text = start .args .text .now in
     more-words
-    (c .before .before .before .before .before .args .text .now)
-    (take (c .before .before .before .before .before .args .a) (c .before .before .before .before .before .args .text .now))
-    (take (c .before .before .before .before .before .args .b - c .before .before .before .before .before .args .first) (drop (c .before .before .before .before .before .args .first) (c .before .before .before .before .before .args .text .now)))
-    (c .before .before .before .before .before .args .b)
+    text
+    (take (start .args .a) text)
+    (take (start .args .b - start .args .first) (drop (start .args .first) text))
+    (start .args .b)
     (c .before .before .before .word-end .result)
-    (c .before .before .before .before .before .pre .2)
+    (start .pre .2)
     (c .before .before .before .word-end .ensures)
     (c .before .word-end2 .result)
     (c .before .before .if1 .left)

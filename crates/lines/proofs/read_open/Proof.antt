@@ -37,10 +37,11 @@ value-requires-2 c κs =
 
 returns : tie.Need-returns
 returns c =
+    let start = c .before .before .before .before .before .before .before .before .before .before in
     open-read
-    (c .before .before .before .before .before .before .before .before .before .before .args .keyword .now)
-    (c .before .before .before .before .before .before .before .before .before .before .args .s .now)
-    (c .before .before .before .before .before .before .before .before .before .before .args .v .now)
+    (start .args .keyword .now)
+    (start .args .s .now)
+    (start .args .v .now)
     (c .before .before .before .before .before .same .result)
     (c .before .before .before .before .is-number .result)
     (c .before .before .before .is-number2 .result)
@@ -55,10 +56,11 @@ returns c =
 
 returns-2 : tie.Need-returns-2
 returns-2 c =
+    let start = c .before .before .before .before .before .before .before .before in
     open-not
-    (c .before .before .before .before .before .before .before .before .args .keyword .now)
-    (c .before .before .before .before .before .before .before .before .args .s .now)
-    (c .before .before .before .before .before .before .before .before .args .v .now)
+    (start .args .keyword .now)
+    (start .args .s .now)
+    (start .args .v .now)
     (c .before .before .before .same .result)
     (c .before .before .is-number .result)
     (c .before .is-number2 .result)
