@@ -1,2 +1,9 @@
 pub mod Read
 pub mod Print
+pub mod Short
+pub mod Width
+pub mod Decimal
+pub mod Put
+pub mod Words
+pub mod Says
+pub mod Example

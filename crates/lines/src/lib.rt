@@ -1,5 +1,15 @@
 // The lines of the program valley, as bytes: what a line of its input says, and the lines that it prints (document 01, "The program valley").
 // The contracts cite specs/.
+ghost use mathlib.Core.Path.{_≡_};
+ghost use mathlib.Core.Bool.{true};
+ghost use mathlib.Core.List.{[], _∷_, _++_};
+ghost use Prim.Native.Nat.{suc, _+_, _-_, _≤_, _<_};
+ghost use lib.ListN.{length, take, drop};
+ghost use lib.Seq.{paste};
+ghost use Rattle.lines.specs.Read.{space, split, all-digits, is-number, read-words, read-line};
+ghost use Rattle.lines.specs.Read.{same as Read·same, value as Read·value};
+ghost use Rattle.lines.specs.Words.{word-length};
+ghost use Rattle.lines.specs.Print.{decimal, event-line, bad-line};
 
 // What a line says. `Unreadable` is a line that can't be read.
 pub enum Line {
@@ -7,4 +17,200 @@ pub enum Line {
     Open(u32, u32),
     Give(u32, u32, u32),
     Unreadable,
+}
+
+// Where the word that starts at `from` ends: at the next space, or with the text.
+fn word_end(text: &[u8], from: usize) -> usize
+    requires { ⌜ from ≤ length (now text) ⌝ }
+    ensures { λ r. ⌜ r ≡ from + word-length (drop from (now (text .entry))) ⌝ }
+{
+    let mut i = from;
+    while i < text.len() {
+        if text[i] == b' ' {
+            return i;
+        }
+        i += 1;
+    }
+    i
+}
+
+// Whether two texts have the same bytes.
+fn same(text: &[u8], other: &[u8]) -> bool
+    ensures { λ r. ⌜ r ≡ Read·same (now (text .entry)) (now (other .entry)) ⌝ }
+{
+    if text.len() != other.len() {
+        return false;
+    }
+    let mut i = 0;
+    while i < text.len() {
+        if text[i] != other[i] {
+            return false;
+        }
+        i += 1;
+    }
+    true
+}
+
+// Whether every byte is a digit; so of a word with none too, which `is_number` refuses by its length.
+fn all_digits(word: &[u8]) -> bool
+    ensures { λ r. ⌜ r ≡ all-digits (now (word .entry)) ⌝ }
+{
+    let mut i = 0;
+    while i < word.len() {
+        let b = word[i];
+        if !((b'0' <= b) & (b <= b'9')) {
+            return false;
+        }
+        i += 1;
+    }
+    true
+}
+
+// Whether a word is a number: one to five digits.
+fn is_number(word: &[u8]) -> bool
+    ensures { λ r. ⌜ r ≡ is-number (now (word .entry)) ⌝ }
+{
+    let count = word.len();
+    (1 <= count) & (count <= 5) & all_digits(word)
+}
+
+// The number that a word spells. It is asked only of one to five digits, so no sum goes over a u32.
+fn value(word: &[u8]) -> u32
+    requires { ⌜ is-number (now word) ≡ true ⌝ }
+    ensures { λ r. ⌜ r ≡ Read·value (now (word .entry)) ⌝ }
+{
+    let mut v: u32 = 0;
+    let mut i = 0;
+    while i < word.len() {
+        v = v * 10 + (word[i] - b'0') as u32;
+        i += 1;
+    }
+    v
+}
+
+// A line of two words: `n` and a number.
+fn read_group(keyword: &[u8], n: &[u8]) -> Line
+    ensures { λ r. ⌜ r ≡ read-words (now (keyword .entry) ∷ now (n .entry) ∷ []) ⌝ }
+{
+    let readable = same(keyword, b"n") & is_number(n);
+    if readable {
+        return Line::Group(value(n));
+    }
+    Line::Unreadable
+}
+
+// A line of three words: `open`, a station and a proposal.
+fn read_open(keyword: &[u8], s: &[u8], v: &[u8]) -> Line
+    ensures { λ r. ⌜ r ≡ read-words (now (keyword .entry) ∷ now (s .entry) ∷ now (v .entry) ∷ []) ⌝ }
+{
+    let readable = same(keyword, b"open") & is_number(s) & is_number(v);
+    if readable {
+        return Line::Open(value(s), value(v));
+    }
+    Line::Unreadable
+}
+
+// A line of four words: `give`, a station, a bundle and a coin.
+fn read_give(keyword: &[u8], s: &[u8], k: &[u8], c: &[u8]) -> Line
+    ensures { λ r. ⌜ r ≡ read-words (now (keyword .entry) ∷ now (s .entry) ∷ now (k .entry) ∷ now (c .entry) ∷ []) ⌝ }
+{
+    let readable = same(keyword, b"give") & is_number(s) & is_number(k) & is_number(c);
+    if readable {
+        return Line::Give(value(s), value(k), value(c));
+    }
+    Line::Unreadable
+}
+
+// A line of more than two words, of which the first ends at `a` and the second goes from `first` to `b`. It looks for two words more; a
+// fifth can't be read, so where it ends does not matter.
+fn read_longer(text: &[u8], a: usize, first: usize, b: usize) -> Line
+    requires { ⌜ (a ≤ length (now text)) × (first ≤ b) × (b < length (now text)) ⌝ }
+    ensures { λ r. ⌜ r ≡ read-words (take a (now (text .entry)) ∷ take (b - first) (drop first (now (text .entry))) ∷ split space (drop (b + 1) (now (text .entry)))) ⌝ }
+{
+    let second = b + 1;
+    let c = word_end(text, second);
+    if c == text.len() {
+        return read_open(&text[..a], &text[first..b], &text[second..c]);
+    }
+    let third = c + 1;
+    let d = word_end(text, third);
+    if d == text.len() {
+        return read_give(
+            &text[..a],
+            &text[first..b],
+            &text[second..c],
+            &text[third..d],
+        );
+    }
+    Line::Unreadable
+}
+
+// What a line says. The text is the line without its newline. A space at the text's end leaves an empty word behind it, which is no number.
+pub fn read_line(text: &[u8]) -> Line
+    ensures { λ r. ⌜ r ≡ read-line (now (text .entry)) ⌝ }
+{
+    let a = word_end(text, 0);
+    if a == text.len() {
+        return Line::Unreadable;
+    }
+    let first = a + 1;
+    let b = word_end(text, first);
+    if b == text.len() {
+        return read_group(&text[..a], &text[first..b]);
+    }
+    read_longer(text, a, first, b)
+}
+
+// Copies the text into out, from index `at` on.
+fn copy(text: &[u8], out: &mut [u8], at: usize)
+    requires { ⌜ at + length (now text) ≤ length (now out) ⌝ }
+    ensures { λ _. ⌜ now (out .exit) ≡ paste (now (out .entry)) at (now (text .entry)) (length (now (text .entry))) ⌝ }
+{
+    let mut i = 0;
+    while i < text.len() {
+        out[at + i] = text[i];
+        i += 1;
+    }
+}
+
+// Puts n's digits into out, from index `at` on, and answers where they end.
+fn put_number(n: u64, out: &mut [u8], at: usize) -> usize
+    requires { ⌜ at + length (decimal n) ≤ length (now out) ⌝ }
+    ensures { λ r. ⌜ (r ≡ at + length (decimal n)) × (now (out .exit) ≡ paste (now (out .entry)) at (decimal n) (length (decimal n))) ⌝ }
+{
+    let mut digits = [0u8; 20];
+    let count = io::decimal(n, &mut digits);
+    copy(&digits[..count], out, at);
+    at + count
+}
+
+// Puts a space and n's digits into out, from index `at` on, and answers where they end.
+fn put_spaced(n: u64, out: &mut [u8], at: usize) -> usize
+    requires { ⌜ at + suc (length (decimal n)) ≤ length (now out) ⌝ }
+    ensures { λ r. ⌜ (r ≡ at + suc (length (decimal n))) × (now (out .exit) ≡ paste (now (out .entry)) at (space ∷ decimal n) (suc (length (decimal n)))) ⌝ }
+{
+    out[at] = b' ';
+    put_number(n, out, at + 1)
+}
+
+// The line of an event at the front of out; answers how many bytes it has. Its numbers have at most 20, 10, 20 and 10 digits, so it always fits.
+pub fn event_line(event: u64, number: u32, step: u64, decision: u32, out: &mut [u8; 64]) -> usize
+    ensures { λ r. ⌜ (r ≡ length (event-line event number step decision)) × (now (out .exit) ≡ event-line event number step decision ++ drop (length (event-line event number step decision)) (now (out .entry))) ⌝ }
+{
+    let a = put_number(event, out, 0);
+    let b = put_spaced(number as u64, out, a);
+    let c = put_spaced(step, out, b);
+    let d = put_spaced(decision as u64, out, c);
+    out[d] = b'\n';
+    d + 1
+}
+
+// The line that ends a run at an input line, at the front of out: a fixed byte string, then the line's number. Answers how many bytes it has.
+pub fn bad_line(number: u64, out: &mut [u8; 64]) -> usize
+    ensures { λ r. ⌜ (r ≡ length (bad-line number)) × (now (out .exit) ≡ bad-line number ++ drop (length (bad-line number)) (now (out .entry))) ⌝ }
+{
+    copy(b"bad line ", out, 0);
+    let end = put_number(number, out, 9);
+    out[end] = b'\n';
+    end + 1
 }
