@@ -45,7 +45,7 @@ abbrev pub the-output : List ℕ
 the-output = replicate output-words 0
 
 -- ---- the group
-abbrev pub no-bundle : Bundle
+unfoldable pub no-bundle : Bundle
 no-bundle = record { count = 0; words = the-output }
 
 -- the module of a station; making refuses a number over n, and its answer then is the all-zero module, which every call refuses by 2
