@@ -197,7 +197,7 @@ group-turned w g number n before h g-is =
     rw e (record { phase-is = refl; world-is = g-is; prints = nothing before })
 
 -- a call that writes nothing; one that would make bundle 41; one that makes a bundle
-pub quiet : (w u : World) (number s : ℕ) (r : Returned) → r .count ≡ 0 → told u number s (r .number) ≡ event w number s r u
+quiet : (w u : World) (number s : ℕ) (r : Returned) → r .count ≡ 0 → told u number s (r .number) ≡ event w number s r u
 unfolding event pick
 quiet w u number s r e = rw (le-ltb 0 (r .count) (omega arith))
 
@@ -237,29 +237,27 @@ bundle-event w u v number s r e h u-is v-is =
     ap (λ (x : World). told x number s (r .number)) a ∙ not-full w (after w s r) number s r q h
 
 -- an opening that was refused leaves the group as it was
-pub refused-opening : (w : World) (number s : ℕ) (r : Returned) → r .count ≡ 0
+pub refused-opening : (w : World) (number s : ℕ) (r : Returned) → r .count ≤ 0
     → told w number s (r .number) ≡ event w number s r (after-opening w s r)
 unfolding after-opening pick
-refused-opening w number s r e = rw (le-ltb 0 (r .count) (omega arith)) (quiet w w number s r e)
+refused-opening w number s r h = rw (le-ltb 0 (r .count) h) (quiet w w number s r (omega arith))
 
-pub done-opening : (w : World) (number s : ℕ) (r : Returned) → (r .count ≡ 0 → ⊥)
+pub done-opening : (w : World) (number s : ℕ) (r : Returned) → 0 < r .count
     → event w number s r (after w s r) ≡ event w number s r (after-opening w s r)
 unfolding after-opening pick
-done-opening w number s r e =
-    let p : 0 < r .count = omega (arith, e) in
-    rw (lt-ltb 0 (r .count) p)
+done-opening w number s r h = rw (lt-ltb 0 (r .count) h)
 
 -- what a giving names is open and written, or not
 pub not-named : (w : World) (number s k coin : ℕ) (o b : Bool) → o ≡ is-open w s → b ≡ is-written w k → not (o && b) ≡ true
     → bad w number ≡ later-turn w number (Give s k coin)
 unfolding later-turn pick
 not-named w number s k coin o b o-is b-is h =
-    let e : (is-open w s && is-written w k) ≡ false = ap (λ (x : Bool). x && is-written w k) (sym o-is) ∙ ap (λ (x : Bool). o && x) (sym b-is) ∙ not-true (o && b) h in
+    let e : (is-open w s && is-written w k) ≡ false = sym (λ i. o-is i && b-is i) ∙ not-true (o && b) h in
     rw e
 
 pub named : (w : World) (number s k coin : ℕ) (o b : Bool) → o ≡ is-open w s → b ≡ is-written w k → not (o && b) ≡ false
     → event w number s (gives w s k coin) (after w s (gives w s k coin)) ≡ later-turn w number (Give s k coin)
 unfolding later-turn pick
 named w number s k coin o b o-is b-is h =
-    let e : (is-open w s && is-written w k) ≡ true = ap (λ (x : Bool). x && is-written w k) (sym o-is) ∙ ap (λ (x : Bool). o && x) (sym b-is) ∙ not-false (o && b) h in
+    let e : (is-open w s && is-written w k) ≡ true = sym (λ i. o-is i && b-is i) ∙ not-false (o && b) h in
     rw e

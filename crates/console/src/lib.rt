@@ -396,10 +396,10 @@ fn open_event(w: World, number: u64, s: u32, v: u32, out: &mut [u8; 64]) -> Done
     ensures { λ r. ⌜ Turned (Event w number s (opens w s v) (after-opening w s (opens w s v))) (r .phase) (r .world) (r .count) (now (out .entry)) (now (out .exit)) ⌝ }
 {
     let c = open_call(w, s, v);
-    if c.count == 0 {
-        return told(w, number, s, c.number, out);
+    if 0 < c.count {
+        return event(w, number, s, c, out);
     }
-    event(w, number, s, c, out)
+    told(w, number, s, c.number, out)
 }
 
 // `give s k c`: what it names is looked at before the coin.
@@ -420,9 +420,11 @@ fn group_line(w: World, number: u64, n: u32, out: &mut [u8; 64]) -> Done
     if !((2 <= n) & (n <= 7)) {
         return bad(w, number, out);
     }
+    let phase = Phase::Running;
+    let world = group_of(n);
     Done {
-        phase: Phase::Running,
-        world: group_of(n),
+        phase,
+        world,
         count: 0,
     }
 }

@@ -1,5 +1,6 @@
 -- Where the number has no place the answer is the default; else it is what stands there.
 use mathlib.Core.Path.{_∙_}
+use native.Mathlib.Omega.{arith}
 use borrow.Author.Needs.{needs}
 use Rattle.console.specs.Places.{low, high, at-inside, at-outside}
 use Rattle.console.specs.Valley.{no-bundle}
@@ -14,7 +15,7 @@ returns c = let a = c .before .before .args in
     c .empty .ensures ∙ at-outside (a .t1) 40 (a .k) no-bundle (search needs) (c .before .if1 .taken)
 
 sub-i : tie.Need-sub-i
-sub-i c = low 40 (c .before .args .k) (c .if1 .left)
+sub-i c = omega (arith, low 40 (c .before .args .k) (c .if1 .left))
 
 cast-i : tie.Need-cast-i
 cast-i c = search needs
@@ -23,7 +24,7 @@ mul-result : tie.Need-mul-result
 mul-result c = search needs
 
 array-copy-out-result : tie.Need-array-copy-out-result
-array-copy-out-result c = high 40 (c .before .args .k) (c .if1 .left)
+array-copy-out-result c = omega (arith, high 40 (c .before .args .k) (c .if1 .left))
 
 returns-2 : tie.Need-returns-2
 returns-2 c = let a = c .before .before .args in

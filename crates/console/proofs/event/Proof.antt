@@ -15,18 +15,24 @@ told-requires c κs = search needs
 
 returns : tie.Need-returns
 returns c = let a = c .before .before .before .before .before .args in
-    turned-as (quiet-event (a .w) _ (a .number) (a .s) (returned-by (a .c)) (c .before .before .if1 .taken) (c .before .before .before .before .moved .ensures)) (c .told .ensures)
+    turned-as
+    (quiet-event (a .w) _ (a .number) (a .s) (returned-by (a .c)) (c .before .before .if1 .taken) (c .before .before .before .before .moved .ensures))
+    (c .told .ensures)
 
 bad-requires : tie.Need-bad-requires
 bad-requires c κs = search needs
 
 returns-2 : tie.Need-returns-2
 returns-2 c = let a = c .before .before .before .before .before .before .before .args in
-    turned-as (full-event (a .w) _ (a .number) (a .s) (returned-by (a .c)) (c .before .before .before .before .if1 .left) (c .before .before .if2 .taken)) (c .bad .ensures)
+    turned-as
+    (full-event (a .w) _ (a .number) (a .s) (returned-by (a .c)) (c .before .before .before .before .if1 .left)
+    (omega (arith, c .before .before .if2 .taken)))
+    (c .bad .ensures)
 
 with-bundle-requires : tie.Need-with-bundle-requires
 with-bundle-requires c κs = let w = c .before .before .before .before .before .before .args .w in
-    let e : c .before .before .before .before .before .moved .result .written ≡ w .written = ap (λ (x : World). x .written) (c .before .before .before .before .before .moved .ensures) in
+    let u = c .before .before .before .before .before .moved in
+    let e : u .result .written ≡ w .written = ap (λ (x : World). x .written) (u .ensures) in
     omega (arith, c .before .if2 .left)
 
 told-requires-2 : tie.Need-told-requires-2
@@ -35,7 +41,9 @@ told-requires-2 c κs = search needs
 returns-3 : tie.Need-returns-3
 returns-3 c = let a = c .before .before .before .before .before .before .before .before .before .args in
     turned-as
-    (bundle-event (a .w) _ _ (a .number) (a .s) (returned-by (a .c)) (c .before .before .before .before .before .before .if1 .left) (c .before .before .before .before .if2 .left) (c .before .before .before .before .before .before .before .before .moved .ensures) (c .before .before .with-bundle .ensures))
+    (bundle-event (a .w) _ _ (a .number) (a .s) (returned-by (a .c)) (c .before .before .before .before .before .before .if1 .left)
+    (omega (arith, c .before .before .before .before .if2 .left)) (c .before .before .before .before .before .before .before .before .moved .ensures)
+    (c .before .before .with-bundle .ensures))
     (c .told2 .ensures)
 
 pub event-spec : {M : Type 1} → statement M

@@ -16,7 +16,8 @@ end-line-requires c κs = search needs
 returns : tie.Need-returns
 returns c = let a = c .before .before .before .before .before .before .before .before .args in
     taken
-    (piece-ends-line (a .run) _ (a .piece .now) (a .out .now) _ (c .before .before .before .before .before .scan .ensures) (c .before .before .before .with-line .ensures) _ _ _ _ (c .before .before .if1 .taken) (c .end-line .ensures))
+    (piece-ends-line (a .run) _ (a .piece .now) (a .out .now) _ (c .before .before .before .before .before .scan .ensures)
+    (c .before .before .before .with-line .ensures) _ _ _ _ (c .before .before .if1 .taken) (c .end-line .ensures))
 
 returns-2 : tie.Need-returns-2
 returns-2 c = let a = c .before .before .before .before .before .before .args in

@@ -18,7 +18,8 @@ give-words-requires c κs = search needs
 
 returns : tie.Need-returns
 returns c = let a = c .before .before .before .before .before .before .before .before .args in
-    gives-are (a .w) (a .s) (a .k) (a .coin) _ _ _ _ (c .before .before .before .before .module-at .ensures) (c .before .before .before .station-at .ensures) (c .before .before .bundle-at .ensures) (c .give-words .ensures)
+    gives-are (a .w) (a .s) (a .k) (a .coin) _ _ _ _
+    (c .before .before .before .before .module-at .ensures) (c .before .before .before .station-at .ensures) (c .before .before .bundle-at .ensures) (c .give-words .ensures)
 
 pub give-call-spec : {M : Type 1} → statement M
 give-call-spec =

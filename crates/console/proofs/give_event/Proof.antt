@@ -19,7 +19,8 @@ bad-requires c κs = search needs
 returns : tie.Need-returns
 returns c = let a = c .before .before .before .before .before .args in
     turned-as
-    (not-named (a .w) (a .number) (a .s) (a .k) (a .coin) _ _ (c .before .before .before .before .is-open .ensures) (c .before .before .before .is-written .ensures) (c .before .before .if1 .taken))
+    (not-named (a .w) (a .number) (a .s) (a .k) (a .coin) _ _
+    (c .before .before .before .before .is-open .ensures) (c .before .before .before .is-written .ensures) (c .before .before .if1 .taken))
     (c .bad .ensures)
 
 give-call-requires : tie.Need-give-call-requires
@@ -32,7 +33,8 @@ returns-2 : tie.Need-returns-2
 returns-2 c = let a = c .before .before .before .before .before .before .args in
     turned-as
     (ap (λ (x : Returned). event (a .w) (a .number) (a .s) x (after (a .w) (a .s) x)) (c .before .before .give-call .ensures)
-    ∙ named (a .w) (a .number) (a .s) (a .k) (a .coin) _ _ (c .before .before .before .before .before .is-open .ensures) (c .before .before .before .before .is-written .ensures) (c .before .before .before .if1 .left))
+    ∙ named (a .w) (a .number) (a .s) (a .k) (a .coin) _ _
+    (c .before .before .before .before .before .is-open .ensures) (c .before .before .before .before .is-written .ensures) (c .before .before .before .if1 .left))
     (c .event .ensures)
 
 pub give-event-spec : {M : Type 1} → statement M

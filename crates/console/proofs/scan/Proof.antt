@@ -2,6 +2,7 @@
 use Prim.Native.Nat.{_+_, _-_, _≤_}
 use mathlib.Core.Logic.{⊎-elim}
 use mathlib.Core.Path.{_≡_, _∙_}
+use native.Mathlib.Omega.{arith}
 use lib.ListN.{length, drop}
 use borrow.Author.Needs.{needs}
 use Rattle.console.specs.Scans.{behind, scanned, scan-start, scan-found, scan-room, scan-full, scan-end}
@@ -48,11 +49,11 @@ loop-again c = let a = c .before .before .before .before .before .args in
       ⊎-elim
           (λ w.
           (λ j. behind (v .i + 1) (scanned (w .2 j) (w .1 j) (drop (v .i + 1) p)))
-          ∙ scan-room p (v .i) (v .many) (v .kept) (c .before .before .before .loop-test .taken) (c .before .if1 .left) (w .0 .taken)
+          ∙ scan-room p (v .i) (v .many) (v .kept) (c .before .before .before .loop-test .taken) (c .before .if1 .left) (omega (arith, w .0 .taken))
           ∙ v .inv .1)
           (λ w.
           (λ j. behind (v .i + 1) (scanned (w .2 j) (w .1 j) (drop (v .i + 1) p)))
-          ∙ scan-full p (v .i) (v .many) (v .kept) (c .before .before .before .loop-test .taken) (c .before .if1 .left) (w .0 .left)
+          ∙ scan-full p (v .i) (v .many) (v .kept) (c .before .before .before .loop-test .taken) (c .before .if1 .left) (omega (arith, w .0 .left))
           ∙ v .inv .1)
           (c .if2 .came),
     )

@@ -19,7 +19,8 @@ step-in-requires c κs = search needs
 
 returns-2 : tie.Need-returns-2
 returns-2 c = let a = c .before .before .before .before .before .args in
-    shows-step (a .w) (a .s) _ _ _ (c .before .before .before .before .is-open .ensures) (c .before .before .before .if1 .left) (c .before .station-at .ensures) (c .step-in .ensures)
+    shows-step (a .w) (a .s) _ _ _
+    (c .before .before .before .before .is-open .ensures) (c .before .before .before .if1 .left) (c .before .station-at .ensures) (c .step-in .ensures)
 
 pub shown-step-spec : {M : Type 1} → statement M
 shown-step-spec =

@@ -18,7 +18,8 @@ event-line-requires c κs = search needs
 
 returns : tie.Need-returns
 returns c = let a = c .before .before .before .before .before .args in
-    told-turned (a .w) (a .number) (a .s) (a .returned) _ _ _ _ (a .out .now) _ (c .before .before .before .before .event-of .ensures) (c .before .before .before .shown-step .ensures) (c .before .before .shown-decision .ensures) (c .event-line .ensures)
+    told-turned (a .w) (a .number) (a .s) (a .returned) _ _ _ _ (a .out .now) _
+    (c .before .before .before .before .event-of .ensures) (c .before .before .before .shown-step .ensures) (c .before .before .shown-decision .ensures) (c .event-line .ensures)
 
 pub told-spec : {M : Type 1} → statement M
 told-spec =
