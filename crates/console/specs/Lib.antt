@@ -1,3 +1,4 @@
 pub mod Valley
 pub mod Pieces
 pub mod Bytes
+pub mod Cutting
