@@ -209,7 +209,7 @@ module _ (capped : (text : List ℕ) → read-line (take most-kept text) ≡ rea
 
   -- a newline: the line is done, and the rest follows
   one-line-more : (r : Run) (text bs : List ℕ) → Stands r text → r .number + 1 < 2 ^ 64 →
-    line-turn r .printed ++ run-lines (line-done r .phase) (line-done r .world) (line-done r .number) (lines-of bs) ≡ run-lines (r .phase) (r .world) (r .number) (lines-of (text ++ (newline ∷ bs)))
+      line-turn r .printed ++ run-lines (line-done r .phase) (line-done r .world) (line-done r .number) (lines-of bs) ≡ run-lines (r .phase) (r .world) (r .number) (lines-of (text ++ (newline ∷ bs)))
   unfolding line-done run-lines
   one-line-more r text bs s h =
       let e : (r .number + 1) % 2 ^ 64 ≡ suc (r .number) = omega (arith, h) in
@@ -228,7 +228,7 @@ module _ (capped : (text : List ℕ) → read-line (take most-kept text) ≡ rea
       go true e ih =
           let is-newline : b ≡ newline = eqb-true b newline e in
           let next : bytes-printed (line-done r) bs ++ end-printed (after-bytes (line-done r) bs) ≡ run-lines (line-done r .phase) (line-done r .world) (line-done r .number) (lines-of bs) =
-              ih (line-done r) [] (stands-anew r text s) (omega (arith, h)) in
+          ih (line-done r) [] (stands-anew r text s) (omega (arith, h)) in
           rw e
           (append-assoc (line-turn r .printed) (bytes-printed (line-done r) bs) (end-printed (after-bytes (line-done r) bs))
           ∙ ap (λ (l : List ℕ). line-turn r .printed ++ l) next
@@ -238,5 +238,5 @@ module _ (capped : (text : List ℕ) → read-line (take most-kept text) ≡ rea
           let same : Same (lengthened r b) r = longer-same r b in
           let numbered : lengthened r b .number ≡ r .number = same .number-is in
           let goes-on : run-lines (lengthened r b .phase) (lengthened r b .world) (lengthened r b .number) (lines-of ((text ++ (b ∷ [])) ++ bs)) ≡ run-lines (r .phase) (r .world) (r .number) (lines-of (text ++ (b ∷ bs))) =
-              rw (same .phase-is, same .world-is, numbered, append-assoc text (b ∷ []) bs) in
+          rw (same .phase-is, same .world-is, numbered, append-assoc text (b ∷ []) bs) in
           rw e (ih (lengthened r b) (text ++ (b ∷ [])) (stands-longer r text b s e) (omega (arith, h, numbered)) ∙ goes-on)
