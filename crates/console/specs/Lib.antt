@@ -5,3 +5,4 @@ pub mod Turns
 pub mod Places
 pub mod Scans
 pub mod Ends
+pub mod Cutting
