@@ -6,3 +6,4 @@ pub mod Places
 pub mod Scans
 pub mod Ends
 pub mod Cutting
+pub mod Within
