@@ -50,7 +50,7 @@ fn refusal(m: Module, question: u32, proposal: u32, lent: usize) -> u32
 }
 
 // The station that a refused opening returns: closed and all zero.
-fn none() -> Station
+pub fn none() -> Station
     ensures { λ r. ⌜ r ≡ no-station ⌝ }
 {
     let identity = Identity {

@@ -1,0 +1,263 @@
+-- What the parts of a turn promise, and the laws that join them.
+use Prim.Native.Nat.{ℕ, suc, _-_, _≤_, _<_}
+use mathlib.Core.Bool.{Bool, true, false, not, _&&_}
+use mathlib.Core.List.{List, [], _++_}
+use mathlib.Core.Path.{_≡_, refl, sym, ap, _∙_, subst}
+use native.Mathlib.Omega.{arith}
+use lib.Dec.{ltb, leb}
+use lib.ListN.{length, take, drop, set, replicate}
+use lib.Seq.{take-all, length-take-le}
+use borrow.Author.Tests.{lt-ltb, le-ltb, le-leb, lt-leb, ltb-true, ltb-false, not-true, not-false}
+use Rattle.laws.specs.Pick.{pick}
+use Rattle.format.specs.Numbers.{none}
+use Rattle.format.specs.Statement.{hmac-code}
+use Rattle.sealed.specs.declared.Module.{Module}
+use Rattle.sealed.specs.Sealed.{no-module}
+use Rattle.lines.specs.declared.Line.the-variants.{Group, Give}
+use Rattle.station.specs.declared.Station.{Station}
+use Rattle.station.specs.Machine.{stage-step}
+use Rattle.station.specs.Calls.{Returned, no-station, opening, giving}
+use Rattle.station.specs.Answers.{Answers}
+use Rattle.console.specs.declared.Bundle.{Bundle}
+use Rattle.console.specs.declared.Call.{Call}
+use Rattle.console.specs.declared.Phase.{Phase}
+use Rattle.console.specs.declared.Run.{Run}
+use Rattle.console.specs.declared.World.{World}
+use Rattle.lines.specs.Print.{event-line, bad-line}
+use Rattle.console.specs.declared.Phase.the-variants.{Running, Ended}
+use Rattle.console.specs.Valley.{Turn, no-bundle, group-of, at-number, put-number, module-at, station-at, bundle-at, the-question, the-output, opens, least-n, most-n, most-bundles, writes, after, after-opening, bad, shown-step, shown-decision, told, event, is-open, is-written, first-turn, later-turn, gives}
+use Rattle.console.specs.Pieces.{Takes}
+
+-- what was printed stands at the front of the lent bytes, and those behind it are untouched
+pub record Printed (printed : List ℕ) (count : ℕ) (before after : List ℕ) : Type 0 where
+  pub count-is : count ≡ length printed
+  pub lent-is : after ≡ printed ++ drop (length printed) before
+
+-- what a line did is what the definition says
+pub record Turned (t : Turn) (phase : Phase) (world : World) (count : ℕ) (before after : List ℕ) : Type 0 where
+  pub phase-is : phase ≡ t .phase
+  pub world-is : world ≡ t .world
+  pub prints : Printed (t .printed) count before after
+
+pub record Took (t : Takes) (used count : ℕ) (run : Run) (lent : List ℕ) : Type 0 where
+  pub used-is : used ≡ t .used
+  pub count-is : count ≡ t .count
+  pub run-is : run ≡ t .run
+  pub lent-is : lent ≡ t .lent
+
+-- what a call returned, as the definitions have it
+abbrev pub returned-by : Call → Returned
+returned-by c = record { number = c .number; count = c .count; station = c .station; after = c .after; lent = c .words }
+
+pub answered : (x : Returned) (number count : ℕ) (t : Station) (m : Module) (lent : List ℕ) → Answers x number count t m lent
+    → _≡_ {A = Returned} (record { number = number; count = count; station = t; after = m; lent = lent }) x
+answered x number count t m lent h =
+    λ i. record { number = h .number-is i; count = h .count-is i; station = h .station-is i; after = h .after-is i; lent = h .lent-is i }
+
+-- ---- the calls
+pub opens-are : (w : World) (s v : ℕ) (m : Module) (x : Returned) → m ≡ at-number (w .modules) s no-module
+    → x ≡ opening hmac-code m the-question v the-output → x ≡ opens w s v
+unfolding module-at
+opens-are w s v m x m-is x-is = x-is ∙ ap (λ (y : Module). opening hmac-code y the-question v the-output) m-is
+
+pub gives-are : (w : World) (s k coin : ℕ) (m : Module) (t : Station) (b : Bundle) (x : Returned) → m ≡ at-number (w .modules) s no-module
+    → t ≡ at-number (w .stations) s no-station → b ≡ at-number (w .bundles) k no-bundle
+    → x ≡ giving hmac-code m t (take (b .count) (b .words)) coin the-output → x ≡ gives w s k coin
+unfolding module-at station-at bundle-at
+gives-are w s k coin m t b x m-is t-is b-is x-is =
+    x-is ∙ (λ i. giving hmac-code (m-is i) (t-is i) (take (b-is i .count) (b-is i .words)) coin the-output)
+
+-- ---- the group
+pub group-is : (n : ℕ) (modules : List Module) (t : Station) (b : Bundle) → modules ≡ group-of n .modules → t ≡ no-station → b ≡ no-bundle
+    → _≡_ {A = World} (record { modules = modules; stations = replicate 7 t; written = 0; bundles = replicate 40 b }) (group-of n)
+unfolding group-of
+group-is n modules t b m-is t-is b-is =
+    λ i. record { modules = m-is i; stations = replicate 7 (t-is i); written = 0; bundles = replicate 40 (b-is i) }
+
+-- the group with another station and module of number s
+abbrev pub moved : World → ℕ → Station → Module → World
+moved w s t m = record { modules = put-number (w .modules) s m; stations = put-number (w .stations) s t; written = w .written; bundles = w .bundles }
+
+-- the group with one more bundle
+abbrev pub with-bundle : World → ℕ → List ℕ → World
+with-bundle w count words =
+    record {
+      modules = w .modules;
+      stations = w .stations;
+      written = suc (w .written);
+      bundles = set (w .bundles) (w .written) (record { count = count; words = words });
+    }
+
+-- ---- the smaller of a count and a length
+unfoldable pub shorter : ℕ → ℕ → ℕ
+shorter count length = pick (ltb count length) count length
+
+shorter-le : (count n : ℕ) → shorter count n ≤ n
+unfolding shorter pick
+shorter-le count n = go (ltb count n) refl
+  where
+    go : (t : Bool) → ltb count n ≡ t → pick t count n ≤ n
+    go true e = omega (arith, ltb-true count n e)
+    go false e = omega arith
+
+take-shorter : {A : Type 0} (count n : ℕ) (l : List A) → length l ≡ n → take (shorter count n) l ≡ take count l
+unfolding shorter pick
+take-shorter count n l long = go (ltb count n) refl
+  where
+    go : (t : Bool) → ltb count n ≡ t → take (pick t count n) l ≡ take count l
+    go true e = refl
+    go false e =
+        let a : length l ≤ n = omega arith in
+        let b : length l ≤ count = omega (arith, ltb-false count n e) in
+        take-all n l a ∙ sym (take-all count l b)
+
+-- the part of an array that counts
+module _ (l : List ℕ) (n count k : ℕ) (long : length l ≡ n) (k-is : k ≡ shorter count n) where
+  pub part-fits : k ≤ length l
+  part-fits = omega (arith, shorter-le count n)
+
+  pub part-long : k ≡ length (take k l)
+  part-long = sym (length-take-le k l part-fits)
+
+  pub part-is : take k l ≡ take count l
+  part-is = ap (λ (x : ℕ). take x l) k-is ∙ take-shorter count n l long
+
+pub gives-words : (m : Module) (t : Station) (given : List ℕ) (n count k coin : ℕ) (number many : ℕ) (u : Station) (m2 : Module) (lent : List ℕ)
+    → length given ≡ n → k ≡ shorter count n → Answers (giving hmac-code m t (take k given) coin the-output) number many u m2 lent
+    → _≡_ {A = Returned} (record { number = number; count = many; station = u; after = m2; lent = lent })
+    (giving hmac-code m t (take count given) coin the-output)
+gives-words m t given n count k coin number many u m2 lent long k-is h =
+    answered (giving hmac-code m t (take k given) coin the-output) number many u m2 lent h
+    ∙ ap (λ (l : List ℕ). giving hmac-code m t l coin the-output) (part-is given n count k long k-is)
+
+-- ---- the run with another line
+abbrev pub with-line : Run → ℕ → List ℕ → Run
+with-line r held line = record { phase = r .phase; number = r .number; held = held; line = line; world = r .world }
+
+-- ---- printing
+-- what a printing call promises, of another name for the printed bytes
+pub printed-as : {l : List ℕ} {k : List ℕ} {count : ℕ} {before : List ℕ} {lent : List ℕ} → l ≡ k
+    → (count ≡ length l) × (lent ≡ l ++ drop (length l) before) → Printed k count before lent
+printed-as {before = before} e h = record { count-is = h .0 ∙ ap length e; lent-is = h .1 ∙ ap (λ (x : List ℕ). x ++ drop (length x) before) e }
+
+pub nothing : (before : List ℕ) → Printed [] 0 before before
+nothing before = record { count-is = refl; lent-is = refl }
+
+-- what was shown of a turn, by another name for the turn
+pub turned-as : {t : Turn} {u : Turn} {phase : Phase} {world : World} {count : ℕ} {before : List ℕ} {lent : List ℕ} → t ≡ u
+    → Turned t phase world count before lent → Turned u phase world count before lent
+turned-as {phase = phase} {world = world} {count = count} {before = before} {lent = lent} e h =
+    subst (λ (x : Turn). Turned x phase world count before lent) e h
+
+-- ---- what an event shows of its station
+pub shows-no-step : (w : World) (s : ℕ) (o : Bool) → o ≡ is-open w s → not o ≡ true → 0 ≡ shown-step w s
+unfolding shown-step pick
+shows-no-step w s o o-is h = rw (sym o-is ∙ not-true o h)
+
+pub shows-step : (w : World) (s step : ℕ) (o : Bool) (t : Station) → o ≡ is-open w s → not o ≡ false → t ≡ at-number (w .stations) s no-station
+    → step ≡ stage-step (t .stage) → step ≡ shown-step w s
+unfolding shown-step station-at pick
+shows-step w s step o t o-is h t-is step-is = rw (sym o-is ∙ not-false o h) (step-is ∙ ap (λ (x : Station). stage-step (x .stage)) t-is)
+
+pub shows-no-decision : (w : World) (s : ℕ) (o : Bool) → o ≡ is-open w s → not o ≡ true → none ≡ shown-decision w s
+unfolding shown-decision pick
+shows-no-decision w s o o-is h = rw (sym o-is ∙ not-true o h)
+
+pub shows-decision : (w : World) (s : ℕ) (o : Bool) (t : Station) → o ≡ is-open w s → not o ≡ false → t ≡ at-number (w .stations) s no-station
+    → t .decision ≡ shown-decision w s
+unfolding shown-decision station-at pick
+shows-decision w s o t o-is h t-is = rw (sym o-is ∙ not-false o h) (ap (λ (x : Station). x .decision) t-is)
+
+-- ---- the turns
+pub bad-turned : (w : World) (number count : ℕ) (before lent : List ℕ)
+    → (count ≡ length (bad-line number)) × (lent ≡ bad-line number ++ drop (length (bad-line number)) before)
+    → Turned (bad w number) Ended w count before lent
+unfolding bad
+bad-turned w number count before lent h = record { phase-is = refl; world-is = refl; prints = printed-as refl h }
+
+pub told-turned : (w : World) (number s returned event step decision count : ℕ) (before lent : List ℕ) → event ≡ number - 1
+    → step ≡ shown-step w s → decision ≡ shown-decision w s
+    → (count ≡ length (event-line event returned step decision))
+    × (lent ≡ event-line event returned step decision ++ drop (length (event-line event returned step decision)) before)
+    → Turned (told w number s returned) Running w count before lent
+unfolding told
+told-turned w number s returned event step decision count before lent e-is s-is d-is h =
+    record { phase-is = refl; world-is = refl; prints = printed-as (λ i. event-line (e-is i) returned (s-is i) (d-is i)) h }
+
+-- a group of a size that is not allowed
+pub no-size : (w : World) (number n : ℕ) → not (leb least-n n && leb n most-n) ≡ true → bad w number ≡ first-turn w number (Group n)
+unfolding first-turn pick
+no-size w number n h = rw (not-true (leb least-n n && leb n most-n) h)
+
+pub group-turned : (w g : World) (number n : ℕ) (before : List ℕ) → not (leb least-n n && leb n most-n) ≡ false → g ≡ group-of n
+    → Turned (first-turn w number (Group n)) Running g 0 before before
+unfolding first-turn pick
+group-turned w g number n before h g-is =
+    let e : (leb least-n n && leb n most-n) ≡ true = not-false (leb least-n n && leb n most-n) h in
+    rw e (record { phase-is = refl; world-is = g-is; prints = nothing before })
+
+-- a call that writes nothing; one that would make bundle 41; one that makes a bundle
+quiet : (w u : World) (number s : ℕ) (r : Returned) → r .count ≡ 0 → told u number s (r .number) ≡ event w number s r u
+unfolding event pick
+quiet w u number s r e = rw (le-ltb 0 (r .count) (omega arith))
+
+quiet-after : (w : World) (s : ℕ) (r : Returned) → r .count ≡ 0 → moved w s (r .station) (r .after) ≡ after w s r
+unfolding after pick
+quiet-after w s r e = rw (le-ltb 0 (r .count) (omega arith))
+
+pub quiet-event : (w u : World) (number s : ℕ) (r : Returned) → r .count ≡ 0 → u ≡ moved w s (r .station) (r .after)
+    → told u number s (r .number) ≡ event w number s r (after w s r)
+quiet-event w u number s r e u-is =
+    ap (λ (x : World). told x number s (r .number)) (u-is ∙ quiet-after w s r e) ∙ quiet w (after w s r) number s r e
+
+pub full-event : (w u : World) (number s : ℕ) (r : Returned) → (r .count ≡ 0 → ⊥) → most-bundles ≤ w .written
+    → bad w number ≡ event w number s r u
+unfolding event pick
+full-event w u number s r e h =
+    let p : 0 < r .count = omega (arith, e) in
+    rw (lt-ltb 0 (r .count) p, le-leb most-bundles (w .written) h)
+
+bundle-after : (w : World) (s : ℕ) (r : Returned) → ltb 0 (r .count) ≡ true
+    → with-bundle (moved w s (r .station) (r .after)) (r .count) (r .lent) ≡ after w s r
+unfolding after pick
+bundle-after w s r e = rw e
+
+not-full : (w u : World) (number s : ℕ) (r : Returned) → ltb 0 (r .count) ≡ true → w .written < most-bundles
+    → told u number s (r .number) ≡ event w number s r u
+unfolding event pick
+not-full w u number s r e h = rw (e, lt-leb most-bundles (w .written) h)
+
+pub bundle-event : (w u v : World) (number s : ℕ) (r : Returned) → (r .count ≡ 0 → ⊥) → w .written < most-bundles
+    → u ≡ moved w s (r .station) (r .after) → v ≡ with-bundle u (r .count) (r .lent)
+    → told v number s (r .number) ≡ event w number s r (after w s r)
+bundle-event w u v number s r e h u-is v-is =
+    let p : 0 < r .count = omega (arith, e) in
+    let q : ltb 0 (r .count) ≡ true = lt-ltb 0 (r .count) p in
+    let a : v ≡ after w s r = v-is ∙ ap (λ (x : World). with-bundle x (r .count) (r .lent)) u-is ∙ bundle-after w s r q in
+    ap (λ (x : World). told x number s (r .number)) a ∙ not-full w (after w s r) number s r q h
+
+-- an opening that was refused leaves the group as it was
+pub refused-opening : (w : World) (number s : ℕ) (r : Returned) → r .count ≤ 0
+    → told w number s (r .number) ≡ event w number s r (after-opening w s r)
+unfolding after-opening pick
+refused-opening w number s r h = rw (le-ltb 0 (r .count) h) (quiet w w number s r (omega arith))
+
+pub done-opening : (w : World) (number s : ℕ) (r : Returned) → 0 < r .count
+    → event w number s r (after w s r) ≡ event w number s r (after-opening w s r)
+unfolding after-opening pick
+done-opening w number s r h = rw (lt-ltb 0 (r .count) h)
+
+-- what a giving names is open and written, or not
+pub not-named : (w : World) (number s k coin : ℕ) (o b : Bool) → o ≡ is-open w s → b ≡ is-written w k → not (o && b) ≡ true
+    → bad w number ≡ later-turn w number (Give s k coin)
+unfolding later-turn pick
+not-named w number s k coin o b o-is b-is h =
+    let e : (is-open w s && is-written w k) ≡ false = sym (λ i. o-is i && b-is i) ∙ not-true (o && b) h in
+    rw e
+
+pub named : (w : World) (number s k coin : ℕ) (o b : Bool) → o ≡ is-open w s → b ≡ is-written w k → not (o && b) ≡ false
+    → event w number s (gives w s k coin) (after w s (gives w s k coin)) ≡ later-turn w number (Give s k coin)
+unfolding later-turn pick
+named w number s k coin o b o-is b-is h =
+    let e : (is-open w s && is-written w k) ≡ true = sym (λ i. o-is i && b-is i) ∙ not-false (o && b) h in
+    rw e
