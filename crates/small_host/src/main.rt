@@ -30,17 +30,15 @@ struct Heard {
     refused: u64,
 }
 
-// Before the first question: a module that has coded nothing, and no station. An opening with no words lent is refused and returns none.
+// Before the first question: a module that has coded nothing, and no station.
 fn fresh(n: u32, number: u32) -> Site {
     let made = sealed::make([7; 32], n, number);
     let own = made.made;
-    let mut bundle = [0u32; 331];
-    let o = opening::open(own, 0, 2, &mut bundle);
-    let station = o.station;
+    let station = opening::none();
     Site {
         own,
         station,
-        bundle,
+        bundle: [0; 331],
         count: 0,
         written: 0,
     }
