@@ -16,8 +16,8 @@ pub fn files() -> Vec<(&'static str, Vec<u8>)> {
     let (valley_inputs, valley_outputs) = valleys();
     vec![
         ("crates/hash_vectors/stdout", hashes().into_bytes()),
-        ("crates/bundle_cases/stdin", bundle_script.into_bytes()),
-        ("crates/bundle_cases/stdout", bundle_results.into_bytes()),
+        ("crates/call_cases/stdin", bundle_script.into_bytes()),
+        ("crates/call_cases/stdout", bundle_results.into_bytes()),
         ("cases/calls/stdin", call_script.into_bytes()),
         ("cases/calls/stdout", call_results.into_bytes()),
         ("cases/valley/stdin", valley_inputs),

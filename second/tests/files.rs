@@ -95,7 +95,7 @@ fn scripts_print_what_was_recorded() {
         let file = all.iter().find(|file| file.0.ends_with(place)).unwrap();
         String::from_utf8(file.1.clone()).unwrap()
     };
-    for directory in ["bundle_cases", "calls"] {
+    for directory in ["call_cases", "calls"] {
         let output = run(&content(&format!("{directory}/stdin")));
         assert!(
             output == content(&format!("{directory}/stdout")),
