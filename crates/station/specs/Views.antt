@@ -182,7 +182,7 @@ module _ (mac : List ℕ → List ℕ → List ℕ) where
                 backed = rule-backed (m .n) (main-of ws) (certificate-of ws) (formed-out (m .n) (main-of ws) (p .0 .formed) .shape) u;
               }
 
-      accepted : first-failed (give-tests mac m t ws coin out) ≡ 0 → Accepted
+      pub accepted : first-failed (give-tests mac m t ws coin out) ≡ 0 → Accepted
       accepted h =
           let p = all-passed (give-tests mac m t ws coin out)
           (omega arith, (omega arith, (omega arith, (omega arith, (omega arith, (omega arith, (omega arith, (omega arith, (omega arith, (omega arith, (omega arith, tt))))))))))) h in

@@ -1,0 +1,44 @@
+-- The last round closes the station; any other goes on.
+use Rattle.giving.specs.Found.{ends-closed, ends-on}
+use borrow.Author.Needs.{needs}
+use Rattle.giving.proofs.end_step.Statement.{statement}
+use Rattle.giving.proofs.end_step.Tie as tie
+
+decision-after-requires : tie.Need-decision-after-requires
+decision-after-requires c κs = search needs
+
+closes-requires : tie.Need-closes-requires
+closes-requires c κs = search needs
+
+shut-requires : tie.Need-shut-requires
+shut-requires c κs = search needs
+
+returns : tie.Need-returns
+returns c = let a = c .before .before .before .before .before .before .before .before .args in
+    ends-closed (a .m) (a .k) (a .coin) (a .out .now) _ _ _ (c .before .before .before .decision-after .ensures) (c .before .before .closes .ensures) (c .before .if1 .taken) (c .shut .ensures)
+
+next-requires : tie.Need-next-requires
+next-requires c κs = search needs
+
+go-on-requires : tie.Need-go-on-requires
+go-on-requires c κs = search needs
+
+same-length : tie.Need-same-length
+same-length c = search needs
+
+returns-2 : tie.Need-returns-2
+returns-2 c = let a = c .before .before .before .before .before .before .before .before .before .before .before .before .before .args in
+    ends-on (a .m) (a .k) (a .coin) (a .out .now) _ _ _ _ _ _ _ _ (c .before .before .before .before .before .before .before .before .decision-after .ensures) (c .before .before .before .before .before .before .before .closes .ensures) (c .before .before .before .before .before .before .if1 .left) (c .before .before .before .before .next .ensures) (c .before .before .go-on .ensures)
+
+pub end-step-spec : {M : Type 1} → statement M
+end-step-spec =
+    tie.close
+    (tie.spec
+    decision-after-requires
+    closes-requires
+    shut-requires
+    returns
+    next-requires
+    go-on-requires
+    same-length
+    returns-2)

@@ -1,0 +1,89 @@
+-- Where a test fails, and where the pair is not above the last, all is as it was; else what follows the bundle kept.
+use Prim.Native.Nat.{ℕ}
+use mathlib.Core.Path.{_≡_}
+use mir.Syntax.{w32}
+use borrow.Author.Needs.{needs, length-unmapped, elem-fits-field}
+use Rattle.station.specs.FitSane.{Lengths}
+use Rattle.keeping.specs.One.{LowWords}
+use Rattle.giving.specs.Give.{give-refused, none-found, give-12, give-after}
+use Rattle.giving.proofs.give.Statement.{statement}
+use Rattle.giving.proofs.give.Tie as tie
+
+-- the parameter's arrays have their declared lengths
+lengths : (s : tie.Start) → Lengths (s .args .t)
+lengths s =
+    let f = s .good .1 .0 .1 .1 .1 .1 .1 .1 in
+    let held = f .0 in
+    let groups = f .1 .0 in
+    record {
+      slots = length-unmapped ℕ (s .args .t .held .slots) 310 (held .1 .1 .1 .0 .1 .0 .1);
+      first = length-unmapped ℕ (s .args .t .groups .first) 160 (groups .1 .1 .0 .1 .0 .1);
+      second = length-unmapped ℕ (s .args .t .groups .second) 160 (groups .1 .1 .1 .0 .1 .0 .1);
+    }
+
+-- and words of 32 bits
+low-words : (s : tie.Start) → LowWords (s .args .t)
+low-words s =
+    let f = s .good .1 .0 .1 .1 .1 .1 .1 .1 in
+    let held = f .0 in
+    let groups = f .1 .0 in
+    record {
+      slots = λ i. elem-fits-field w32 w32 (s .args .t .held .slots) (held .1 .1 .1 .0 .0) i (held .1 .1 .1 .0 .1 .1) tt .fits;
+      first = λ i. elem-fits-field w32 w32 (s .args .t .groups .first) (groups .1 .1 .0 .0) i (groups .1 .1 .0 .1 .1) tt .fits;
+      second = λ i. elem-fits-field w32 w32 (s .args .t .groups .second) (groups .1 .1 .1 .0 .0) i (groups .1 .1 .1 .0 .1 .1) tt .fits;
+    }
+
+refusal-requires : tie.Need-refusal-requires
+refusal-requires c κs = search needs
+
+returns : tie.Need-returns
+returns c =
+    let a = c .before .before .before .before .args in
+    give-refused (a .m) (a .t) (a .ws .now) (a .coin) (a .out .now) _ (c .before .refusal .ensures) (c .if1 .taken)
+
+keep-requires : tie.Need-keep-requires
+keep-requires c κs = search needs
+
+taken-requires : tie.Need-taken-requires
+taken-requires c κs = search needs
+
+same-length : tie.Need-same-length
+same-length c = search needs
+
+returns-2 : tie.Need-returns-2
+returns-2 c =
+    let s = c .before .before .before .before .before .before .before .before .before .before .before in
+    let a = s .args in
+    let e = c .before .before .before .before .before .before .before .before .refusal in
+    let zero-found : e .result ≡ 0 = search needs in
+    give-12 (a .m) (a .t) (a .ws .now) (a .coin) (a .out .now) (lengths s) (low-words s)
+    (λ i. c .before .before .before .before .before .before .before .before .before .before .shared-slice-known .given i .fits) _ _ _ _ _ _
+    (none-found (a .m) (a .t) (a .ws .now) (a .coin) (a .out .now) _ (e .ensures) zero-found)
+    (c .before .before .before .before .before .before .keep .ensures) (c .before .before .before .before .taken .ensures) (λ i. c .before .before .slice-known2 .given i .fits) (c .if2 .taken)
+
+same-length-2 : tie.Need-same-length-2
+same-length-2 c = search needs
+
+returns-3 : tie.Need-returns-3
+returns-3 c =
+    let s = c .before .before .before .before .before .before .before .before .before .before .before in
+    let a = s .args in
+    let e = c .before .before .before .before .before .before .before .before .refusal in
+    let zero-found : e .result ≡ 0 = search needs in
+    give-after (a .m) (a .t) (a .ws .now) (a .coin) (a .out .now) (lengths s) (low-words s)
+    (λ i. c .before .before .before .before .before .before .before .before .before .before .shared-slice-known .given i .fits) _ _ _ _ _ _
+    (none-found (a .m) (a .t) (a .ws .now) (a .coin) (a .out .now) _ (e .ensures) zero-found)
+    (c .before .before .before .before .before .before .keep .ensures) (c .before .before .before .before .taken .ensures) (λ i. c .before .before .slice-known2 .given i .fits) (c .if2 .left)
+
+pub give-spec : {M : Type 1} → statement M
+give-spec =
+    tie.close
+    (tie.spec
+    refusal-requires
+    returns
+    keep-requires
+    taken-requires
+    same-length
+    returns-2
+    same-length-2
+    returns-3)

@@ -1,0 +1,5 @@
+pub mod Gives
+pub mod Law
+pub mod Whole
+pub mod Found
+pub mod Give
