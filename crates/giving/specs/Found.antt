@@ -24,6 +24,7 @@ use Rattle.sending.specs.Sends.{own-fields}
 use Rattle.ending.specs.declared.Source.{Source}
 use Rattle.ending.specs.declared.Following.{Following}
 use Rattle.ending.specs.After.{next-by}
+use Rattle.giving.specs.declared.Given.{Given}
 use Rattle.giving.specs.Gives.{set-by, kept-in, group-by, count-by, answer, with-no-bundle, sending-words, moving, shut-words, ending-words, after-words}
 
 pub count-kept : (c d : Source) (q : ℕ) (a b : Bool) → a ≡ kept-in c → b ≡ kept-in d → (a || b) ≡ true → q ≡ count-by c d q
@@ -55,6 +56,11 @@ answers-same x y number count t after lent e a =
       after-is = a .after-is ∙ ap (λ (r : Returned). r .after) e;
       lent-is = a .lent-is ∙ ap (λ (r : Returned). r .lent) e;
     }
+
+-- where no bundle is written
+pub answers-none : (y : Returned) (r : Given) (number : ℕ) (t : Station) (m : Module) (lent : List ℕ) → r ≡ record { number = number; count = 0; station = t; after = m }
+    → Answers y number 0 t m lent → Answers y (r .number) (r .count) (r .station) (r .after) lent
+answers-none y r number t m lent e a = subst (λ (z : Given). Answers y (z .number) (z .count) (z .station) (z .after) lent) (sym e) a
 
 module _ (m : Module) (k : Station) (x : Following) (d : ℕ) (out : List ℕ) where
   abbrev size : ℕ

@@ -25,6 +25,18 @@ pub struct Given {
     pub after: Module,
 }
 
+// What a call answers that writes no bundle: no word is counted.
+fn no_bundle(number: u32, t: Station, m: Module) -> Given
+    ensures { λ r. ⌜ r ≡ record { number = number; count = 0; station = t; after = m } ⌝ }
+{
+    Given {
+        number,
+        count: 0,
+        station: t,
+        after: m,
+    }
+}
+
 // The set of stations whose held statements are in the certificate.
 fn set_by(first: Source) -> u32
     ensures { λ r. ⌜ r ≡ set-by first ⌝ }
@@ -138,12 +150,7 @@ fn go_on(m: Module, k: Station, x: Following, d: u32, out: &mut [u32]) -> Given
     let last = m.last;
     let f = own_fields(m.number, x.kind, x.value, x.flag, x.round);
     if !sealed::above(last, identity.question, format::step_of(f)) {
-        return Given {
-            number: 12,
-            count: 0,
-            station: k,
-            after: m,
-        };
+        return no_bundle(12, k, m);
     }
     let s = send_next(m, k, x, f, d, out);
     let station = s.station;
@@ -189,12 +196,7 @@ fn end_step(m: Module, k: Station, coin: u32, out: &mut [u32]) -> Given
     let slots = held.slots;
     let d = ending::decision_after(stage, k.decision, held.heard, &slots);
     if ending::closes(stage) {
-        return Given {
-            number: 22,
-            count: 0,
-            station: shut(k, d),
-            after: m,
-        };
+        return no_bundle(22, shut(k, d), m);
     }
     let x = ending::next(stage, m.n, held.heard, &slots, coin);
     go_on(m, k, x, d, out)
@@ -213,12 +215,7 @@ fn taken(m: Module, k: Station, coin: u32, out: &mut [u32]) -> Given
 {
     let held = k.held;
     if number_of(held.heard) < format::quorum(m.n) {
-        return Given {
-            number: 0,
-            count: 0,
-            station: k,
-            after: m,
-        };
+        return no_bundle(0, k, m);
     }
     end_step(m, k, coin, out)
 }
@@ -229,22 +226,12 @@ pub fn give(m: Module, t: Station, ws: &[u32], coin: u32, out: &mut [u32]) -> Gi
 {
     let number = refusal::refusal(m, t, ws, coin, out.len());
     if number != 0 {
-        return Given {
-            number,
-            count: 0,
-            station: t,
-            after: m,
-        };
+        return no_bundle(number, t, m);
     }
     let k = keeping::keep(t, ws);
     let r = taken(m, k, coin, out);
     if r.number == 12 {
-        return Given {
-            number: 12,
-            count: 0,
-            station: t,
-            after: m,
-        };
+        return no_bundle(12, t, m);
     }
     r
 }

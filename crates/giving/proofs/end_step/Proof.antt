@@ -1,5 +1,5 @@
 -- The last round closes the station; any other goes on.
-use Rattle.giving.specs.Found.{ends-closed, ends-on}
+use Rattle.giving.specs.Found.{answers-none, ends-closed, ends-on}
 use borrow.Author.Needs.{needs}
 use Rattle.giving.proofs.end_step.Statement.{statement}
 use Rattle.giving.proofs.end_step.Tie as tie
@@ -13,9 +13,13 @@ closes-requires c κs = search needs
 shut-requires : tie.Need-shut-requires
 shut-requires c κs = search needs
 
+no-bundle-requires : tie.Need-no-bundle-requires
+no-bundle-requires c κs = search needs
+
 returns : tie.Need-returns
-returns c = let a = c .before .before .before .before .before .before .before .before .args in
-    ends-closed (a .m) (a .k) (a .coin) (a .out .now) _ _ _ (c .before .before .before .decision-after .ensures) (c .before .before .closes .ensures) (c .before .if1 .taken) (c .shut .ensures)
+returns c = let a = c .before .before .before .before .before .before .before .before .before .args in
+    answers-none _ _ _ _ _ _ (c .no-bundle .ensures)
+    (ends-closed (a .m) (a .k) (a .coin) (a .out .now) _ _ _ (c .before .before .before .before .decision-after .ensures) (c .before .before .before .closes .ensures) (c .before .before .if1 .taken) (c .before .shut .ensures))
 
 next-requires : tie.Need-next-requires
 next-requires c κs = search needs
@@ -37,6 +41,7 @@ end-step-spec =
     decision-after-requires
     closes-requires
     shut-requires
+    no-bundle-requires
     returns
     next-requires
     go-on-requires

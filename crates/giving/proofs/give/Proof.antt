@@ -1,10 +1,10 @@
 -- Where a test fails, and where the pair is not above the last, all is as it was; else what follows the bundle kept.
 use Prim.Native.Nat.{ℕ}
-use mathlib.Core.Path.{_≡_}
 use mir.Syntax.{w32}
 use borrow.Author.Needs.{needs, length-unmapped, elem-fits-field}
 use Rattle.station.specs.FitSane.{Lengths}
 use Rattle.keeping.specs.One.{LowWords}
+use Rattle.giving.specs.Found.{answers-none}
 use Rattle.giving.specs.Give.{give-refused, none-found, give-12, give-after}
 use Rattle.giving.proofs.give.Statement.{statement}
 use Rattle.giving.proofs.give.Tie as tie
@@ -36,10 +36,14 @@ low-words s =
 refusal-requires : tie.Need-refusal-requires
 refusal-requires c κs = search needs
 
+no-bundle-requires : tie.Need-no-bundle-requires
+no-bundle-requires c κs = search needs
+
 returns : tie.Need-returns
 returns c =
-    let a = c .before .before .before .before .args in
-    give-refused (a .m) (a .t) (a .ws .now) (a .coin) (a .out .now) _ (c .before .refusal .ensures) (c .if1 .taken)
+    let a = c .before .before .before .before .before .args in
+    answers-none _ _ _ _ _ _ (c .no-bundle .ensures)
+    (give-refused (a .m) (a .t) (a .ws .now) (a .coin) (a .out .now) _ (c .before .before .refusal .ensures) (c .before .if1 .taken))
 
 keep-requires : tie.Need-keep-requires
 keep-requires c κs = search needs
@@ -47,19 +51,22 @@ keep-requires c κs = search needs
 taken-requires : tie.Need-taken-requires
 taken-requires c κs = search needs
 
+no-bundle-requires-2 : tie.Need-no-bundle-requires-2
+no-bundle-requires-2 c κs = search needs
+
 same-length : tie.Need-same-length
 same-length c = search needs
 
 returns-2 : tie.Need-returns-2
 returns-2 c =
-    let s = c .before .before .before .before .before .before .before .before .before .before .before in
+    let s = c .before .before .before .before .before .before .before .before .before .before .before .before in
     let a = s .args in
-    let e = c .before .before .before .before .before .before .before .before .refusal in
-    let zero-found : e .result ≡ 0 = search needs in
-    give-12 (a .m) (a .t) (a .ws .now) (a .coin) (a .out .now) (lengths s) (low-words s)
-    (λ i. c .before .before .before .before .before .before .before .before .before .before .shared-slice-known .given i .fits) _ _ _ _ _ _
-    (none-found (a .m) (a .t) (a .ws .now) (a .coin) (a .out .now) _ (e .ensures) zero-found)
-    (c .before .before .before .before .before .before .keep .ensures) (c .before .before .before .before .taken .ensures) (λ i. c .before .before .slice-known2 .given i .fits) (c .if2 .taken)
+    let e = c .before .before .before .before .before .before .before .before .before .refusal in
+    answers-none _ _ _ _ _ _ (c .no-bundle2 .ensures)
+    (give-12 (a .m) (a .t) (a .ws .now) (a .coin) (a .out .now) (lengths s) (low-words s)
+    (λ i. c .before .before .before .before .before .before .before .before .before .before .before .shared-slice-known .given i .fits) _ _ _ _ _ _
+    (none-found (a .m) (a .t) (a .ws .now) (a .coin) (a .out .now) _ (e .ensures) (c .before .before .before .before .before .before .before .before .if1 .left))
+    (c .before .before .before .before .before .before .before .keep .ensures) (c .before .before .before .before .before .taken .ensures) (λ i. c .before .before .before .slice-known2 .given i .fits) (c .before .if2 .taken))
 
 same-length-2 : tie.Need-same-length-2
 same-length-2 c = search needs
@@ -69,10 +76,9 @@ returns-3 c =
     let s = c .before .before .before .before .before .before .before .before .before .before .before in
     let a = s .args in
     let e = c .before .before .before .before .before .before .before .before .refusal in
-    let zero-found : e .result ≡ 0 = search needs in
     give-after (a .m) (a .t) (a .ws .now) (a .coin) (a .out .now) (lengths s) (low-words s)
     (λ i. c .before .before .before .before .before .before .before .before .before .before .shared-slice-known .given i .fits) _ _ _ _ _ _
-    (none-found (a .m) (a .t) (a .ws .now) (a .coin) (a .out .now) _ (e .ensures) zero-found)
+    (none-found (a .m) (a .t) (a .ws .now) (a .coin) (a .out .now) _ (e .ensures) (c .before .before .before .before .before .before .before .if1 .left))
     (c .before .before .before .before .before .before .keep .ensures) (c .before .before .before .before .taken .ensures) (λ i. c .before .before .slice-known2 .given i .fits) (c .if2 .left)
 
 pub give-spec : {M : Type 1} → statement M
@@ -80,9 +86,11 @@ give-spec =
     tie.close
     (tie.spec
     refusal-requires
+    no-bundle-requires
     returns
     keep-requires
     taken-requires
+    no-bundle-requires-2
     same-length
     returns-2
     same-length-2

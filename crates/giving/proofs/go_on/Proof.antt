@@ -1,5 +1,5 @@
 -- 12 where the pair is not above the last; else what was sent.
-use Rattle.giving.specs.Found.{moved-12, moved-sent}
+use Rattle.giving.specs.Found.{answers-none, moved-12, moved-sent}
 use borrow.Author.Needs.{needs}
 use Rattle.giving.proofs.go_on.Statement.{statement}
 use Rattle.giving.proofs.go_on.Tie as tie
@@ -13,9 +13,13 @@ step-of-requires c κs = search needs
 above-requires : tie.Need-above-requires
 above-requires c κs = search needs
 
+no-bundle-requires : tie.Need-no-bundle-requires
+no-bundle-requires c κs = search needs
+
 returns : tie.Need-returns
-returns c = let a = c .before .before .before .before .before .before .before .args in
-    moved-12 (a .m) (a .k) (a .x) (a .d) (a .out .now) _ _ _ (c .before .before .before .own-fields .ensures) (c .before .before .step-of .ensures) (c .before .above .ensures) (c .if1 .taken)
+returns c = let a = c .before .before .before .before .before .before .before .before .args in
+    answers-none _ _ _ _ _ _ (c .no-bundle .ensures)
+    (moved-12 (a .m) (a .k) (a .x) (a .d) (a .out .now) _ _ _ (c .before .before .before .before .own-fields .ensures) (c .before .before .before .step-of .ensures) (c .before .before .above .ensures) (c .before .if1 .taken))
 
 send-next-requires : tie.Need-send-next-requires
 send-next-requires c κs = search needs
@@ -37,6 +41,7 @@ go-on-spec =
     own-fields-requires
     step-of-requires
     above-requires
+    no-bundle-requires
     returns
     send-next-requires
     answer-requires

@@ -1,5 +1,5 @@
 -- Fewer than q are held, or the step ends.
-use Rattle.giving.specs.Found.{taken-kept, taken-ends}
+use Rattle.giving.specs.Found.{answers-none, taken-kept, taken-ends}
 use borrow.Author.Needs.{needs}
 use Rattle.giving.proofs.taken.Statement.{statement}
 use Rattle.giving.proofs.taken.Tie as tie
@@ -10,9 +10,13 @@ number-of-requires c κs = search needs
 quorum-requires : tie.Need-quorum-requires
 quorum-requires c κs = search needs
 
+no-bundle-requires : tie.Need-no-bundle-requires
+no-bundle-requires c κs = search needs
+
 returns : tie.Need-returns
-returns c = let a = c .before .before .before .before .before .args in
-    taken-kept (a .m) (a .k) (a .coin) (a .out .now) _ _ (c .before .before .number-of .ensures) (c .before .quorum .ensures) (search needs)
+returns c = let a = c .before .before .before .before .before .before .args in
+    answers-none _ _ _ _ _ _ (c .no-bundle .ensures)
+    (taken-kept (a .m) (a .k) (a .coin) (a .out .now) _ _ (c .before .before .before .number-of .ensures) (c .before .before .quorum .ensures) (search needs))
 
 end-step-requires : tie.Need-end-step-requires
 end-step-requires c κs = search needs
@@ -27,4 +31,4 @@ returns-2 c = let a = c .before .before .before .before .before .before .before 
 pub taken-spec : {M : Type 1} → statement M
 taken-spec =
     tie.close
-    (tie.spec number-of-requires quorum-requires returns end-step-requires same-length returns-2)
+    (tie.spec number-of-requires quorum-requires no-bundle-requires returns end-step-requires same-length returns-2)
