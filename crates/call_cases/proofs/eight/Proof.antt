@@ -2,10 +2,9 @@
 use lib.Seq.{getD-drop}
 use Rattle.laws.specs.Fill.{put}
 use native.Mathlib.Omega.{arith}
-use mathlib.Core.List.{append-nil}
 use mathlib.Core.Path.{_≡_, sym, _∙_}
 use Prim.Native.Nat.{_≤_, _<_, _-_}
-use mathlib.Core.List.{_++_}
+use mathlib.Core.List.{_++_, append-nil}
 use lib.ListN.{length, take, drop, replicate, length-drop}
 use borrow.Author.Needs.{needs}
 use Rattle.call_cases.proofs.eight.Statement.{statement}

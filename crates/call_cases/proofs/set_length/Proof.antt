@@ -22,7 +22,7 @@ same-length c = search needs
 
 returns-3 : tie.Need-returns-3
 returns-3 c =
-    short-set (c .before .before .args .lengths .now) (c .before .before .args .b) (c .before .before .args .l) (omega arith) (omega arith)
+    short-set (c .before .before .args .lengths .now) (c .before .before .args .b) (c .before .before .args .l) (omega arith) (omega arith) (search needs)
 
 pub set-length-spec : {M : Type 1} → statement M
 set-length-spec =

@@ -29,6 +29,9 @@ same-length-3 c = search needs
 same-length-4 : tie.Need-same-length-4
 same-length-4 c = search needs
 
+same-length-5 : tie.Need-same-length-5
+same-length-5 c = search needs
+
 returns : tie.Need-returns
 returns c = search needs
 
@@ -41,11 +44,11 @@ returns-2 c = search needs
 slice-write-line : tie.Need-slice-write-line
 slice-write-line c = search needs
 
-add-t22 : tie.Need-add-t22
-add-t22 c = search needs
+add-t25 : tie.Need-add-t25
+add-t25 c = search needs
 
-same-length-5 : tie.Need-same-length-5
-same-length-5 c = search needs
+same-length-6 : tie.Need-same-length-6
+same-length-6 c = search needs
 
 returns-3 : tie.Need-returns-3
 returns-3 c = search needs
@@ -62,10 +65,11 @@ step-spec =
     same-length-2
     same-length-3
     same-length-4
+    same-length-5
     returns
     stop-requires
     returns-2
     slice-write-line
-    add-t22
-    same-length-5
+    add-t25
+    same-length-6
     returns-3)

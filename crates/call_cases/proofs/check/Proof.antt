@@ -1,8 +1,9 @@
 -- The part lent is the words of the buffer up to its length: the law `lent`.
-use Rattle.call_cases.specs.Registers.{lent}
+use Rattle.call_cases.specs.Registers.{lent, check-of}
+use mathlib.Core.Path.{ap, _∙_}
 use borrow.Author.Needs.{needs}
-use Rattle.call_cases.proofs.checked.Statement.{statement}
-use Rattle.call_cases.proofs.checked.Tie as tie
+use Rattle.call_cases.proofs.check.Statement.{statement}
+use Rattle.call_cases.proofs.check.Tie as tie
 
 mul-n : tie.Need-mul-n
 mul-n c = search needs
@@ -15,6 +16,9 @@ mul-n-2 c = search needs
 
 shared-slice-read-n : tie.Need-shared-slice-read-n
 shared-slice-read-n c = search needs
+
+length-of-requires : tie.Need-length-of-requires
+length-of-requires c κs = search needs
 
 mul-at : tie.Need-mul-at
 mul-at c = search needs
@@ -42,17 +46,20 @@ check-requires c κs = search needs
 
 returns : tie.Need-returns
 returns c =
-    let a = c .before .before .before .before .before .before .args in
-    lent (a .modules .now) (a .buffers .now) (c .before .before .key .result) (a .m) (a .b) (a .l) (c .check .result) (c .before .before .key .ensures) (c .check .ensures)
+    let a = c .before .before .before .before .before .before .before .before .args in
+    let l = c .before .before .before .length-of in
+    lent (a .modules .now) (a .buffers .now) (c .before .before .key .result) (a .m) (a .b) (l .result) (c .check .result) (c .before .before .key .ensures) (c .check .ensures)
+    ∙ ap (check-of (a .modules .now) (a .buffers .now) (a .m) (a .b)) (l .ensures .1)
 
-pub checked-spec : {M : Type 1} → statement M
-checked-spec =
+pub check-spec : {M : Type 1} → statement M
+check-spec =
     tie.close
     (tie.spec
     mul-n
     add-n
     mul-n-2
     shared-slice-read-n
+    length-of-requires
     mul-at
     add-end
     key-requires
