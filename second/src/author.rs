@@ -40,6 +40,7 @@ impl Author {
     }
 
     fn carry_out(&mut self, command: &Command) -> Option<Report> {
+        assert!(self.machine.takes(command), "not for a script: {command:?}");
         let report = self.machine.carry_out(command);
         if let Some((script, output)) = &mut self.record {
             script.push_str(&command.line());

@@ -1,4 +1,4 @@
-//! Bundles for each rule, valid and with each single fault, as a script of checks.
+//! Checks: bundles for each rule, valid and with each single fault.
 
 use crate::author::Author;
 use crate::group::{backing, quorum, LAST_ROUND, MOST_CERTIFICATE, STATEMENT_WORDS};
@@ -461,12 +461,9 @@ impl Cases {
     }
 }
 
-/// The script of checks and what it prints.
-pub fn bundles() -> (String, String) {
-    let mut cases = Cases {
-        author: Author::recording(),
-        n: 0,
-    };
+/// Records the checks behind what an author has recorded.
+pub fn bundles(author: Author) -> Author {
+    let mut cases = Cases { author, n: 0 };
     for n in SIZES {
         cases.n = n;
         cases.modules();
@@ -474,5 +471,5 @@ pub fn bundles() -> (String, String) {
             cases.faults_of(name, &bundle);
         }
     }
-    cases.author.record.expect("it was recorded")
+    cases.author
 }

@@ -3,12 +3,12 @@
 
 use crate::author::Author;
 use crate::fit_cases::fit_cases;
-use crate::group::{quorum, BUNDLE_WORDS, LAST_ROUND, STATEMENT_WORDS};
+use crate::group::{quorum, BUNDLE_WORDS, LAST_ROUND, MOST_CERTIFICATE, STATEMENT_WORDS};
 use crate::random::one_list;
 use crate::samples::{
     both_values, bundle, init, module, none_votes, p, proposals, station, v, D, KEY, QUESTION, R,
 };
-use crate::script::{Command, Report};
+use crate::script::{Command, Report, LAST_STEP};
 use crate::sealed::{Module, MODULE_WORDS};
 use crate::station::StationWords;
 use crate::words::{Bundle, Flag, Kind, Statement, NONE};
@@ -415,12 +415,12 @@ fn voting_setups(n: u32, round: u32, others: &[u32]) -> Vec<Named> {
 impl Calls {
     /// Every stage at several n; coins, outputs, modules and earlier decisions around it.
     fn stages(&mut self) {
-        for n in [2, 3, 4, 5, 7, 31] {
+        for n in [2, 3, 4, 5, 6, 7, 31] {
             let all = setups(n).into_iter().enumerate();
             // at n 31 every third, since each is long
             for (_, (name, setup, number)) in all.filter(|(i, _)| n < 31 || i % 3 == 0) {
                 self.try_once(&name, &setup, number);
-                if n == 2 || n == 4 {
+                if [2, 4, 5, 7].contains(&n) {
                     self.around(&setup, number);
                 }
             }
@@ -459,9 +459,11 @@ impl Calls {
             (QUESTION, next - 1),
             (QUESTION, next),
             (QUESTION, next + 1),
-            (QUESTION - 1, 131_071),
+            (QUESTION - 1, LAST_STEP),
             (QUESTION + 1, 0),
         ] {
+            // behind the votes of the last round there is no step
+            let last = last.min(LAST_STEP);
             let mut at = setup.clone();
             at.module = module(setup.module.n, 2, Some((question, last)));
             let would_write = number == 20 || number == 21;
@@ -735,15 +737,88 @@ impl Calls {
         }
     }
 
+    /// 01's edges in a giving: q − 1 and q statements in a group and in a station, counts of 32 and
+    /// 33, n 1 and 32, 330 and 331 output words, a bundle of 0 words. The bundle given has two groups of q: at n 31
+    /// it is the longest there is.
+    fn edges(&mut self) {
+        for n in [2, 3, 4, 5, 6, 7, 31] {
+            let words = station(n, v(2, 2, NONE), &[], [&[], &[]]);
+            let groups = [
+                proposals(n, 2, 0, &[R, D], true),
+                proposals(n, 1, 0, &[D, R], false),
+            ];
+            let given = bundle(v(giver(n), 2, 0), &groups);
+            let number = if quorum(n) == 2 { 20 } else { 0 };
+            let setup = Setup::new(n, words, given.clone());
+            self.try_once(&format!("edges at n {n}"), &setup, number);
+            self.edge_certificates(&setup, &given);
+            self.edge_held(&setup);
+            for size in [1, 32] {
+                let mut other = setup.clone();
+                other.module.n = size;
+                other.station[0] = size;
+                self.give(&other, Some(2));
+            }
+            let mut other = setup.clone();
+            other.output = 330;
+            self.give(&other, Some(1));
+            other.output = 331;
+            other.given = Vec::new();
+            self.give(&other, Some(3));
+        }
+    }
+
+    /// A station with q − 1 statements, the giver's not among them, and with q.
+    fn edge_held(&mut self, setup: &Setup) {
+        let n = setup.module.n;
+        let q = quorum(n);
+        let others = |without: u32, size: usize| -> Vec<Statement> {
+            let stations = (1..=n).filter(|s| *s != 2 && *s != without);
+            stations.take(size).map(|s| v(s, 2, NONE)).collect()
+        };
+        for (held, expected) in [(others(giver(n), q - 2), 20), (others(0, q - 1), 2)] {
+            let mut other = setup.clone();
+            other.station = station(n, v(2, 2, NONE), &held, [&[], &[]]);
+            self.give(&other, Some(expected));
+        }
+    }
+
+    fn edge_certificates(&mut self, setup: &Setup, given: &Bundle) {
+        let all = &given.certificate;
+        let q = quorum(setup.module.n);
+        let mut tried = Vec::new();
+        for left_out in [0, q - 1, q, 2 * q - 1] {
+            let mut fewer = all.clone();
+            fewer.remove(left_out);
+            tried.push((fewer, 6));
+        }
+        for (size, number) in [(MOST_CERTIFICATE, 6), (MOST_CERTIFICATE + 1, 3)] {
+            let mut longer = all.clone();
+            longer.resize(size, all[0]);
+            if longer != *all {
+                tried.push((longer, number));
+            }
+        }
+        for (certificate, number) in tried {
+            let mut other = setup.clone();
+            other.given = Bundle {
+                main: given.main,
+                certificate,
+            }
+            .words();
+            self.give(&other, Some(number));
+        }
+    }
+
     /// Lists of calls at random sites, recorded.
     fn random_lists(&mut self) {
         let lists = [
             (2, 2, 60),
             (3, 4, 150),
             (4, 4, 200),
-            (5, 2, 200),
-            (6, 2, 220),
-            (7, 2, 220),
+            (5, 3, 200),
+            (6, 3, 220),
+            (7, 3, 220),
         ];
         for (n, count, turns) in lists {
             for seed in 0..count {
@@ -763,11 +838,9 @@ impl Calls {
     }
 }
 
-/// The script of calls and what it prints.
-pub fn calls() -> (String, String) {
-    let mut calls = Calls {
-        author: Author::recording(),
-    };
+/// Records the calls behind what an author has recorded.
+pub fn calls(author: Author) -> Author {
+    let mut calls = Calls { author };
     calls.making();
     calls.coding();
     calls.opening();
@@ -777,6 +850,7 @@ pub fn calls() -> (String, String) {
     calls.lowest_numbered();
     calls.order_of_tests();
     calls.closing();
+    calls.edges();
     calls.random_lists();
-    calls.author.record.expect("it was recorded")
+    calls.author
 }

@@ -3,6 +3,7 @@
 use std::fs;
 use std::path::Path;
 
+use crate::author::Author;
 use crate::bundle_cases::bundles;
 use crate::call_cases::calls;
 use crate::hmac::{bytes_of, hmac};
@@ -13,22 +14,25 @@ use crate::valley_cases::valleys;
 /// What the small host is run on in the gate: all three groups, and questions of each kind.
 const SMALL_HOST: &[u8] = b"a01mmm0m1m";
 
+/// The script of calls, and what it prints: the checks, then all other calls on the same registers.
+pub fn script() -> (String, String) {
+    let author = calls(bundles(Author::recording()));
+    author.record.expect("it was recorded")
+}
+
 /// Every file that is written, by its place below the directory, with what it holds.
 pub fn files() -> Vec<(&'static str, Vec<u8>)> {
-    let (bundle_script, bundle_results) = bundles();
-    let (call_script, call_results) = calls();
+    let (script, results) = script();
     let (valley_inputs, valley_outputs) = valleys();
     vec![
         ("crates/hash_vectors/stdout", hashes().into_bytes()),
-        ("crates/bundle_cases/stdin", bundle_script.into_bytes()),
-        ("crates/bundle_cases/stdout", bundle_results.into_bytes()),
-        ("cases/calls/stdin", call_script.into_bytes()),
-        ("cases/calls/stdout", call_results.into_bytes()),
         ("crates/small_host/stdin", SMALL_HOST.to_vec()),
         (
             "crates/small_host/stdout",
             small_host::run(SMALL_HOST).into_bytes(),
         ),
+        ("crates/call_cases/stdin", script.into_bytes()),
+        ("crates/call_cases/stdout", results.into_bytes()),
         ("cases/valley/stdin", valley_inputs),
         ("cases/valley/stdout", valley_outputs),
     ]

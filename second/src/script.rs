@@ -2,6 +2,7 @@
 //! described in docs/SCRIPT.md.
 
 use crate::check::check;
+use crate::group::LAST_ROUND;
 use crate::hmac::Key;
 use crate::sealed::{code_coin, code_plain, make, Module, MODULE_WORDS};
 use crate::station::{give, open, StationWords, STATION_WORDS};
@@ -11,6 +12,8 @@ pub const STATIONS: usize = 64;
 pub const BUFFERS: usize = 128;
 pub const BUFFER_WORDS: usize = 400;
 pub const MOST_TOKENS: usize = 80;
+/// The step of V of the last round.
+pub const LAST_STEP: u32 = 2 * LAST_ROUND + 1;
 
 /// A buffer register: all its words, and the length that is lent or given.
 #[derive(Clone)]
@@ -244,10 +247,36 @@ impl Default for Machine {
     }
 }
 
+/// Whether 13 words are those of a module: a last pair with a step that there is, or none.
+fn is_module(words: &[u32; MODULE_WORDS]) -> bool {
+    match words[10..] {
+        [0, question, step] => question == 0 && step == 0,
+        [1, _, step] => step <= LAST_STEP,
+        _ => false,
+    }
+}
+
+/// Whether the words of a stage and the closed word are those of a station.
+fn is_station(words: &StationWords) -> bool {
+    let is_stage = matches!(words[3..6], [0, 0, 0] | [1, _, 0] | [1, _, 1] | [2, _, 0]);
+    is_stage && words[6] <= 1
+}
+
 /// The registers that a call may change: module, station, lent buffer.
 type Touched = (Option<usize>, Option<usize>, Option<usize>);
 
 impl Machine {
+    /// Whether the module and the station that a call takes can be read from their registers.
+    pub fn takes(&self, command: &Command) -> bool {
+        match *command {
+            Command::Give(m, s, ..) => is_module(&self.modules[m]) && is_station(&self.stations[s]),
+            Command::Open(m, ..) | Command::Plain(m, _) | Command::Toss(m, ..) => {
+                is_module(&self.modules[m])
+            }
+            _ => true,
+        }
+    }
+
     /// Carries a command out. A call answers its report, a setting none.
     pub fn carry_out(&mut self, command: &Command) -> Option<Report> {
         let touched: Touched = match *command {
@@ -357,7 +386,8 @@ impl Machine {
 }
 
 /// Runs a script and answers what it prints. A line that starts with `#` prints nothing; at a
-/// malformed line the run prints `stop` and the line's number, and ends.
+/// malformed line, or a call whose module or station cannot be read, the run prints `stop` and the
+/// line's number, and ends.
 pub fn run(script: &str) -> String {
     let mut machine = Machine::default();
     let mut output = String::new();
@@ -366,7 +396,8 @@ pub fn run(script: &str) -> String {
         if line.starts_with('#') && line.ends_with('\n') {
             continue;
         }
-        let Some(command) = line.strip_suffix('\n').and_then(read_line) else {
+        let command = line.strip_suffix('\n').and_then(read_line);
+        let Some(command) = command.filter(|command| machine.takes(command)) else {
             output.push_str(&format!("stop {:x}\n", i + 1));
             break;
         };

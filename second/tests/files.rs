@@ -2,7 +2,7 @@
 
 use std::path::Path;
 
-use second::generate::files;
+use second::generate::{files, script};
 use second::script::{read_line, run};
 
 #[test]
@@ -87,20 +87,40 @@ fn scripts_are_as_described() {
     }
 }
 
-/// What the scripts print when they are run from their text alone.
+/// What the script prints when it is run from its text alone.
 #[test]
-fn scripts_print_what_was_recorded() {
-    let all = files();
-    let content = |place: &str| {
-        let file = all.iter().find(|file| file.0.ends_with(place)).unwrap();
-        String::from_utf8(file.1.clone()).unwrap()
-    };
-    for directory in ["bundle_cases", "calls"] {
-        let output = run(&content(&format!("{directory}/stdin")));
-        assert!(
-            output == content(&format!("{directory}/stdout")),
-            "{directory}"
-        );
+fn the_script_prints_what_was_recorded() {
+    let (script, results) = script();
+    assert!(run(&script) == results);
+}
+
+/// A call whose module or station has words that are none stops the run; other lines may set them.
+#[test]
+fn a_call_on_words_that_are_none_stops_the_run() {
+    let key = "0 0 0 0 0 0 0 0";
+    for last in ["2 0 0", "0 1 0", "0 0 1", "1 0 20000", "ffffffff 0 0"] {
+        for call in [
+            "plain 0 0",
+            "toss 0 0 0",
+            "open 0 0 0 0 0",
+            "give 0 0 0 0 1",
+        ] {
+            let script = format!("raw 0 {key} 2 1 {last}\ncheck 0 0\n{call}\n");
+            assert_eq!(run(&script), "3 0 m = s = w =\nstop 3\n", "{script}");
+        }
+    }
+    let no_stations = [
+        "3 0 1 0",
+        "3 0 0 1",
+        "3 1 0 2",
+        "3 2 0 1",
+        "3 3 0 0",
+        "6 2",
+        "6 ffffffff",
+    ];
+    for words in no_stations {
+        let script = format!("raw 0 {key} 2 1 1 0 1ffff\nstation 0 {words}\ngive 0 0 0 0 1\n");
+        assert_eq!(run(&script), "stop 3\n", "{script}");
     }
 }
 
