@@ -5,23 +5,39 @@ use std::collections::BTreeMap;
 use second::generate::script;
 use second::script::{read_line, Command, Machine, Report};
 
-/// Each call of the script, with n of its module before the call, and what it left.
-fn all_calls() -> Vec<(Command, u32, Report)> {
+/// A call of the script: n of its module before the call, how many words it is given to judge, and
+/// what it left.
+struct Call {
+    command: Command,
+    n: u32,
+    words: usize,
+    report: Report,
+}
+
+fn all_calls() -> Vec<Call> {
     let (script, _) = script();
     let mut machine = Machine::default();
     let mut calls = Vec::new();
     for line in script.lines().filter(|line| !line.starts_with('#')) {
         let command = read_line(line).expect("a command");
-        let n = match command {
-            Command::Make(_, _, n, _) => n,
-            Command::Check(m, _) | Command::Plain(m, _) | Command::Toss(m, ..) => {
-                machine.modules[m][8]
+        let size = |m: usize| machine.modules[m][8];
+        let length = |b: usize| machine.buffers[b].length;
+        let (n, words) = match command {
+            Command::Make(_, _, n, _) => (n, 0),
+            Command::Check(m, b) | Command::Plain(m, b) | Command::Toss(m, b, _) => {
+                (size(m), length(b))
             }
-            Command::Open(m, ..) | Command::Give(m, ..) => machine.modules[m][8],
-            _ => 0,
+            Command::Give(m, _, b, ..) => (size(m), length(b)),
+            Command::Open(m, ..) => (size(m), 0),
+            _ => (0, 0),
         };
         if let Some(report) = machine.carry_out(&command) {
-            calls.push((command, n, report));
+            calls.push(Call {
+                command,
+                n,
+                words,
+                report,
+            });
         }
     }
     calls
@@ -33,11 +49,11 @@ fn keyword(command: &Command) -> String {
 }
 
 /// How often each call returns each number.
-fn returned(calls: &[(Command, u32, Report)]) -> BTreeMap<String, BTreeMap<u32, usize>> {
+fn returned(calls: &[Call]) -> BTreeMap<String, BTreeMap<u32, usize>> {
     let mut counts: BTreeMap<String, BTreeMap<u32, usize>> = BTreeMap::new();
-    for (command, _, report) in calls {
-        let of_call = counts.entry(keyword(command)).or_default();
-        *of_call.entry(report.number).or_default() += 1;
+    for call in calls {
+        let of_call = counts.entry(keyword(&call.command)).or_default();
+        *of_call.entry(call.report.number).or_default() += 1;
     }
     counts
 }
@@ -75,9 +91,9 @@ fn every_size_is_called() {
     let calls = all_calls();
     let mut sizes: BTreeMap<(String, u32), usize> = BTreeMap::new();
     let mut all: BTreeMap<u32, usize> = BTreeMap::new();
-    for (command, n, _) in &calls {
-        *sizes.entry((keyword(command), *n)).or_default() += 1;
-        *all.entry(*n).or_default() += 1;
+    for call in &calls {
+        *sizes.entry((keyword(&call.command), call.n)).or_default() += 1;
+        *all.entry(call.n).or_default() += 1;
     }
     let gives: Vec<_> = sizes
         .iter()
@@ -94,32 +110,33 @@ fn every_size_is_called() {
     }
 }
 
-/// 330 and 331 words lent, bundles of 0 and 331 words, count 33, the closing with and without a
-/// decision.
+/// 330 and 331 words lent; bundles of 0 words, of count 32 and of count 33; the closing with and
+/// without a decision; the shortest and the longest bundle written.
 #[test]
 fn every_edge_is_called() {
     let calls = all_calls();
-    let has = |wanted: &dyn Fn(&Command, &Report) -> bool| {
-        calls
-            .iter()
-            .any(|(command, _, report)| wanted(command, report))
-    };
-    let is_open = |command: &Command| matches!(command, Command::Open(..));
-    let is_give = |command: &Command| matches!(command, Command::Give(..));
-    for (lent, refused) in [(330, true), (331, false)] {
-        for call in [&is_open as &dyn Fn(&Command) -> bool, &is_give] {
-            assert!(has(&|command, report| {
-                call(command) && report.lent.0.len() == lent && (report.number == 1) == refused
-            }));
+    let has = |wanted: &dyn Fn(&Call) -> bool| calls.iter().any(wanted);
+    for keyword_wanted in ["open", "give"] {
+        for (lent, refused) in [(330, true), (331, false)] {
+            assert!(has(&|call| keyword(&call.command) == keyword_wanted
+                && call.report.lent.0.len() == lent
+                && (call.report.number == 1) == refused));
+        }
+    }
+    for keyword_wanted in ["check", "give"] {
+        for (words, malformed) in [(0, true), (331, false), (341, true)] {
+            assert!(has(&|call| keyword(&call.command) == keyword_wanted
+                && call.words == words
+                && (call.report.number == 3) == malformed));
         }
     }
     for decision in [0, 1, 2] {
-        assert!(has(&|_, report| {
-            report.number == 22 && report.station.1[7] == decision
-        }));
+        assert!(has(
+            &|call| call.report.number == 22 && call.report.station.1[7] == decision
+        ));
     }
     for count in [11, 331] {
-        assert!(has(&|_, report| report.count == count));
+        assert!(has(&|call| call.report.count == count));
     }
 }
 
@@ -128,7 +145,10 @@ fn every_edge_is_called() {
 #[test]
 fn refusals_change_nothing() {
     let same = |pair: &(Vec<u32>, Vec<u32>)| pair.0 == pair.1;
-    for (command, _, report) in all_calls() {
+    for Call {
+        command, report, ..
+    } in all_calls()
+    {
         if !(1..=12).contains(&report.number) {
             continue;
         }
