@@ -75,7 +75,7 @@ fn a_malformed_line_stops_the_run() {
 #[test]
 fn scripts_are_as_described() {
     for (place, content) in files() {
-        if !place.ends_with("stdin") || place.contains("valley") {
+        if place != "crates/call_cases/stdin" {
             continue;
         }
         let script = String::from_utf8(content).unwrap();
