@@ -26,7 +26,7 @@ use Rattle.station.specs.Answers.{Answers}
 use Rattle.station.specs.FitSane.{Lengths}
 use Rattle.station.specs.Views.{Accepted, accepted, after}
 use Rattle.refusal.specs.Refusal.{first-refusal, first-refusal-by-length}
-use Rattle.keeping.specs.Back.{Low}
+use Rattle.compression.specs.Shape.{Below}
 use Rattle.keeping.specs.One.{LowWords}
 use Rattle.keeping.specs.Kept.{kept-words}
 use Rattle.keeping.specs.Law.{keeps-state}
@@ -75,9 +75,9 @@ module _ (m : Module) (t : Station) (ws : List ℕ) (coin : ℕ) (out : List ℕ
       go false false true e = never (eqb (pick (ltb (k .decision) none || eqb d none) sent sent-decided) not-above) (not-12 (ltb (k .decision) none || eqb d none)) (eq-eqb _ _ e)
       go false false false e = refl
 
-  module _ (L : Lengths t) (A : LowWords t) (low : Low ws) (number count : ℕ) (u kk : Station) (after-m : Module) (xs : List ℕ)
+  module _ (L : Lengths t) (A : LowWords t) (low : Below ws) (number count : ℕ) (u kk : Station) (after-m : Module) (xs : List ℕ)
       (none-failed : first-failed (give-tests hmac-code m t ws coin out) ≡ 0) (ek : kk ≡ kept-words t ws)
-      (a : Answers (after-words m kk coin out) number count u after-m xs) (low-xs : Low xs) where
+      (a : Answers (after-words m kk coin out) number count u after-m xs) (low-xs : Below xs) where
     acc : Accepted hmac-code m t ws coin out
     acc = accepted hmac-code m t ws coin out L none-failed
 
@@ -93,7 +93,7 @@ module _ (m : Module) (t : Station) (ws : List ℕ) (coin : ℕ) (out : List ℕ
 
     whole : giving hmac-code m t ws coin out ≡ or-as-was m t out (after-words m k coin out)
     unfolding k
-    whole = given-is m t ws coin out L acc none-failed (subst Low (b .lent-is) low-xs)
+    whole = given-is m t ws coin out L acc none-failed (subst Below (b .lent-is) low-xs)
 
     pub give-12 : number ≡ not-above → Answers (giving hmac-code m t ws coin out) not-above 0 t m xs
     give-12 e =

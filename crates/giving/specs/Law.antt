@@ -33,7 +33,7 @@ use Rattle.station.specs.Slots.{ones-set, held-back}
 use Rattle.station.specs.Sane.{Kept, InRounds}
 use Rattle.station.specs.End.{Full, Ready, kept-equal, kept-none, both-values}
 use Rattle.writer.specs.Bundle.{Certificate, all-held, some-held, kept-alone}
-use Rattle.keeping.specs.Back.{Low}
+use Rattle.compression.specs.Shape.{Below}
 use Rattle.sending.specs.Sent.{sent-count, sent-lent, sent-bundle, sent-station, sent-after}
 use Rattle.sending.specs.Sends.{own-fields, own-statement, lent-is, count-is, station-is, after-is}
 use Rattle.ending.specs.declared.Source.{Source}
@@ -216,7 +216,7 @@ module _ (m : Module) (K : State) (top : m .n ≤ 31) (F : Full (m .n) K) (d : �
         lent = over (bundle-of s (x .first ++ x .second)) out;
       }
 
-  pub sending-is : Low (sending-words m k X f d out .lent) → (supplies-first (x .stage) s ≡ true → length (x .first) ≡ quorum (m .n))
+  pub sending-is : Below (sending-words m k X f d out .lent) → (supplies-first (x .stage) s ≡ true → length (x .first) ≡ quorum (m .n))
       → (supplies-second (x .stage) s ≡ true → length (x .first) ≡ quorum (m .n)) → sending-words m k X f d out ≡ by-definition
   unfolding sending-words W.station-of
   sending-is low one two =
@@ -233,7 +233,7 @@ module _ (m : Module) (K : State) (top : m .n ≤ 31) (F : Full (m .n) K) (d : �
       ≡ W.station-of (m .n) (m .number) (began (K .question) (x .stage) d s (x .first))
       = (λ i. sent-station m (K .question) (es i) d (sent-bundle m (K .question) (own-fields m (ek i) (ev i) (ef i) (er i)) (slots-of (K .held) 1 sites) (C .set i) (group-by (X .second) (k .groups)) (C .size i) out))
       ∙ station-is m (K .question) (x .kind) (x .value) (x .flag) (x .round) (x .stage) d (C .held) (C .more) (slots-of (K .held) 1 sites) (group-by (X .second) (k .groups)) (C .made) (x .first) (x .second) (C .same) out room p
-      (subst Low lent0 low) one two in
+      (subst Below lent0 low) one two in
       let after1 : sent-after m (K .question) f ≡ advanced m (K .question) (step s)
       = (λ i. sent-after m (K .question) (own-fields m (ek i) (ev i) (ef i) (er i)))
       ∙ after-is m (K .question) (x .kind) (x .value) (x .flag) (x .round) (x .stage) d (C .held) (C .more) (slots-of (K .held) 1 sites) (group-by (X .second) (k .groups)) (C .made) (x .first) (x .second) (C .same) out room p in

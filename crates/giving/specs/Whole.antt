@@ -38,7 +38,7 @@ use Rattle.station.specs.End.{Full, Ready}
 use Rattle.station.specs.Views.{Accepted, after, decision-then, sent-statement, sane-before, full-after}
 use Rattle.station.specs.Fits.{next-ready, sent-proper}
 use Rattle.format.specs.Codes.{hmac-eight}
-use Rattle.keeping.specs.Back.{Low}
+use Rattle.compression.specs.Shape.{Below}
 use Rattle.keeping.specs.One.{LowWords}
 use Rattle.keeping.specs.Kept.{kept-words}
 use Rattle.keeping.specs.Law.{keeps-state}
@@ -84,7 +84,7 @@ module _ (m : Module) (t : Station) (ws : List ℕ) (coin : ℕ) (out : List ℕ
 
   -- the step goes on
   goes-on : length (K .held) ≡ quorum (m .n) → closes (t .stage) ≡ false → (d : ℕ) → d ≡ decision-then hmac-code m t ws coin out
-      → Low (moving m k (next-by (m .n) (K .stage) (set-of (K .held)) (slots-of (K .held) 1 sites) coin) d out .lent)
+      → Below (moving m k (next-by (m .n) (K .stage) (set-of (K .held)) (slots-of (K .held) 1 sites) coin) d out .lent)
       → returned m t out (moved (hmac-code (m .key)) (m .n) (m .number) (last-for m (t .identity .question)) K (follows (m .n) (K .stage) K coin) d)
       ≡ or-as-was m t out (moving m k (next-by (m .n) (K .stage) (set-of (K .held)) (slots-of (K .held) 1 sites) coin) d out)
   unfolding returned moving state-of W.station-of step pick sending-words answer
@@ -122,7 +122,7 @@ module _ (m : Module) (t : Station) (ws : List ℕ) (coin : ℕ) (out : List ℕ
       sent-all : Outcome
       sent-all = sends (pick (ltb (t .decision) none || eqb d none) sent sent-decided) s (x .first ++ x .second) (began (t .identity .question) (x .stage) d s (x .first))
 
-      go : (a : Bool) → Low (pick a (sending-words m k X (own-fields m (X .kind) (X .value) (X .flag) (X .round)) d out) (with-no-bundle not-above k m out) .lent)
+      go : (a : Bool) → Below (pick a (sending-words m k X (own-fields m (X .kind) (X .value) (X .flag) (X .round)) d out) (with-no-bundle not-above k m out) .lent)
           → returned m t out (pick a sent-all (refused not-above))
           ≡ or-as-was m t out (pick a (sending-words m k X (own-fields m (X .kind) (X .value) (X .flag) (X .round)) d out) (with-no-bundle not-above k m out))
       go true low =
@@ -133,7 +133,7 @@ module _ (m : Module) (t : Station) (ws : List ℕ) (coin : ℕ) (out : List ℕ
       go false low = refl
 
   -- the step has ended
-  ends : length (K .held) ≡ quorum (m .n) → Low (ending-words m k coin out .lent)
+  ends : length (K .held) ≡ quorum (m .n) → Below (ending-words m k coin out .lent)
       → returned m t out (ended (hmac-code (m .key)) (m .n) (m .number) (last-for m (t .identity .question)) K coin) ≡ or-as-was m t out (ending-words m k coin out)
   unfolding returned ended ending-words shut-words state-of W.station-of pick set-of slots-of slot-of all-written
   ends size low = go (closes (t .stage)) refl low
@@ -145,7 +145,7 @@ module _ (m : Module) (t : Station) (ws : List ℕ) (coin : ℕ) (out : List ℕ
       same-d = ap (decision-at (t .stage) (t .decision)) back
 
       go : (b : Bool) → closes (t .stage) ≡ b
-          → Low (pick b (with-no-bundle closed-now (shut-words k (decision-at (t .stage) (t .decision) (held-by k))) m out)
+          → Below (pick b (with-no-bundle closed-now (shut-words k (decision-at (t .stage) (t .decision) (held-by k))) m out)
           (moving m k (next-by (m .n) (t .stage) (set-of (K .held)) (slots-of (K .held) 1 sites) coin) (decision-at (t .stage) (t .decision) (held-by k)) out) .lent)
           → returned m t out (pick b (keeps closed-now (shut (hmac-code (m .key)) (m .n) (m .number) (last-for m (t .identity .question)) K d))
           (moved (hmac-code (m .key)) (m .n) (m .number) (last-for m (t .identity .question)) K (follows (m .n) (t .stage) K coin) d))
@@ -153,24 +153,24 @@ module _ (m : Module) (t : Station) (ws : List ℕ) (coin : ℕ) (out : List ℕ
           (moving m k (next-by (m .n) (t .stage) (set-of (K .held)) (slots-of (K .held) 1 sites) coin) (decision-at (t .stage) (t .decision) (held-by k)) out))
       go true e low = ap (λ (z : ℕ). with-no-bundle closed-now (shut-words k z) m out) (sym same-d)
       go false e low =
-          subst (λ (z : ℕ). Low (moving m k (next-by (m .n) (t .stage) (set-of (K .held)) (slots-of (K .held) 1 sites) coin) z out .lent)
+          subst (λ (z : ℕ). Below (moving m k (next-by (m .n) (t .stage) (set-of (K .held)) (slots-of (K .held) 1 sites) coin) z out .lent)
           → returned m t out (moved (hmac-code (m .key)) (m .n) (m .number) (last-for m (t .identity .question)) K (follows (m .n) (t .stage) K coin) d)
           ≡ or-as-was m t out (moving m k (next-by (m .n) (t .stage) (set-of (K .held)) (slots-of (K .held) 1 sites) coin) z out)) (sym same-d)
           (goes-on size e d refl) low
 
-  pub given-is : first-failed (give-tests hmac-code m t ws coin out) ≡ 0 → Low (after-words m k coin out .lent)
+  pub given-is : first-failed (give-tests hmac-code m t ws coin out) ≡ 0 → Below (after-words m k coin out .lent)
       → giving hmac-code m t ws coin out ≡ or-as-was m t out (after-words m k coin out)
   unfolding giving taken after-words returned state-of W.station-of pick
   given-is z low =
       ap (λ (b : Bool). returned m t out (pick b (taken (hmac-code (m .key)) (m .n) (m .number) (last-for m (t .identity .question)) (state-of t) (main-of ws) (certificate-of ws) coin)
       (refused (first-failed (give-tests hmac-code m t ws coin out))))) (eq-eqb _ 0 z)
-      ∙ go (ltb (length (K .held)) (quorum (m .n))) refl (subst (λ (c : ℕ). Low (pick (ltb c (quorum (m .n))) (with-no-bundle kept k m out) (ending-words m k coin out) .lent)) number low)
+      ∙ go (ltb (length (K .held)) (quorum (m .n))) refl (subst (λ (c : ℕ). Below (pick (ltb c (quorum (m .n))) (with-no-bundle kept k m out) (ending-words m k coin out) .lent)) number low)
       ∙ ap (λ (c : ℕ). or-as-was m t out (pick (ltb c (quorum (m .n))) (with-no-bundle kept k m out) (ending-words m k coin out))) (sym number)
     where
       number : ones (set-of (K .held)) ≡ length (K .held)
       number = ones-set (K .held) (G .rising)
 
-      go : (b : Bool) → ltb (length (K .held)) (quorum (m .n)) ≡ b → Low (pick b (with-no-bundle kept k m out) (ending-words m k coin out) .lent)
+      go : (b : Bool) → ltb (length (K .held)) (quorum (m .n)) ≡ b → Below (pick b (with-no-bundle kept k m out) (ending-words m k coin out) .lent)
           → returned m t out (pick b (keeps kept K) (ended (hmac-code (m .key)) (m .n) (m .number) (last-for m (t .identity .question)) K coin))
           ≡ or-as-was m t out (pick b (with-no-bundle kept k m out) (ending-words m k coin out))
       go true e low = refl

@@ -12,6 +12,7 @@ use borrow.Author.Tests.{eqb-true, eqb-false}
 use Rattle.laws.specs.Pick.{pick}
 use Rattle.laws.specs.Bools.{both}
 use Rattle.laws.specs.Sets.{bit}
+use Rattle.compression.specs.Shape.{Below}
 use Rattle.format.specs.Words.{fields-of, formed, station-of}
 use Rattle.format.specs.Statement.{Statement, statement, statements, word-0, written}
 use Rattle.format.specs.Bundle.{all-formed}
@@ -20,12 +21,8 @@ use Rattle.certificate.specs.Parts.{parts-length}
 use Rattle.station.specs.Words.{held-in, set-of, slot-of, slots-of, all-written, group-words, sites}
 use Rattle.station.specs.Fit.{zeros, slot-fits, slots-fit}
 
--- each word is a word of 32 bits
-abbrev pub Low : List ℕ → Type 0
-Low ws = (i : ℕ) → getD ws i 0 < 2 ^ 32
-
 -- ---- a statement, and a list of them
-pub written-back : (n : ℕ) (ws : List ℕ) (at : ℕ) → Low ws → at + 10 ≤ length ws → formed n (fields-of (getD ws at 0)) ≡ true
+pub written-back : (n : ℕ) (ws : List ℕ) (at : ℕ) → Below ws → at + 10 ≤ length ws → formed n (fields-of (getD ws at 0)) ≡ true
     → written (statement ws at) ≡ take 10 (drop at ws)
 written-back n ws at low room f =
     let w : word-0 (statement ws at) ≡ getD ws at 0 = ap (λ (l : List ℕ). getD l 0 0) (covered-read n ws at (low at) f) in
@@ -36,7 +33,7 @@ written-back n ws at low room f =
     = drop-cons ws (at + 1) 0 (omega arith) ∙ ap (λ (k : ℕ). getD ws (at + 1) 0 ∷ drop k ws) g in
     ap (λ (z : ℕ). z ∷ getD ws (at + 1) 0 ∷ take 8 (drop (at + 2) ws)) w ∙ sym (ap (take 10) (one ∙ ap (λ (l : List ℕ). getD ws at 0 ∷ l) two))
 
-pub all-back : (n : ℕ) (ws : List ℕ) → Low ws → (k at : ℕ) → at + k * 10 ≤ length ws → all-formed n ws at k ≡ true
+pub all-back : (n : ℕ) (ws : List ℕ) → Below ws → (k at : ℕ) → at + k * 10 ≤ length ws → all-formed n ws at k ≡ true
     → all-written (statements ws at k) ≡ take (k * 10) (drop at ws)
 unfolding all-formed statements all-written
 all-back n ws low zero at room h = refl
@@ -58,7 +55,7 @@ zeros-back ws (suc k) at room h =
     ap (take (suc k)) (drop-cons ws at 0 (omega arith)) ∙ (λ i. z i ∷ more i)
 
 -- a group's array: k statements, and zeros behind them
-pub group-back : (n : ℕ) (ws : List ℕ) (k : ℕ) → Low ws → length ws ≡ 160 → k ≤ 16 → all-formed n ws 0 k ≡ true → zeros ws (k * 10) (160 - k * 10) ≡ true
+pub group-back : (n : ℕ) (ws : List ℕ) (k : ℕ) → Below ws → length ws ≡ 160 → k ≤ 16 → all-formed n ws 0 k ≡ true → zeros ws (k * 10) (160 - k * 10) ≡ true
     → ws ≡ group-words (statements ws 0 k)
 group-back n ws k low long few f z =
     let front : all-written (statements ws 0 k) ≡ take (k * 10) ws = all-back n ws low k 0 (omega arith) f in
@@ -126,7 +123,7 @@ module _ (n question st set : ℕ) (slots : List ℕ) where
       go false e f ih = ih (omega (arith, eqb-false j i e))
 
   -- a slot's ten words, by its bit
-  pub slot-words : (i : ℕ) → Low slots → length slots ≡ 310 → slots-fit n question st set slots 0 sites ≡ true → i < sites
+  pub slot-words : (i : ℕ) → Below slots → length slots ≡ 310 → slots-fit n question st set slots 0 sites ≡ true → i < sites
       → take 10 (drop (i * 10) slots) ≡ pick (bit set i) (written (statement slots (i * 10))) (replicate 10 0)
   unfolding pick
   slot-words i low long h few = go (bit set i) (fit-at sites 0 i h (omega arith) (omega arith))

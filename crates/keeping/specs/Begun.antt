@@ -31,7 +31,7 @@ use Rattle.station.specs.ReadBack.{Proper}
 use Rattle.station.specs.Bundles.{main-is, certificate-is, bundle-there}
 use Rattle.station.specs.Fit.{slots-fit, zeros, group-fits}
 use Rattle.station.specs.FitSane.{Lengths}
-use Rattle.keeping.specs.Back.{Low}
+use Rattle.compression.specs.Shape.{Below}
 use Rattle.keeping.specs.One.{LowWords, Fit}
 use Rattle.keeping.specs.Kept.{kept-words}
 use Rattle.keeping.specs.Law.{kept-is}
@@ -61,7 +61,7 @@ zero-at zero (suc i) = refl
 zero-at (suc k) zero = refl
 zero-at (suc k) (suc i) = zero-at k i
 
-zeros-low : (k : ℕ) → Low (replicate k 0)
+zeros-low : (k : ℕ) → Below (replicate k 0)
 zeros-low k i = omega (arith, zero-at k i)
 
 zeros-there : (m k at : ℕ) → zeros (replicate m 0) at k ≡ true
@@ -156,7 +156,7 @@ module _ (n number question : ℕ) (g : Stage) (d : ℕ) where
       }
 
   pub begun : (s : Statement) (c e : List Statement) → n ≤ 31 → Proper n s → All (Proper n) (c ++ e) → length (c ++ e) ≤ most-statements
-      → Low (bundle-of s (c ++ e)) → (supplies-first g s ≡ true → length c ≡ quorum n) → (supplies-second g s ≡ true → length c ≡ quorum n)
+      → Below (bundle-of s (c ++ e)) → (supplies-first g s ≡ true → length c ≡ quorum n) → (supplies-second g s ≡ true → length c ≡ quorum n)
       → kept-words (blank n number question g d) (bundle-of s (c ++ e)) ≡ W.station-of n number (began question g d s c)
   unfolding bundle-of some
   begun s c e top p a few low one two =

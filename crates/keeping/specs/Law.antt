@@ -26,12 +26,13 @@ use Rattle.station.specs.Words as W
 use Rattle.station.specs.Slots.{bit-set}
 use Rattle.station.specs.FitSane.{Lengths}
 use Rattle.station.specs.Views.{Accepted}
-use Rattle.keeping.specs.Back.{Low, written-back, all-slots}
+use Rattle.compression.specs.Shape.{Below}
+use Rattle.keeping.specs.Back.{written-back, all-slots}
 use Rattle.keeping.specs.One.{LowWords, Fit, fit-out, rising, set-same, slot-same, first-same, second-same}
 use Rattle.keeping.specs.Kept.{with-station, with-slot, group-from, replacing, held-with, groups-with, kept-words}
 use Rattle.keeping.specs.Parts.{set-insert, slot-insert, put-slot, supplier-first, supplier-second, group-kept}
 
-module _ (n number : ℕ) (t : Station) (ws : List ℕ) (top : n ≤ 31) (L : Lengths t) (A : LowWords t) (low : Low ws) (F : Fit n number t) (B : Bundle n ws)
+module _ (n number : ℕ) (t : Station) (ws : List ℕ) (top : n ≤ 31) (L : Lengths t) (A : LowWords t) (low : Below ws) (F : Fit n number t) (B : Bundle n ws)
     (new : held-of (main-of ws .station) (held-by t) ≡ false) where
   formed-all : (formed n (fields-of (getD ws 1 0)) ≡ true) × (all-formed n ws 11 (count-in ws) ≡ true)
   unfolding all-formed
@@ -124,7 +125,7 @@ module _ (n number : ℕ) (t : Station) (ws : List ℕ) (top : n ≤ 31) (L : Le
       }
 
 -- under the tests of giving
-pub keeps-state : (mac : List ℕ → List ℕ → List ℕ) (m : Module) (t : Station) (ws : List ℕ) (coin : ℕ) (out : List ℕ) → Lengths t → LowWords t → Low ws
+pub keeps-state : (mac : List ℕ → List ℕ → List ℕ) (m : Module) (t : Station) (ws : List ℕ) (coin : ℕ) (out : List ℕ) → Lengths t → LowWords t → Below ws
     → Accepted mac m t ws coin out → kept-words t ws ≡ W.station-of (m .n) (m .number) (keeping (m .n) (state-of t) (main-of ws) (certificate-of ws))
 unfolding state-of
 keeps-state mac m t ws coin out L A low a =

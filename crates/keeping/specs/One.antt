@@ -28,13 +28,14 @@ use Rattle.station.specs.Fit.{slots-fit, zeros, stage-fits, group-fits, held-fi
 use Rattle.station.specs.Slots.{all-two, bit-set, slot-held}
 use Rattle.station.specs.Sane.{At, find, no-slot}
 use Rattle.station.specs.FitSane.{Lengths, read-slots, bit-held, first-size, second-size}
-use Rattle.keeping.specs.Back.{Low, group-back, set-back, slot-words, all-slots}
+use Rattle.compression.specs.Shape.{Below}
+use Rattle.keeping.specs.Back.{group-back, set-back, slot-words, all-slots}
 
 -- the station's arrays are of words of 32 bits
 pub record LowWords (t : Station) : Type 0 where
-  pub slots : Low (t .held .slots)
-  pub first : Low (t .groups .first)
-  pub second : Low (t .groups .second)
+  pub slots : Below (t .held .slots)
+  pub first : Below (t .groups .first)
+  pub second : Below (t .groups .second)
 
 -- what fits says of an open station's arrays
 pub record Fit (n number : ℕ) (t : Station) : Type 0 where
@@ -107,7 +108,7 @@ module _ (n number : ℕ) (t : Station) (L : Lengths t) (A : LowWords t) (F : Fi
   pub slots-same : slots-of (held-by t) 1 sites ≡ t .held .slots
   slots-same = all-slots (held-by t) (t .held .slots) (L .slots) slot-same
 
-  group-same : (g : Group) (ws : List ℕ) → Low ws → length ws ≡ 160 → g .size ≤ 16 → group-fits n (t .identity .question) g ws ≡ true
+  group-same : (g : Group) (ws : List ℕ) → Below ws → length ws ≡ 160 → g .size ≤ 16 → group-fits n (t .identity .question) g ws ≡ true
       → ws ≡ group-words (statements ws 0 (g .size))
   group-same g ws low long few h =
       let c = statements ws 0 (g .size) in

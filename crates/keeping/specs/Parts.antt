@@ -19,7 +19,8 @@ use Rattle.station.specs.declared.Stage.{Stage}
 use Rattle.station.specs.declared.Stage.the-variants.{Gathering, Proposing, Voting}
 use Rattle.station.specs.Machine.{insert, held-of, supplies-first, supplies-second}
 use Rattle.station.specs.Words.{set-of, slot-of, all-written, group-words}
-use Rattle.keeping.specs.Back.{Low, all-back}
+use Rattle.compression.specs.Shape.{Below}
+use Rattle.keeping.specs.Back.{all-back}
 use Rattle.keeping.specs.Kept.{words-kept, group-from, supplier}
 
 -- ---- the set
@@ -143,7 +144,7 @@ least-room a b l = go (ltb a b) refl
     go false e = omega (arith, ltb-false a b e)
 
 -- the words kept of a bundle with c certificate statements are those of the first q of them
-pub group-kept : (n q c : ℕ) (ws : List ℕ) → Low ws → q ≤ 16 → length ws ≡ 11 + c * 10 → all-formed n ws 11 c ≡ true
+pub group-kept : (n q c : ℕ) (ws : List ℕ) → Below ws → q ≤ 16 → length ws ≡ 11 + c * 10 → all-formed n ws 11 c ≡ true
     → group-from q ws ≡ group-words (take q (statements ws 11 c))
 unfolding group-from words-kept
 group-kept n q c ws low few long f =

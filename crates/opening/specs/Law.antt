@@ -23,7 +23,7 @@ use Rattle.station.specs.ReadBack.{Proper}
 use Rattle.station.specs.Decision.{opens, opened-with}
 use Rattle.station.specs.Answers.{Answers}
 use Rattle.writer.specs.Bundle.{Certificate}
-use Rattle.keeping.specs.Back.{Low}
+use Rattle.compression.specs.Shape.{Below}
 use Rattle.sending.specs.Sent.{sent-count, sent-lent, sent-bundle, sent-station, sent-after}
 use Rattle.sending.specs.Sends.{own-fields, own-statement, lent-is, count-is, station-is, after-is}
 use Rattle.opening.specs.Opens.{open-refusal, Passed, passed}
@@ -39,7 +39,7 @@ module _ (m : Module) (question proposal : ℕ) (out slots group : List ℕ) whe
       → f ≡ own-fields m kind-INIT proposal D-GET 0
       → (count ≡ sent-count 0 0 out) × (t ≡ sent-station m question Gathering 2 (sent-bundle m question f slots 0 group 0 out)) × (after ≡ sent-after m question f)
       × (xs ≡ sent-lent m question f slots 0 group 0 out)
-      → Low xs → Answers (opening hmac-code m question proposal out) sent count t after xs
+      → Below xs → Answers (opening hmac-code m question proposal out) sent count t after xs
   unfolding Rattle.station.specs.Words.set-of step step-of Rattle.laws.specs.Pick.pick
   opens-answers k count t after xs f e z ef s low =
       let P : Passed m question proposal out = passed m question proposal out (sym e ∙ z) in
@@ -48,7 +48,7 @@ module _ (m : Module) (question proposal : ℕ) (out slots group : List ℕ) whe
       let p : Proper (m .n) (own-statement m question kind-INIT proposal D-GET 0) = own-proper hmac-code hmac-eight m question kind-INIT proposal D-GET 0 R (init refl refl (ltb-true _ _ (P .bit)) refl) in
       let C = no-certificate (m .n) slots group (R .at-most-31) in
       let x : xs ≡ sent-lent m question (own-fields m kind-INIT proposal D-GET 0) slots 0 group 0 out = rw (← ef) (s .3) in
-      let lo : Low (sent-lent m question (own-fields m kind-INIT proposal D-GET 0) slots 0 group 0 out) = rw (← x) low in
+      let lo : Below (sent-lent m question (own-fields m kind-INIT proposal D-GET 0) slots 0 group 0 out) = rw (← x) low in
       record {
         number-is = ap (λ (y : Returned). y .number) (sym r);
         count-is = s .0 ∙ count-is m question kind-INIT proposal D-GET 0 Gathering none [] [] slots group C [] [] refl out (P .room) p ∙ ap (λ (y : Returned). y .count) (sym r);

@@ -24,12 +24,12 @@ use Rattle.station.specs.Bundles.{ws-length}
 use Rattle.station.specs.Written.{all-append}
 use Rattle.writer.specs.Written.{lent-after, count-after}
 use Rattle.writer.specs.Bundle.{Certificate, lent-bundle, count-bundle}
-use Rattle.keeping.specs.Back.{Low}
+use Rattle.compression.specs.Shape.{Below}
 use Rattle.keeping.specs.Kept.{kept-words}
 use Rattle.keeping.specs.Begun.{blank, begun}
 use Rattle.sending.specs.Sent.{sent-count, sent-lent, sent-bundle, sent-station, sent-after}
 
-low-front : (ws r : List ℕ) → Low (ws ++ r) → Low ws
+low-front : (ws r : List ℕ) → Below (ws ++ r) → Below ws
 low-front [] r h zero = omega arith
 low-front [] r h (suc i) = omega arith
 low-front (w ∷ ws) r h zero = h 0
@@ -75,14 +75,14 @@ module _ (m : Module) (question kind value flag round : ℕ) (g : Stage) (d : �
       ∙ ap (take (bundle-words (length (c ++ e)))) lent-is
       ∙ take-at (bundle-of s (c ++ e)) (drop (length (bundle-of s (c ++ e))) out) (bundle-words (length (c ++ e))) (ws-length (m .n) s (c ++ e) (C .top) p proper few)
 
-  pub station-is : Low (sent-lent m question f slots (set-of first) group (length second) out)
+  pub station-is : Below (sent-lent m question f slots (set-of first) group (length second) out)
       → (supplies-first g s ≡ true → length c ≡ quorum (m .n)) → (supplies-second g s ≡ true → length c ≡ quorum (m .n))
       → sent-station m question g d (sent-bundle m question f slots (set-of first) group (length second) out) ≡ W.station-of (m .n) (m .number) (began question g d s c)
   unfolding sent-station
   station-is low one two =
       ap (kept-words (blank (m .n) (m .number) question g d)) bundle-is
       ∙ begun (m .n) (m .number) question g d s c e (C .top) p proper few
-      (low-front (bundle-of s (c ++ e)) (drop (length (bundle-of s (c ++ e))) out) (subst Low lent-is low)) one two
+      (low-front (bundle-of s (c ++ e)) (drop (length (bundle-of s (c ++ e))) out) (subst Below lent-is low)) one two
 
   pub after-is : sent-after m question f ≡ advanced m question (step s)
   unfolding sent-after step step-in
