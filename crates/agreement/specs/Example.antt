@@ -32,10 +32,11 @@ use Rattle.station.specs.Views.{unrefused}
 use Rattle.agreement.specs.Demand.{Call, opens, gives, codes, Entry, Lineage, Found, found, own, gave, member, logged, votes, act, modules, answer, coded-in, log, openings, lineage, Sound, FewFaulty, CodesCame, Given, Decides, Claim}
 use Rattle.agreement.specs.Theorem.{claim}
 
--- ---- a test that shows where codes came from: of k statements behind the head, each either does not verify or was coded
+-- the toy code: the two covered words and six zeros
 abbrev pub toy : List ℕ → List ℕ → List ℕ
 toy key ws = getD ws 0 0 ∷ getD ws 1 0 ∷ 0 ∷ 0 ∷ 0 ∷ 0 ∷ 0 ∷ 0 ∷ []
 
+-- ---- a test that shows where codes came from: of k statements behind the head, each either does not verify or was coded
 abbrev came-at : List Entry → List ℕ → ℕ → Bool
 came-at l ws k =
     not (same-words (take 8 (drop (3 + k * 10) ws)) (toy [] (take 2 (drop (1 + k * 10) ws))))
