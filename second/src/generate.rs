@@ -20,8 +20,8 @@ pub fn files() -> Vec<(&'static str, Vec<u8>)> {
         ("crates/bundle_cases/stdout", bundle_results.into_bytes()),
         ("cases/calls/stdin", call_script.into_bytes()),
         ("cases/calls/stdout", call_results.into_bytes()),
-        ("cases/valley/stdin", valley_inputs),
-        ("cases/valley/stdout", valley_outputs),
+        ("crates/valley_cases/stdin", valley_inputs),
+        ("crates/valley_cases/stdout", valley_outputs),
     ]
 }
 
