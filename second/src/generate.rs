@@ -33,8 +33,8 @@ pub fn files() -> Vec<(&'static str, Vec<u8>)> {
         ),
         ("crates/call_cases/stdin", script.into_bytes()),
         ("crates/call_cases/stdout", results.into_bytes()),
-        ("cases/valley/stdin", valley_inputs),
-        ("cases/valley/stdout", valley_outputs),
+        ("crates/valley_cases/stdin", valley_inputs),
+        ("crates/valley_cases/stdout", valley_outputs),
     ]
 }
 

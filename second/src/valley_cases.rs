@@ -1,10 +1,38 @@
-//! Inputs of the program valley with what it prints, each behind a line with its length.
+//! Inputs of the program valley, each with the size of the pieces in which it is fed, and what
+//! valley prints for them (docs/SCRIPT.md, "Valley").
 
+use crate::group::quorum;
 use crate::rng::Rng;
 use crate::valley::run;
 
-/// No input and no output is longer.
-const LIMIT: usize = 4_000;
+/// No head and no body of a case is longer.
+pub const LIMIT: usize = 4_000;
+
+/// The sizes of pieces that inputs are cut into, in turn.
+const PIECES: [usize; 7] = [1, 2, 3, 5, 7, 64, 4_000];
+
+/// An input: the head, followed by the body so many times; and the size of its pieces.
+pub struct Case {
+    pub head: Vec<u8>,
+    pub body: Vec<u8>,
+    pub times: usize,
+    pub piece: usize,
+}
+
+impl Case {
+    pub fn input(&self) -> Vec<u8> {
+        let mut input = self.head.clone();
+        input.extend(self.body.repeat(self.times));
+        input
+    }
+
+    fn framed(&self) -> Vec<u8> {
+        let (head, body) = (self.head.len(), self.body.len());
+        assert!(head <= LIMIT && body <= LIMIT && self.piece > 0);
+        let line = format!("case {head} {body} {} {}\n", self.times, self.piece);
+        [line.as_bytes(), &self.head, &self.body, b"\n"].concat()
+    }
+}
 
 /// 01's worked example.
 const EXAMPLE: &str = "n 3\nopen 1 0\nopen 2 0\ngive 1 2 0\ngive 2 1 0\ngive 1 4 0\n\
@@ -69,6 +97,27 @@ fn events() -> Vec<Vec<u8>> {
         all.push(format!("n 3\nopen 1 1\n{line}\nopen 3 0\ngive 1 2 0\n{line}\n").into_bytes());
         all.push(format!("n 3\n{line}\n").into_bytes());
         all.push(format!("n 3\nopen 1 1\n{line}").into_bytes());
+    }
+    all
+}
+
+/// The longest line that can be read has 22 bytes: lines around it, and a long one.
+fn long_lines() -> Vec<Vec<u8>> {
+    let longest = "give 00001 00001 00000";
+    let mut lines = vec![longest.to_string()];
+    for length in [22, 23, 24, 1_000] {
+        let fill = |short: &str, with: &str| short.to_string() + &with.repeat(length - short.len());
+        lines.extend(["open 1 0", "n 3", "open 1 ", "give"].map(|short| fill(short, " ")));
+        lines.extend(["open 1 0", "n 3", "open 1 ", "give 1 1 "].map(|short| fill(short, "0")));
+        lines.extend([fill(longest, " "), fill(longest, "0"), fill(longest, "\r")]);
+        lines.extend([fill("", " "), fill("", "give "), fill("", "n 3 open 1 0 ")]);
+    }
+    let mut all = Vec::new();
+    for mut line in lines {
+        line.truncate(1_000);
+        all.push(format!("n 3\nopen 1 1\n{line}\nopen 3 0\n").into_bytes());
+        all.push(format!("n 3\nopen 1 1\n{line}").into_bytes());
+        all.push(format!("{line}\nn 3\n").into_bytes());
     }
     all
 }
@@ -192,6 +241,66 @@ fn forty() -> Vec<Vec<u8>> {
     all
 }
 
+/// A quorum of stations that speak only to each other, in the order of their numbers: in each
+/// phase each of them is given what the others wrote in the phase before, of which the first
+/// bundle has a number, and writes at the last.
+fn phases(n: u32, first: usize, count: usize, coin: fn(usize) -> usize) -> String {
+    let q = quorum(n);
+    let mut text = String::new();
+    for phase in 0..count {
+        for s in 1..=q {
+            for other in (1..=q).filter(|other| *other != s) {
+                let k = first + phase * q + other - 1;
+                text.push_str(&format!("give {s} {k} {}\n", coin(s)));
+            }
+        }
+    }
+    text
+}
+
+/// A quorum with one value, which decides it; the bundles of the next round follow.
+fn agreeing(n: u32, value: u32) -> String {
+    let mut input = format!("n {n}\n");
+    for s in 1..=quorum(n) {
+        input.push_str(&format!("open {s} {value}\n"));
+    }
+    input + &phases(n, 1, 4, |_| 0)
+}
+
+/// At n of 4 or more: stations 1 to q - 1 propose 0 and station q proposes 1. So all vote none,
+/// and toss their coins.
+fn disagreeing(n: u32, count: usize, coin: fn(usize) -> usize) -> String {
+    let q = quorum(n);
+    let n_all = n as usize;
+    let mut input = format!("n {n}\n");
+    for s in 1..=n_all {
+        input.push_str(&format!("open {s} {}\n", u32::from(s >= q)));
+    }
+    for s in 1..q {
+        for k in (1..=q).filter(|k| *k != s) {
+            input.push_str(&format!("give {s} {k} {}\n", coin(s)));
+        }
+    }
+    let ones = q + 1..=n_all;
+    for k in ones.chain(1..q).take(q - 1) {
+        input.push_str(&format!("give {q} {k} {}\n", coin(q)));
+    }
+    input + &phases(n, n_all + 1, count, coin)
+}
+
+fn votes() -> Vec<Vec<u8>> {
+    let mut all = Vec::new();
+    for n in 2..=7 {
+        all.extend([0, 1].map(|value| agreeing(n, value).into_bytes()));
+    }
+    for n in 4..=7 {
+        all.push(disagreeing(n, 4, |_| 0).into_bytes());
+        all.push(disagreeing(n, 4, |_| 1).into_bytes());
+        all.push(disagreeing(n, 12, |s| s & 1).into_bytes());
+    }
+    all
+}
+
 fn inputs() -> Vec<Vec<u8>> {
     let mut all = vec![
         EXAMPLE.as_bytes().to_vec(),
@@ -200,6 +309,8 @@ fn inputs() -> Vec<Vec<u8>> {
     all.extend(first_lines());
     all.extend(bad_lines());
     all.extend(events());
+    all.extend(long_lines());
+    all.extend(votes());
     all.push(tossing().into_bytes());
     all.extend(forty());
     for n in 2..=7 {
@@ -208,22 +319,70 @@ fn inputs() -> Vec<Vec<u8>> {
             all.push(host.go(90 + 10 * n as usize, seed % 2 == 0).into_bytes());
         }
     }
-    all.retain(|input| input.len() < LIMIT);
     all
 }
 
-/// The inputs and the outputs, each one behind a line `case LENGTH` and before a newline.
+/// An input in two cuttings: as a head alone, and in pieces of another size as a head and a body,
+/// parted at a place that moves on with the number of the input.
+fn cuttings((i, input): (usize, Vec<u8>)) -> [Case; 2] {
+    let (head, body) = input.split_at(i % (input.len() + 1));
+    let whole = Case {
+        head: input.clone(),
+        body: Vec::new(),
+        times: 0,
+        piece: PIECES[i % PIECES.len()],
+    };
+    let parted = Case {
+        head: head.to_vec(),
+        body: body.to_vec(),
+        times: 1,
+        piece: PIECES[(i + 3) % PIECES.len()],
+    };
+    [whole, parted]
+}
+
+/// Inputs that are long by the repetition of their body: 100,000 lines in odd pieces, events of
+/// one kind, and a line of a million bytes.
+fn repeated() -> Vec<Case> {
+    let case = |head: &str, body: &str, times: usize, piece: usize| Case {
+        head: head.as_bytes().to_vec(),
+        body: body.as_bytes().to_vec(),
+        times,
+        piece,
+    };
+    let mixed = "open 1 0\ngive 1 1 0\ngive 2 7 2\nopen 9 1\n";
+    let opened = "n 3\nopen 1 0\nopen 2 0\n";
+    vec![
+        case(EXAMPLE, mixed, 25_000, 7),
+        case(opened, "give 2 2 1\n", 2_000, 3),
+        case(opened, "open 00000 99999\n", 2_000, 64),
+        case(opened, "open 3 1\n", 500, 1),
+        case(opened, "give 3 1 0\n", 1_000, 5),
+        case("n 3\nopen 1 0\n", &"0".repeat(LIMIT), 250, 64),
+        case("", &" ".repeat(LIMIT), 250, LIMIT),
+        case("", "\n", 999_999, 1),
+        case("n 2\n", "", 9, 999_999),
+    ]
+}
+
+pub fn cases() -> Vec<Case> {
+    let mut all: Vec<Case> = inputs()
+        .into_iter()
+        .enumerate()
+        .flat_map(cuttings)
+        .collect();
+    all.extend(repeated());
+    all
+}
+
+/// The cases in their frames, and what is printed: for each case what valley prints for its input,
+/// between a line `case` and a line `end`.
 pub fn valleys() -> (Vec<u8>, Vec<u8>) {
     let mut stdin = Vec::new();
     let mut stdout = Vec::new();
-    for input in inputs() {
-        let output = run(&input);
-        assert!(output.len() < LIMIT);
-        for (file, text) in [(&mut stdin, &input), (&mut stdout, &output)] {
-            file.extend(format!("case {}\n", text.len()).into_bytes());
-            file.extend(text);
-            file.push(b'\n');
-        }
+    for case in cases() {
+        stdin.extend(case.framed());
+        stdout.extend([b"case\n", &run(&case.input())[..], b"end\n"].concat());
     }
     (stdin, stdout)
 }
