@@ -238,23 +238,38 @@ fn votes_for_none_and_coins() {
     }
 }
 
-/// 40 bundles, events that write nothing, and the line that would write one more.
+/// Whether a line names only a station that the input opens and a bundle of the 40.
+fn names_what_is_there(input: &str, line: &str) -> bool {
+    let words: Vec<&str> = line.split(' ').collect();
+    match words[..] {
+        ["open", _, "0" | "1"] => true,
+        ["give", s, k, "0" | "1"] => {
+            let number: usize = k.parse().unwrap();
+            (1..=40).contains(&number) && input.contains(&format!("\nopen {s} "))
+        }
+        _ => false,
+    }
+}
+
+/// 40 bundles and then the line that would write one more, at once and behind events that write
+/// nothing; and no 41st anywhere.
 #[test]
 fn forty_bundles() {
-    let all = outputs();
-    let full = |output: &&String| {
+    let (mut at_once, mut later) = (0, 0);
+    for (input, output) in outputs() {
         let events: Vec<Vec<u32>> = output.lines().filter_map(numbers).collect();
-        let writes = |event: &&Vec<u32>| event[1] >= 20;
-        events.iter().filter(writes).count() == 40
-            && events.last().is_some_and(|event| event[1] < 20)
-            && output.lines().last() == Some(&format!("bad line {}", events.len() + 2))
-    };
-    assert!(all.values().filter(full).count() > 3);
-    let at_41 = |output: &&String| {
-        let events: Vec<Vec<u32>> = output.lines().filter_map(numbers).collect();
-        events.iter().filter(|event| event[1] >= 20).count() > 40
-    };
-    assert_eq!(all.values().filter(at_41).count(), 0);
+        let written = events.iter().filter(|event| event[1] >= 20).count();
+        assert!(written <= 40);
+        let ended = output.lines().any(|line| line.starts_with("bad line"));
+        let bad = input.lines().nth(events.len() + 1).filter(|_| ended);
+        if written == 40 && bad.is_some_and(|line| names_what_is_there(input, line)) {
+            match events[events.len() - 1][1] >= 20 {
+                true => at_once += 1,
+                false => later += 1,
+            }
+        }
+    }
+    assert!(at_once > 0 && later > 0);
 }
 
 #[test]
