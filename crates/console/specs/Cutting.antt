@@ -46,26 +46,26 @@ joined [] = []
 joined (piece ∷ pieces) = piece ++ joined pieces
 
 -- ---- a call takes bytes of the piece as the run byte by byte does
-record Took (r : Run) (piece : List ℕ) (t : Takes) : Type 0 where
+record AsBytes (r : Run) (piece : List ℕ) (t : Takes) : Type 0 where
   run-is : after-bytes r piece ≡ after-bytes (t .run) (drop (t .used) piece)
   printed-is : bytes-printed r piece ≡ shown t ++ bytes-printed (t .run) (drop (t .used) piece)
   some : length (drop (t .used) piece) ≤ length piece - 1
 
-took : (piece : List ℕ) (r : Run) (out : List ℕ) → Took r piece (taking r piece out)
+as-bytes : (piece : List ℕ) (r : Run) (out : List ℕ) → AsBytes r piece (taking r piece out)
 unfolding taking after-bytes bytes-printed byte-done byte-printed pick
-took [] r out = record { run-is = refl; printed-is = refl; some = omega arith }
-took (b ∷ piece) r out = go (eqb b newline) refl (took piece (lengthened r b) out)
+as-bytes [] r out = record { run-is = refl; printed-is = refl; some = omega arith }
+as-bytes (b ∷ piece) r out = go (eqb b newline) refl (as-bytes piece (lengthened r b) out)
   where
-    go : (t : Bool) → eqb b newline ≡ t → Took (lengthened r b) piece (taking (lengthened r b) piece out) → Took r (b ∷ piece) (taking r (b ∷ piece) out)
+    go : (t : Bool) → eqb b newline ≡ t → AsBytes (lengthened r b) piece (taking (lengthened r b) piece out) → AsBytes r (b ∷ piece) (taking r (b ∷ piece) out)
     go true e ih =
-        subst (Took r (b ∷ piece)) (here (eqb b newline) (prints 1 (line-turn r .printed) (line-done r) out) (one-more (taking (lengthened r b) piece out)) e)
+        subst (AsBytes r (b ∷ piece)) (here (eqb b newline) (prints 1 (line-turn r .printed) (line-done r) out) (one-more (taking (lengthened r b) piece out)) e)
         (record {
           run-is = rw e;
           printed-is = rw (e, take-append-seam (line-turn r .printed) (drop (length (line-turn r .printed)) out));
           some = omega arith;
         })
     go false e ih =
-        subst (Took r (b ∷ piece)) (skip (eqb b newline) (prints 1 (line-turn r .printed) (line-done r) out) (one-more (taking (lengthened r b) piece out)) (one-more (taking (lengthened r b) piece out)) e refl)
+        subst (AsBytes r (b ∷ piece)) (skip (eqb b newline) (prints 1 (line-turn r .printed) (line-done r) out) (one-more (taking (lengthened r b) piece out)) (one-more (taking (lengthened r b) piece out)) e refl)
         (record {
           run-is = rw e (ih .run-is);
           printed-is = rw e (ih .printed-is);
@@ -82,7 +82,7 @@ through zero r [] out h = record { run-is = refl; printed-is = refl }
 through zero r (b ∷ piece) out h = absurd (omega (arith, h))
 through (suc times) r piece out h =
     let t : Takes = taking r piece out in
-    let k = took piece r out in
+    let k = as-bytes piece r out in
     let f = through times (taking r piece out .run) (drop (taking r piece out .used) piece) (taking r piece out .lent) (omega (arith, h, k .some)) in
     record {
       run-is = f .run-is ∙ sym (k .run-is);

@@ -41,10 +41,17 @@ rest-taken piece out r before used h e =
     let within : taking r (take (length piece - before) (drop before piece)) out .used ≤ length (take (length piece - before) (drop before piece)) = b .within in
     (omega (arith, some, e), omega (arith, h, l, e, within))
 
-pub end-lent : (r : Run) (out : List ℕ) → finishing r out .count ≤ length (finishing r out .lent)
+end-lent : (r : Run) (out : List ℕ) → finishing r out .count ≤ length (finishing r out .lent)
 unfolding finishing pick
 end-lent r out = go (ltb 0 (r .held))
   where
     go : (t : Bool) → (pick t (prints 0 (line-turn r .printed) (line-done r) out) (prints 0 (missing (r .phase) (r .number)) r out)) .count ≤ length ((pick t (prints 0 (line-turn r .printed) (line-done r) out) (prints 0 (missing (r .phase) (r .number)) r out)) .lent)
     go true = fits (line-turn r .printed) out
     go false = fits (missing (r .phase) (r .number)) out
+
+-- what a call says it printed stands in the bytes that it leaves
+pub lent-enough : (piece out : List ℕ) (r : Run) (count : ℕ) (left : List ℕ) → count ≡ taking r piece out .count → left ≡ taking r piece out .lent → count ≤ length left
+lent-enough piece out r count left c l = subst (λ (k : ℕ). k ≤ length left) (sym c) (subst (λ (k : List ℕ). taking r piece out .count ≤ length k) (sym l) (bounds piece r out .lent))
+
+pub end-enough : (r : Run) (out : List ℕ) (count : ℕ) (left : List ℕ) → count ≡ finishing r out .count → left ≡ finishing r out .lent → count ≤ length left
+end-enough r out count left c l = subst (λ (k : ℕ). k ≤ length left) (sym c) (subst (λ (k : List ℕ). finishing r out .count ≤ length k) (sym l) (end-lent r out))

@@ -20,12 +20,12 @@ struct Reading {
     going: bool,
 }
 
-// Writes the printed bytes. No line has more than 64 (`event-line-fits` and `bad-line-fits` of the crate lines).
-fn show(out: &[u8; 64], count: usize) {
+// Writes the printed bytes.
+fn show(out: &[u8; 64], count: usize)
+    requires { ⌜ count ≤ length (now out) ⌝ }
+{
     let bytes = &out[..];
-    if count <= 64 {
-        io::write_all(STDOUT_FILENO, &bytes[0..count]);
-    }
+    io::write_all(STDOUT_FILENO, &bytes[0..count]);
 }
 
 // Feeds what is left of a piece: the run takes it up to its first newline.

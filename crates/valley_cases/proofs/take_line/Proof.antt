@@ -1,6 +1,6 @@
 -- A call takes at least one byte of what is left, and none behind its end (`rest-taken`).
 use native.Mathlib.Omega.{arith}
-use Rattle.console.specs.Within.{rest-taken}
+use Rattle.console.specs.Within.{rest-taken, lent-enough}
 use borrow.Author.Needs.{needs}
 use Rattle.valley_cases.proofs.take_line.Statement.{statement}
 use Rattle.valley_cases.proofs.take_line.Tie as tie
@@ -18,7 +18,7 @@ feed-requires : tie.Need-feed-requires
 feed-requires c κs = search needs
 
 show-requires : tie.Need-show-requires
-show-requires c κs = search needs
+show-requires c κs = lent-enough _ _ _ _ _ (c .before .feed .ensures .1) (c .before .feed .ensures .3)
 
 add-t8 : tie.Need-add-t8
 add-t8 c =
