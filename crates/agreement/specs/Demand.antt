@@ -18,8 +18,8 @@ use Rattle.sealed.specs.declared.Module.{Module}
 use Rattle.sealed.specs.Sealed.{making, Coded, coding-plain, coding-coin}
 use Rattle.station.specs.declared.Station.{Station}
 use Rattle.station.specs.Calls.{Returned, opening, giving, no-station}
-use Rattle.station.specs.FitSane.{Lengths}
-use Rattle.station.specs.Views.{unrefused}
+use Rattle.station.specs.Words.{Lengths}
+use Rattle.station.specs.Returns.{unrefused, wrote}
 
 -- ---- the list
 -- "Each call names its site and brings any settings, words and lent output"; a giving any station too, and which of the site's openings it means
@@ -52,9 +52,6 @@ pub record Lineage : Type 0 where
 pub data Found : Type 0 where
   nothing : Found
   found : Lineage → Found
-
-abbrev pub wrote : ℕ → Bool
-wrote k = eqb k sent || eqb k sent-decided
 
 -- the main statement of the bundle that a call wrote, if it did
 abbrev pub own : Returned → List Statement

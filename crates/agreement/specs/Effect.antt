@@ -16,35 +16,25 @@ use Rattle.format.specs.Statement.{Statement, statement, covered, written, step
 use Rattle.format.specs.Layout.{formed-well}
 use Rattle.format.specs.Shape.{Shape, init, proposal, vote, Formed, formed-out, formed-in}
 use Rattle.sealed.specs.declared.Module.{Module}
-use Rattle.sealed.specs.Sealed.{above, last-for, advanced, module-fits, is-toss, with-value, signed, coding-tests, coding, coding-plain, coding-coin}
+use Rattle.sealed.specs.Sealed.{above, last-for, advanced, module-fits, is-toss, by-plain, by-coin, with-value, signed, coding-tests, coding, coding-plain, coding-coin}
 use Rattle.station.specs.declared.Station.{Station}
 use Rattle.station.specs.Machine.{Outcome, refused, keeps, sends}
-use Rattle.station.specs.Words.{bundle-of, over}
+use Rattle.station.specs.Words.{bundle-of, over, Lengths}
 use Rattle.station.specs.Calls.{Returned, returned, opening, giving, opening-outcome, giving-outcome, no-station}
-use Rattle.station.specs.ReadBack.{Proper}
-use Rattle.station.specs.FitSane.{Lengths}
-use Rattle.station.specs.Views.{unrefused, InRange, in-range, init-statement, Opens, no-opening, begins, opens-view, Gives, refuses, holds-on, shuts, goes-on, gives-view, sent-statement, Accepted}
+use Rattle.format.specs.ReadBack.{Proper}
+use Rattle.station.specs.Views.{InRange, in-range, init-statement, Opens, no-opening, begins, opens-view, Gives, refuses, holds-on, shuts, goes-on, gives-view, sent-statement, Accepted}
+use Rattle.station.specs.Returns.{unrefused, wrote, wrote-unrefused}
 use Rattle.station.specs.Fits.{own-proper, sent-proper}
-use Rattle.agreement.specs.Demand.{Call, opens, gives, codes, tosses, site, Entry, wrote, act, coded-in, as-returned}
+use Rattle.agreement.specs.Demand.{Call, opens, gives, codes, tosses, site, Entry, act, coded-in, as-returned}
 
 abbrev pub entry : ℕ → Statement → Entry
 entry i s = record { at = i; words = covered s }
-
--- what is sent is not refused
-pub sent-unrefused : (k : ℕ) → wrote k ≡ true → unrefused k ≡ true
-sent-unrefused k u = go (eqb k 0) (eqb k sent) (eqb k sent-decided) u
-  where
-    go : (a b c : Bool) → (b || c) ≡ true → (a || (b || (c || eqb k 22))) ≡ true
-    go true b c e = refl
-    go false true c e = refl
-    go false false true e = refl
-    go false false false e = never false refl e
 
 refused-silent : (k : ℕ) → unrefused k ≡ false → wrote k ≡ false
 refused-silent k e = go (wrote k) refl
   where
     go : (b : Bool) → wrote k ≡ b → wrote k ≡ false
-    go true x = never (unrefused k) e (sent-unrefused k x)
+    go true x = never (unrefused k) e (wrote-unrefused k x)
     go false x = x
 
 pub answers : (b : Bool) → wrote (pick b sent sent-decided) ≡ true
@@ -161,12 +151,12 @@ module _ (mac : List ℕ → List ℕ → List ℕ) (eight : (key ws : List ℕ)
   plain-effect m i ws = go (coding-view m (statement ws 0) ws i _)
     where
       refusal : ℕ
-      refusal = first-failed (test (module-fits m) out-of-range ∷ coding-tests m ws (not (is-toss (statement ws 0))))
+      refusal = first-failed (test (module-fits m) out-of-range ∷ coding-tests m ws (by-plain (statement ws 0 .kind) (statement ws 0 .flag)))
 
       go : Coding m (statement ws 0) ws i refusal → Effect m (codes i ws)
       go (not-coded z l a) = silent l a
       go (is-coded z l a) =
-          let c = codable m ws (not (is-toss (statement ws 0))) (test (module-fits m) out-of-range) (omega arith) z .1 in
+          let c = codable m ws (by-plain (statement ws 0 .kind) (statement ws 0 .flag)) (test (module-fits m) out-of-range) (omega arith) z .1 in
           speaks (signed (mac (m .key)) (statement ws 0)) (signed-proper m (statement ws 0) (c .formed)) (c .mine) (c .later) l a
 
   pub toss-effect : (m : Module) (i : ℕ) (ws : List ℕ) (coin : ℕ) → Effect m (tosses i ws coin)
@@ -174,7 +164,7 @@ module _ (mac : List ℕ → List ℕ → List ℕ) (eight : (key ws : List ℕ)
   toss-effect m i ws coin = go (coding-view m (with-value coin (statement ws 0)) ws i _)
     where
       refusal : ℕ
-      refusal = first-failed (test (module-fits m && ltb coin 2) out-of-range ∷ coding-tests m ws (is-toss (statement ws 0)))
+      refusal = first-failed (test (module-fits m && ltb coin 2) out-of-range ∷ coding-tests m ws (by-coin (statement ws 0 .kind) (statement ws 0 .flag)))
 
       tossed : (s : Statement) → Shape s → is-toss s ≡ true → coin < 2 → Shape (with-value coin s)
       tossed s (init a b c d) t low = absurd (omega (arith, eqb-true (s .kind) 1 (both (eqb (s .kind) 1) _ t .0)))
@@ -184,7 +174,7 @@ module _ (mac : List ℕ → List ℕ → List ℕ) (eight : (key ws : List ℕ)
       go : Coding m (with-value coin (statement ws 0)) ws i refusal → Effect m (tosses i ws coin)
       go (not-coded z l a) = silent l a
       go (is-coded z l a) =
-          let c = codable m ws (is-toss (statement ws 0)) (test (module-fits m && ltb coin 2) out-of-range) (omega arith) z in
+          let c = codable m ws (by-coin (statement ws 0 .kind) (statement ws 0 .flag)) (test (module-fits m && ltb coin 2) out-of-range) (omega arith) z in
           let f = formed-out (m .n) (statement ws 0) (c .1 .formed) in
           let low : coin < 2 = ltb-true coin 2 (both (module-fits m) _ (c .0) .1) in
           let w : well-formed (m .n) (with-value coin (statement ws 0)) ≡ true

@@ -24,11 +24,10 @@ use Rattle.sealed.specs.Sealed.{above, making, coding-plain}
 use Rattle.station.specs.declared.Stage.the-variants.{Gathering}
 use Rattle.station.specs.declared.Station.{Station}
 use Rattle.station.specs.Machine.{insert, number-of, first-value, those, vote-value, decided, carried, follows, ended, taken, conflict}
-use Rattle.station.specs.Words.{held-in, leading, kept-first, kept-second, state-of, set-of, slot-of, slots-of, all-written, station-of, bundle-of}
+use Rattle.station.specs.Words.{held-in, leading, kept-first, kept-second, state-of, set-of, slot-of, slots-of, all-written, station-of, bundle-of, Lengths}
 use Rattle.station.specs.Fit.{zeros, slots-fit, fits}
-use Rattle.station.specs.FitSane.{Lengths}
 use Rattle.station.specs.Calls.{Returned, returned, opening, giving, no-station}
-use Rattle.station.specs.Views.{unrefused}
+use Rattle.station.specs.Returns.{unrefused}
 use Rattle.agreement.specs.Demand.{Call, opens, gives, codes, Entry, Lineage, Found, found, own, gave, member, logged, votes, act, modules, answer, coded-in, log, openings, lineage, Sound, FewFaulty, CodesCame, Given, Decides, Claim}
 use Rattle.agreement.specs.Theorem.{claim}
 

@@ -29,12 +29,11 @@ use Rattle.station.specs.declared.Stage.the-variants.{Gathering, Proposing, Vot
 use Rattle.station.specs.declared.Station.{Station}
 use Rattle.station.specs.Machine.{State, stage-step, kind-in, round-in, has-value, insert, number-of, decided, decision-at, decision-after, closes, follows, after-votes, Next, began, shut, takes, supplies-first, supplies-second, vote-value, carried}
 use Rattle.station.specs.Words as W
-use Rattle.station.specs.Words.{state-of}
-use Rattle.station.specs.ReadBack.{Proper}
+use Rattle.station.specs.Words.{state-of, Lengths}
+use Rattle.format.specs.ReadBack.{Proper}
 use Rattle.station.specs.Slots.{all-two}
 use Rattle.station.specs.Insert.{insert-all, insert-length, some-insert}
 use Rattle.station.specs.Sane.{Sane, sane-fits, state-back}
-use Rattle.station.specs.FitSane.{Lengths}
 use Rattle.station.specs.Keep.{Fitting, all-take, steps-P, steps-V, steps-0}
 use Rattle.station.specs.Pieces.{Found, find-some}
 use Rattle.station.specs.End.{Full, Known, known, Ready, both-values}

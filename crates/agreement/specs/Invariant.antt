@@ -20,7 +20,7 @@ use Rattle.sealed.specs.declared.Last.{Last}
 use Rattle.sealed.specs.declared.Module.{Module}
 use Rattle.sealed.specs.Sealed.{above, pair, advanced, making, fresh}
 use Rattle.sealed.specs.Rises.{Above, first, later-question, later-step, above-out}
-use Rattle.station.specs.ReadBack.{Proper, Back, word-back}
+use Rattle.format.specs.ReadBack.{Proper, Back, word-back}
 use Rattle.station.specs.Keep.{steps-P, steps-V, steps-0}
 use Rattle.agreement.specs.Log.{Lower, Rising}
 use Rattle.agreement.specs.Safe.{Just, Split}
@@ -55,7 +55,7 @@ step-low s (vote k a b v f) = omega (arith, steps-V (s .kind) (s .round) k)
 -- the covered words of a statement, read again
 pub covered-back : (n : ℕ) (s : Statement) → n ≤ 31 → Proper n s → statement (covered s) 0 ≡ bare s
 covered-back n s top p =
-    let b = word-back n s top p in
+    let b = word-back n s top (p .formed) in
     λ i. record { kind = b .kind i; value = b .value i; flag = b .flag i; station = b .station i; round = b .round i; question = s .question; code = [] }
 
 bare-formed : (n : ℕ) (s : Statement) → Formed n s → Formed n (bare s)

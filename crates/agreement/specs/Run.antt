@@ -24,23 +24,23 @@ use Rattle.station.specs.declared.Stage.the-variants.{Gathering}
 use Rattle.station.specs.declared.Station.{Station}
 use Rattle.station.specs.Machine.{State, Outcome, refused, keeps, sends, began, shut, closes, follows, has-value}
 use Rattle.station.specs.Words as W
-use Rattle.station.specs.Words.{all-written, bundle-of, over}
+use Rattle.station.specs.Words.{all-written, bundle-of, over, Lengths}
 use Rattle.station.specs.Calls.{Returned, returned, opening, giving, opening-outcome, giving-outcome, no-station}
-use Rattle.station.specs.ReadBack.{Proper, statement-drop, statement-back}
-use Rattle.station.specs.FitSane.{Lengths}
+use Rattle.format.specs.ReadBack.{Proper, statement-drop, statement-back}
 use Rattle.station.specs.Keep.{steps-0}
-use Rattle.station.specs.Views.{unrefused, InRange, init-statement, Opens, no-opening, begins, opens-view, Gives, refuses, holds-on, shuts, goes-on, gives-view, sent-statement, Accepted, after, decision-then}
+use Rattle.station.specs.Views.{InRange, init-statement, Opens, no-opening, begins, opens-view, Gives, refuses, holds-on, shuts, goes-on, gives-view, sent-statement, Accepted, after, decision-then}
+use Rattle.station.specs.Returns.{unrefused, wrote, wrote-unrefused}
 use Rattle.station.specs.Fits.{own-proper, init-sane, sent-proper}
 use Rattle.station.specs.Written.{own-verifies, lengths-of}
 use Rattle.agreement.specs.Log.{In}
 use Rattle.agreement.specs.Safe.{Just, Split}
 use Rattle.agreement.specs.Just.{bare, Coded, backed-just, just-more}
 use Rattle.agreement.specs.Took.{none-there, enough-before}
-use Rattle.agreement.specs.Effect.{sent-unrefused, answers, entry, Effect, silent, speaks, log-of, after-of, open-coded, open-after, give-coded, give-after, plain-effect, toss-effect}
+use Rattle.agreement.specs.Effect.{answers, entry, Effect, silent, speaks, log-of, after-of, open-coded, open-after, give-coded, give-after, plain-effect, toss-effect}
 use Rattle.agreement.specs.Line.{reads, Line, line-more}
 use Rattle.agreement.specs.Giving.{open-line, kept-line, shut-line, sent-line, sent-just, sent-split}
 use Rattle.agreement.specs.Invariant.{Mine, LogInv, start, unchanged, log-add, covered-back}
-use Rattle.agreement.specs.Demand.{Call, opens, gives, codes, tosses, site, Entry, Lineage, Found, nothing, found, wrote, own, gave, member, votes, act, modules, answer, coded-in, log, openings, lineage, Presents, Sound, CodesCame, Given}
+use Rattle.agreement.specs.Demand.{Call, opens, gives, codes, tosses, site, Entry, Lineage, Found, nothing, found, own, gave, member, votes, act, modules, answer, coded-in, log, openings, lineage, Presents, Sound, CodesCame, Given}
 
 -- the main statement of a written bundle, read again
 main-written : (n : ℕ) (s : Statement) (c : List Statement) (out : List ℕ) → n ≤ 31 → Proper n s → statement (over (bundle-of s c) out) 1 ≡ s
@@ -438,7 +438,7 @@ module _ (mac : List ℕ → List ℕ → List ℕ) (eight : (key ws : List ℕ)
                 let proper : Proper (mg .n) s = sent-proper mac eight mg t ws coin out len A size more in
                 let coded : coded-in mac key n g (answer mac key n cs g) ≡ entry j s ∷ [] = log-g o' e in
                 let wr : wrote k ≡ true = ap wrote w ∙ answers (ltb (t .decision) none || eqb (decision-then mac mg t ws coin out) none) in
-                let un : unrefused (answer mac key n cs g .number) ≡ true = number-g o' e (sent-unrefused k wr) in
+                let un : unrefused (answer mac key n cs g .number) ≡ true = number-g o' e (wrote-unrefused k wr) in
                 let T : Station = W.station-of (mg .n) (mg .number) u in
                 record {
                   logs = spoke g cs lo hi (I .logs) s proper refl a coded (after-g o' e)

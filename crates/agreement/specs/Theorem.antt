@@ -26,14 +26,15 @@ use Rattle.station.specs.declared.Stage.{Stage}
 use Rattle.station.specs.declared.Stage.the-variants.{Gathering, Proposing, Voting}
 use Rattle.station.specs.declared.Station.{Station}
 use Rattle.station.specs.Machine.{conflict, has-value, kind-in, round-in, stage-step}
-use Rattle.station.specs.Words.{state-of}
-use Rattle.station.specs.ReadBack.{Proper}
+use Rattle.station.specs.Words.{state-of, Lengths}
+use Rattle.format.specs.ReadBack.{Proper}
 use Rattle.station.specs.Sane.{Sane}
-use Rattle.station.specs.FitSane.{Lengths, fits-sane}
+use Rattle.station.specs.FitSane.{fits-sane}
 use Rattle.station.specs.Keep.{same-step}
 use Rattle.station.specs.Slots.{all-two}
 use Rattle.station.specs.Pieces as P
-use Rattle.station.specs.Views.{unrefused, Conflicts, conflicts, Nearly}
+use Rattle.station.specs.Views.{Conflicts, conflicts, Nearly}
+use Rattle.station.specs.Returns.{unrefused}
 use Rattle.agreement.specs.Counting.{count-mono}
 use Rattle.agreement.specs.Log.{In, is, has, Has, has-out, has-at, Supp, all-at}
 use Rattle.agreement.specs.Safe as Safe

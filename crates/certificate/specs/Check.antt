@@ -28,15 +28,18 @@ all-verify code c = every (verifies code) c
 abbrev pub question-fits : Which → Statement → List Statement → Bool
 question-fits asked m c = one-question m c && which asked (m .question)
 
--- for a code function: what is tested, in this order
-abbrev pub check-tests : (List ℕ → List ℕ) → ℕ → Which → List ℕ → List Test
-check-tests code n asked ws =
-    test (size-fits n) out-of-range
-    ∷ test (bundle-fits n ws) malformed
+-- for a code function: what is tested of a bundle, in this order; a station that is given one tests the same
+abbrev pub bundle-tests : (List ℕ → List ℕ) → ℕ → Which → List ℕ → List Test
+bundle-tests code n asked ws =
+    test (bundle-fits n ws) malformed
     ∷ test (question-fits asked (main-of ws) (certificate-of ws)) other-question
     ∷ test (all-verify code (statements ws 1 (suc (count-in ws)))) wrong-code
     ∷ test (rule n (main-of ws) (certificate-of ws)) no-certificate
     ∷ []
+
+-- "The validity check alone tests 2 (n), 3, 4, 5, 6 and answers 0."
+abbrev pub check-tests : (List ℕ → List ℕ) → ℕ → Which → List ℕ → List Test
+check-tests code n asked ws = test (size-fits n) out-of-range ∷ bundle-tests code n asked ws
 
 unfoldable pub check-by : (List ℕ → List ℕ) → ℕ → Which → List ℕ → ℕ
 check-by code n asked ws = first-failed (check-tests code n asked ws)

@@ -23,7 +23,7 @@ use Rattle.ending.specs.declared.Following.{Following}
 use Rattle.ending.specs.Lowest.{lowest, lowest-held}
 
 abbrev pub following : ℕ → ℕ → ℕ → ℕ → Source → Source → Stage → Following
-following k v f r c d g = record { kind = k; value = v; flag = f; round = r; first = c; second = d; stage = g }
+following k v f r c d g = record { kind = k; value = v; flag = f; round = record { 0 = r }; first = c; second = d; stage = g }
 
 -- the second group of a vote: that of rule 5 or of rule 7
 unfoldable pub second-source : ℕ → ℕ → Bool → Source
@@ -89,7 +89,7 @@ group-in First slots c d = c
 group-in Second slots c d = d
 
 abbrev pub as-next : Following → List ℕ → List Statement → List Statement → Next
-as-next x slots c d = next (x .kind) (x .value) (x .flag) (x .round) (group-in (x .first) slots c d) (group-in (x .second) slots c d) (x .stage)
+as-next x slots c d = next (x .kind) (x .value) (x .flag) (x .round .0) (group-in (x .first) slots c d) (group-in (x .second) slots c d) (x .stage)
 
 second-is : (a b e : Bool) (slots : List ℕ) (c d : List Statement)
     → group-in (pick a (pick b (pick e First Nothing) Second) Nothing) slots c d ≡ pick a (pick b (pick e c []) d) []

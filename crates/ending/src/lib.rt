@@ -29,7 +29,7 @@ pub struct Following {
     pub kind: u32,
     pub value: u32,
     pub flag: u32,
-    pub round: u32,
+    pub round: Round,
     pub first: Source,
     pub second: Source,
     pub stage: Stage,
@@ -193,20 +193,20 @@ pub fn closes(stage: Stage) -> bool
 }
 
 // The round after r, where there is one.
-fn round_after(r: u32) -> u32
-    ensures { λ b. ⌜ b ≡ round-after r ⌝ }
+fn round_after(r: Round) -> Round
+    ensures { λ b. ⌜ b .0 ≡ round-after (r .0) ⌝ }
 {
-    if r < 65535 {
-        return r + 1;
+    if r.0 < 65535 {
+        return Round(r.0 + 1);
     }
-    65535
+    Round(65535)
 }
 
 // Where the second group of a vote is: behind votes for a value the certificate of a D-GET, behind none votes that of an R-GET.
-fn second_source(r: u32, value: u32, dget: bool) -> Source
-    ensures { λ s. ⌜ s ≡ second-source r value dget ⌝ }
+fn second_source(r: Round, value: u32, dget: bool) -> Source
+    ensures { λ s. ⌜ s ≡ second-source (r .0) value dget ⌝ }
 {
-    if r <= 1 {
+    if r.0 <= 1 {
         return Source::Nothing;
     }
     if 2 <= value {
@@ -229,7 +229,7 @@ fn after_inits(n: u32, set: u32, slots: &[u32; 310]) -> Following
         kind: 1,
         value: v,
         flag: 0,
-        round: 1,
+        round: Round(1),
         first: Source::Slots(low),
         second: Source::Nothing,
         stage: Stage::Proposing(Round(1), 0),
@@ -237,8 +237,8 @@ fn after_inits(n: u32, set: u32, slots: &[u32; 310]) -> Following
 }
 
 // The vote follows the proposals of round r.
-fn after_proposals(r: u32, set: u32, slots: &[u32; 310]) -> Following
-    ensures { λ x. ⌜ x ≡ proposals-next r set (now (slots .entry)) ⌝ }
+fn after_proposals(r: Round, set: u32, slots: &[u32; 310]) -> Following
+    ensures { λ x. ⌜ x ≡ proposals-next (r .0) set (now (slots .entry)) ⌝ }
 {
     let v = vote_value(slots, set);
     let dget = some_d_get(slots, set);
@@ -250,13 +250,13 @@ fn after_proposals(r: u32, set: u32, slots: &[u32; 310]) -> Following
         round: r,
         first: Source::Slots(set),
         second: second,
-        stage: Stage::Voting(Round(r)),
+        stage: Stage::Voting(r),
     }
 }
 
 // P of the next round follows the votes of round r: D-GET where one is for a value, else R-GET with the coin.
-fn after_votes(r: u32, set: u32, slots: &[u32; 310], coin: u32) -> Following
-    ensures { λ x. ⌜ x ≡ votes-next r set (now (slots .entry)) coin ⌝ }
+fn after_votes(r: Round, set: u32, slots: &[u32; 310], coin: u32) -> Following
+    ensures { λ x. ⌜ x ≡ votes-next (r .0) set (now (slots .entry)) coin ⌝ }
 {
     let v = carried(slots, set);
     let b = round_after(r);
@@ -268,7 +268,7 @@ fn after_votes(r: u32, set: u32, slots: &[u32; 310], coin: u32) -> Following
             round: b,
             first: Source::First,
             second: Source::Nothing,
-            stage: Stage::Proposing(Round(b), 0),
+            stage: Stage::Proposing(b, 0),
         };
     }
     Following {
@@ -278,7 +278,7 @@ fn after_votes(r: u32, set: u32, slots: &[u32; 310], coin: u32) -> Following
         round: b,
         first: Source::Slots(set),
         second: Source::Nothing,
-        stage: Stage::Proposing(Round(b), 1),
+        stage: Stage::Proposing(b, 1),
     }
 }
 
@@ -288,7 +288,7 @@ pub fn next(stage: Stage, n: u32, set: u32, slots: &[u32; 310], coin: u32) -> Fo
 {
     match stage {
         Stage::Gathering => after_inits(n, set, slots),
-        Stage::Proposing(r, _) => after_proposals(r.0, set, slots),
-        Stage::Voting(r) => after_votes(r.0, set, slots, coin),
+        Stage::Proposing(r, _) => after_proposals(r, set, slots),
+        Stage::Voting(r) => after_votes(r, set, slots, coin),
     }
 }

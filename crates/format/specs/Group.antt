@@ -56,7 +56,7 @@ proposed-0 n zeros ones all half = omega (arith, backing-0 n)
 pub proposed-1 : (n zeros ones : ℕ) → zeros + ones ≡ quorum n → 2 * zeros < quorum n → backing n 1 ≤ ones
 proposed-1 n zeros ones all half = omega (arith, backing-1 n)
 
--- ---- the marked examples of the count
+-- ---- the thresholds at three sizes
 pub record Counts : Type 0 where
   pub n : ℕ
   pub q : ℕ
@@ -66,10 +66,10 @@ pub record Counts : Type 0 where
 abbrev pub counts : ℕ → ℕ → ℕ → ℕ → Counts
 counts n q a b = record { n = n; q = q; of-0 = a; of-1 = b }
 
--- "n 2: q 2, backings 1 and 2; n 6: q 4, backings 2 and 3; n 31: q 16, backings 8 and 9"
-abbrev pub marked : List Counts
-marked = counts 2 2 1 2 ∷ counts 6 4 2 3 ∷ counts 31 16 8 9 ∷ []
+-- "n 2: q 2, backings 1 and 2; n 6: q 4, backings 2 and 3; n 31: q 16, backings 8 and 9". The marked table of all examples stands in station
+abbrev pub samples : List Counts
+samples = counts 2 2 1 2 ∷ counts 6 4 2 3 ∷ counts 31 16 8 9 ∷ []
 
-pub marked-hold : All (λ r. (quorum (r .n) ≡ r .q) × (backing (r .n) 0 ≡ r .of-0) × (backing (r .n) 1 ≡ r .of-1)) marked
+pub samples-hold : All (λ r. (quorum (r .n) ≡ r .q) × (backing (r .n) 0 ≡ r .of-0) × (backing (r .n) 1 ≡ r .of-1)) samples
 unfolding backing pick
-marked-hold = ((refl, refl, refl), ((refl, refl, refl), ((refl, refl, refl), tt)))
+samples-hold = ((refl, refl, refl), ((refl, refl, refl), ((refl, refl, refl), tt)))

@@ -6,3 +6,4 @@ pub mod Bundle
 pub mod Layout
 pub mod Shape
 pub mod Codes
+pub mod ReadBack

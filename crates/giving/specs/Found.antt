@@ -70,18 +70,18 @@ module _ (m : Module) (k : Station) (x : Following) (d : ℕ) (out : List ℕ) w
   pub next-sent : (f : Fields) (count : ℕ) (t : Station) (after : Module) (xs group : List ℕ) (z set q : ℕ)
       → group ≡ group-by (x .second) (k .groups) → q ≡ quorum (m .n) → z ≡ count-by (x .first) (x .second) q → set ≡ set-by (x .first)
       → (count ≡ sent-count set z out) × (t ≡ sent-station m (k .identity .question) (x .stage) d (sent-bundle m (k .identity .question) f (k .held .slots) set group z out))
-      × (after ≡ sent-after m (k .identity .question) f) × (xs ≡ sent-lent m (k .identity .question) f (k .held .slots) set group z out)
+      × (after ≡ sent-after m (k .identity .question) f (k .held .slots) set group z out) × (xs ≡ sent-lent m (k .identity .question) f (k .held .slots) set group z out)
       → (count ≡ sent-count (set-by (x .first)) (count-by (x .first) (x .second) (quorum (m .n))) out)
       × (t ≡ sent-station m (k .identity .question) (x .stage) d (sent-bundle m (k .identity .question) f (k .held .slots) (set-by (x .first)) (group-by (x .second) (k .groups)) (count-by (x .first) (x .second) (quorum (m .n))) out))
-      × (after ≡ sent-after m (k .identity .question) f)
+      × (after ≡ sent-after m (k .identity .question) f (k .held .slots) (set-by (x .first)) (group-by (x .second) (k .groups)) (count-by (x .first) (x .second) (quorum (m .n))) out)
       × (xs ≡ sent-lent m (k .identity .question) f (k .held .slots) (set-by (x .first)) (group-by (x .second) (k .groups)) (count-by (x .first) (x .second) (quorum (m .n))) out)
   next-sent f count t after xs group z set q eg eq ez es h =
       let e : z ≡ count-by (x .first) (x .second) (quorum (m .n)) = ez ∙ ap (count-by (x .first) (x .second)) eq in
       rw (eg, e, es) at h
 
-  module _ (f : Fields) (st : Step) (v : Bool) (ef : f ≡ own-fields m (x .kind) (x .value) (x .flag) (x .round)) (et : st ≡ step-in f)
+  module _ (f : Fields) (st : Step) (v : Bool) (ef : f ≡ own-fields m (x .kind) (x .value) (x .flag) (x .round .0)) (et : st ≡ step-in f)
       (ev : v ≡ above (m .last) (k .identity .question) (st .0)) where
-    tested : v ≡ above (m .last) (k .identity .question) (step-of (x .kind) (x .round))
+    tested : v ≡ above (m .last) (k .identity .question) (step-of (x .kind) (x .round .0))
     unfolding step-in
     tested = rw (et, ef) at ev
 
@@ -92,13 +92,13 @@ module _ (m : Module) (k : Station) (x : Following) (d : ℕ) (out : List ℕ) w
     pub moved-sent : (number count : ℕ) (t : Station) (after : Module) (xs : List ℕ) → not v ≡ false → number ≡ answer (k .decision) d
         → (count ≡ sent-count (set-by (x .first)) (count-by (x .first) (x .second) (quorum (m .n))) out)
         × (t ≡ sent-station m (k .identity .question) (x .stage) d (sent-bundle m (k .identity .question) f (k .held .slots) (set-by (x .first)) (group-by (x .second) (k .groups)) (count-by (x .first) (x .second) (quorum (m .n))) out))
-        × (after ≡ sent-after m (k .identity .question) f)
+        × (after ≡ sent-after m (k .identity .question) f (k .held .slots) (set-by (x .first)) (group-by (x .second) (k .groups)) (count-by (x .first) (x .second) (quorum (m .n))) out)
         × (xs ≡ sent-lent m (k .identity .question) f (k .held .slots) (set-by (x .first)) (group-by (x .second) (k .groups)) (count-by (x .first) (x .second) (quorum (m .n))) out)
         → Answers (moving m k x d out) number count t after xs
     unfolding moving sending-words
     moved-sent number count t after xs h en s =
         let r : Answers (sending-words m k x f d out) number count t after xs = record { number-is = en; count-is = s .0; station-is = s .1; after-is = s .2; lent-is = s .3 } in
-        answers-same (sending-words m k x (own-fields m (x .kind) (x .value) (x .flag) (x .round)) d out) (moving m k x d out) number count t after xs
+        answers-same (sending-words m k x (own-fields m (x .kind) (x .value) (x .flag) (x .round .0)) d out) (moving m k x d out) number count t after xs
         (here _ _ _ (sym tested ∙ not-false v h))
         (subst (λ (z : Fields). Answers (sending-words m k x z d out) number count t after xs) ef r)
 

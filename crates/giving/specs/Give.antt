@@ -19,11 +19,10 @@ use Rattle.sealed.specs.declared.Module.{Module}
 use Rattle.sealed.specs.Sealed.{above, last-for}
 use Rattle.station.specs.declared.Station.{Station}
 use Rattle.station.specs.Machine.{refused, taken, closes, decision-at}
-use Rattle.station.specs.Words.{held-by, state-of}
+use Rattle.station.specs.Words.{held-by, state-of, Lengths}
 use Rattle.station.specs.Words as W
 use Rattle.station.specs.Calls.{Returned, returned, give-tests, giving}
 use Rattle.station.specs.Answers.{Answers}
-use Rattle.station.specs.FitSane.{Lengths}
 use Rattle.station.specs.Views.{Accepted, accepted, after}
 use Rattle.refusal.specs.Refusal.{first-refusal, first-refusal-by-length}
 use Rattle.compression.specs.Shape.{Below}
@@ -56,7 +55,7 @@ module _ (m : Module) (t : Station) (ws : List ℕ) (coin : ℕ) (out : List ℕ
   unfolding after-words ending-words moving sending-words answer pick
   twelve-lent k =
       go (ltb (ones (k .held .heard)) (quorum (m .n))) (closes (k .stage))
-      (above (m .last) (k .identity .question) (step-of (next-by (m .n) (k .stage) (k .held .heard) (k .held .slots) coin .kind) (next-by (m .n) (k .stage) (k .held .heard) (k .held .slots) coin .round)))
+      (above (m .last) (k .identity .question) (step-of (next-by (m .n) (k .stage) (k .held .heard) (k .held .slots) coin .kind) (next-by (m .n) (k .stage) (k .held .heard) (k .held .slots) coin .round .0)))
     where
       d : ℕ
       d = decision-at (k .stage) (k .decision) (held-by k)
@@ -64,7 +63,7 @@ module _ (m : Module) (t : Station) (ws : List ℕ) (coin : ℕ) (out : List ℕ
       sends-it : Returned
       sends-it =
           let x = next-by (m .n) (k .stage) (k .held .heard) (k .held .slots) coin in
-          sending-words m k x (own-fields m (x .kind) (x .value) (x .flag) (x .round)) d out
+          sending-words m k x (own-fields m (x .kind) (x .value) (x .flag) (x .round .0)) d out
 
       all : Bool → Bool → Bool → Returned
       all a b c = pick a (with-no-bundle kept k m out) (pick b (with-no-bundle closed-now (shut-words k d) m out) (pick c sends-it (with-no-bundle not-above k m out)))

@@ -64,15 +64,15 @@ sending-words m k x f d out =
       number = answer (k .decision) d;
       count = sent-count set size out;
       station = sent-station m q (x .stage) d (sent-bundle m q f (k .held .slots) set group size out);
-      after = sent-after m q f;
+      after = sent-after m q f (k .held .slots) set group size out;
       lent = sent-lent m q f (k .held .slots) set group size out;
     }
 
 -- "only where a bundle would be written, 12"
 unfoldable pub moving : Module → Station → Following → ℕ → List ℕ → Returned
 moving m k x d out =
-    pick (above (m .last) (k .identity .question) (step-of (x .kind) (x .round)))
-    (sending-words m k x (own-fields m (x .kind) (x .value) (x .flag) (x .round)) d out)
+    pick (above (m .last) (k .identity .question) (step-of (x .kind) (x .round .0)))
+    (sending-words m k x (own-fields m (x .kind) (x .value) (x .flag) (x .round .0)) d out)
     (with-no-bundle not-above k m out)
 
 -- a closed station keeps its identity, its stage and its decision

@@ -19,7 +19,7 @@ use Rattle.format.specs.Bundle.{main-of, certificate-of}
 use Rattle.certificate.specs.Rules.{Rising, some-D-GET, some-value, Holds}
 use Rattle.certificate.specs.Check.{every}
 use Rattle.sealed.specs.declared.Module.{Module}
-use Rattle.sealed.specs.Sealed.{advanced}
+use Rattle.sealed.specs.Sealed.{above, last-for, advanced, module-fits}
 use Rattle.station.specs.declared.Groups.{Groups}
 use Rattle.station.specs.declared.Stage.{Stage}
 use Rattle.station.specs.declared.Stage.the-variants.{Gathering, Proposing, Voting}
@@ -28,7 +28,7 @@ use Rattle.station.specs.Machine.{State, Next, next, proposing, voting, began, 
 use Rattle.station.specs.Calls.{Returned}
 use Rattle.station.specs.Words.{sites, bundle-of, over, set-of, slots-of, all-written, group-words, held-in, held-by, state-of}
 use Rattle.station.specs.Words as W
-use Rattle.station.specs.ReadBack.{Proper}
+use Rattle.format.specs.ReadBack.{Proper}
 use Rattle.station.specs.Slots.{ones-set, held-back}
 use Rattle.station.specs.Sane.{Kept, InRounds}
 use Rattle.station.specs.End.{Full, Ready, kept-equal, kept-none, both-values}
@@ -195,8 +195,9 @@ module _ (n : ℕ) (K : State) (top : n ≤ 31) (F : Full n K) where
 
 -- what is sent, by words and by the definition
 module _ (m : Module) (K : State) (top : m .n ≤ 31) (F : Full (m .n) K) (d : ℕ) (out : List ℕ) (room : 331 ≤ length out) (X : Following) (x : Next)
-    (ek : X .kind ≡ x .kind) (ev : X .value ≡ x .value) (ef : X .flag ≡ x .flag) (er : X .round ≡ x .round) (es : X .stage ≡ x .stage)
-    (C : Chosen (m .n) K top F X x) (p : Proper (m .n) (own-statement m (K .question) (x .kind) (x .value) (x .flag) (x .round))) where
+    (ek : X .kind ≡ x .kind) (ev : X .value ≡ x .value) (ef : X .flag ≡ x .flag) (er : X .round .0 ≡ x .round) (es : X .stage ≡ x .stage)
+    (C : Chosen (m .n) K top F X x) (p : Proper (m .n) (own-statement m (K .question) (x .kind) (x .value) (x .flag) (x .round))) (fit : module-fits m ≡ true)
+    (later : above (last-for m (K .question)) (K .question) (step (own-statement m (K .question) (x .kind) (x .value) (x .flag) (x .round))) ≡ true) where
   abbrev s : Statement
   s = own-statement m (K .question) (x .kind) (x .value) (x .flag) (x .round)
 
@@ -204,7 +205,7 @@ module _ (m : Module) (K : State) (top : m .n ≤ 31) (F : Full (m .n) K) (d : �
   k = W.station-of (m .n) (m .number) K
 
   abbrev f : Fields
-  f = own-fields m (X .kind) (X .value) (X .flag) (X .round)
+  f = own-fields m (X .kind) (X .value) (X .flag) (X .round .0)
 
   abbrev by-definition : Returned
   by-definition =
@@ -228,15 +229,16 @@ module _ (m : Module) (K : State) (top : m .n ≤ 31) (F : Full (m .n) K) (d : �
       = λ i. sent-lent m (K .question) (own-fields m (ek i) (ev i) (ef i) (er i)) (slots-of (K .held) 1 sites) (C .set i) (group-by (X .second) (k .groups)) (C .size i) out in
       let count1 : sent-count (set-by (X .first)) (count-by (X .first) (X .second) (quorum (m .n))) out ≡ bundle-words (length (x .first ++ x .second))
       = (λ i. sent-count (C .set i) (C .size i) out)
-      ∙ count-is m (K .question) (x .kind) (x .value) (x .flag) (x .round) (x .stage) d (C .held) (C .more) (slots-of (K .held) 1 sites) (group-by (X .second) (k .groups)) (C .made) (x .first) (x .second) (C .same) out room p in
+      ∙ count-is m (K .question) (x .kind) (x .value) (x .flag) (x .round) (x .stage) d (C .held) (C .more) (slots-of (K .held) 1 sites) (group-by (X .second) (k .groups)) (C .made) (x .first) (x .second) (C .same) out room p fit later in
       let station1 : sent-station m (K .question) (X .stage) d (sent-bundle m (K .question) f (slots-of (K .held) 1 sites) (set-by (X .first)) (group-by (X .second) (k .groups)) (count-by (X .first) (X .second) (quorum (m .n))) out)
       ≡ W.station-of (m .n) (m .number) (began (K .question) (x .stage) d s (x .first))
       = (λ i. sent-station m (K .question) (es i) d (sent-bundle m (K .question) (own-fields m (ek i) (ev i) (ef i) (er i)) (slots-of (K .held) 1 sites) (C .set i) (group-by (X .second) (k .groups)) (C .size i) out))
-      ∙ station-is m (K .question) (x .kind) (x .value) (x .flag) (x .round) (x .stage) d (C .held) (C .more) (slots-of (K .held) 1 sites) (group-by (X .second) (k .groups)) (C .made) (x .first) (x .second) (C .same) out room p
+      ∙ station-is m (K .question) (x .kind) (x .value) (x .flag) (x .round) (x .stage) d (C .held) (C .more) (slots-of (K .held) 1 sites) (group-by (X .second) (k .groups)) (C .made) (x .first) (x .second) (C .same) out room p fit later
       (subst Below lent0 low) one two in
-      let after1 : sent-after m (K .question) f ≡ advanced m (K .question) (step s)
-      = (λ i. sent-after m (K .question) (own-fields m (ek i) (ev i) (ef i) (er i)))
-      ∙ after-is m (K .question) (x .kind) (x .value) (x .flag) (x .round) (x .stage) d (C .held) (C .more) (slots-of (K .held) 1 sites) (group-by (X .second) (k .groups)) (C .made) (x .first) (x .second) (C .same) out room p in
+      let after1 : sent-after m (K .question) f (slots-of (K .held) 1 sites) (set-by (X .first)) (group-by (X .second) (k .groups)) (count-by (X .first) (X .second) (quorum (m .n))) out
+      ≡ advanced m (K .question) (step s)
+      = (λ i. sent-after m (K .question) (own-fields m (ek i) (ev i) (ef i) (er i)) (slots-of (K .held) 1 sites) (C .set i) (group-by (X .second) (k .groups)) (C .size i) out)
+      ∙ after-is m (K .question) (x .kind) (x .value) (x .flag) (x .round) (x .stage) d (C .held) (C .more) (slots-of (K .held) 1 sites) (group-by (X .second) (k .groups)) (C .made) (x .first) (x .second) (C .same) out room p fit later in
       let lent1 = lent0
-      ∙ lent-is m (K .question) (x .kind) (x .value) (x .flag) (x .round) (x .stage) d (C .held) (C .more) (slots-of (K .held) 1 sites) (group-by (X .second) (k .groups)) (C .made) (x .first) (x .second) (C .same) out room p in
+      ∙ lent-is m (K .question) (x .kind) (x .value) (x .flag) (x .round) (x .stage) d (C .held) (C .more) (slots-of (K .held) 1 sites) (group-by (X .second) (k .groups)) (C .made) (x .first) (x .second) (C .same) out room p fit later in
       λ i. record { number = answer (K .decision) d; count = count1 i; station = station1 i; after = after1 i; lent = lent1 i }

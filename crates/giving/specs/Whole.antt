@@ -25,18 +25,18 @@ use Rattle.station.specs.declared.Stage.{Stage}
 use Rattle.station.specs.declared.Stage.the-variants.{Gathering, Proposing, Voting}
 use Rattle.station.specs.declared.Station.{Station}
 use Rattle.station.specs.Machine.{State, Next, supplies-first, Outcome, refused, keeps, sends, own, began, moved, shut, ended, taken, follows, closes, decision-at, keeping, insert, round-in}
-use Rattle.station.specs.Words.{sites, first-of-round, set-of, slot-of, slots-of, all-written, group-words, bundle-of, over, held-in, held-by, state-of}
+use Rattle.station.specs.Words.{sites, first-of-round, set-of, slot-of, slots-of, all-written, group-words, bundle-of, over, held-in, held-by, state-of, Lengths}
 use Rattle.station.specs.Words as W
 use Rattle.station.specs.Calls.{Returned, returned, give-tests, giving, giving-outcome}
-use Rattle.station.specs.ReadBack.{Proper}
+use Rattle.format.specs.ReadBack.{Proper}
 use Rattle.station.specs.Slots.{ones-set, held-back}
 use Rattle.station.specs.Sane.{InRounds}
 use Rattle.station.specs.Keep.{Grown, grown}
 use Rattle.station.specs.Insert.{insert-length}
-use Rattle.station.specs.FitSane.{Lengths}
 use Rattle.station.specs.End.{Full, Ready}
 use Rattle.station.specs.Views.{Accepted, after, decision-then, sent-statement, sane-before, full-after}
 use Rattle.station.specs.Fits.{next-ready, sent-proper}
+use Rattle.station.specs.Seal.{range-fits}
 use Rattle.format.specs.Codes.{hmac-eight}
 use Rattle.compression.specs.Shape.{Below}
 use Rattle.keeping.specs.One.{LowWords}
@@ -90,7 +90,7 @@ module _ (m : Module) (t : Station) (ws : List ℕ) (coin : ℕ) (out : List ℕ
   unfolding returned moving state-of W.station-of step pick sending-words answer
   goes-on size goes d same-d low =
       ap (λ (z : ℕ). returned m t out (pick (above (m .last) q z) sent-all (refused not-above))) (sym (λ i. step-of (ek i) (er i)))
-      ∙ go (above (m .last) q (step-of (X .kind) (X .round))) low
+      ∙ go (above (m .last) q (step-of (X .kind) (X .round .0))) refl low
     where
       q : ℕ
       q = t .identity .question
@@ -113,7 +113,7 @@ module _ (m : Module) (t : Station) (ws : List ℕ) (coin : ℕ) (out : List ℕ
       ek : X .kind ≡ x .kind
       ek = ap (λ (y : Next). y .kind) e
 
-      er : X .round ≡ x .round
+      er : X .round .0 ≡ x .round
       er = ap (λ (y : Next). y .round) e
 
       s : Statement
@@ -122,15 +122,16 @@ module _ (m : Module) (t : Station) (ws : List ℕ) (coin : ℕ) (out : List ℕ
       sent-all : Outcome
       sent-all = sends (pick (ltb (t .decision) none || eqb d none) sent sent-decided) s (x .first ++ x .second) (began (t .identity .question) (x .stage) d s (x .first))
 
-      go : (a : Bool) → Below (pick a (sending-words m k X (own-fields m (X .kind) (X .value) (X .flag) (X .round)) d out) (with-no-bundle not-above k m out) .lent)
+      go : (a : Bool) → above (m .last) q (step-of (X .kind) (X .round .0)) ≡ a → Below (pick a (sending-words m k X (own-fields m (X .kind) (X .value) (X .flag) (X .round .0)) d out) (with-no-bundle not-above k m out) .lent)
           → returned m t out (pick a sent-all (refused not-above))
-          ≡ or-as-was m t out (pick a (sending-words m k X (own-fields m (X .kind) (X .value) (X .flag) (X .round)) d out) (with-no-bundle not-above k m out))
-      go true low =
+          ≡ or-as-was m t out (pick a (sending-words m k X (own-fields m (X .kind) (X .value) (X .flag) (X .round .0)) d out) (with-no-bundle not-above k m out))
+      go true later low =
           skip _ _ _ _ (not-12 (ltb (t .decision) none || eqb d none))
           (sym (sending-is m K (A .range .at-most-31) F d out (A .room) X x ek (ap (λ (y : Next). y .value) e) (ap (λ (y : Next). y .flag) e) er (ap (λ (y : Next). y .stage) e)
-          (chosen (m .n) K (A .range .at-most-31) F (t .stage) refl goes coin R) (sent-proper hmac-code hmac-eight m t ws coin out L A size goes) low
+          (chosen (m .n) K (A .range .at-most-31) F (t .stage) refl goes coin R) (sent-proper hmac-code hmac-eight m t ws coin out L A size goes)
+          (range-fits m (A .range)) (ap (above (m .last) q) (sym (λ i. step-of (ek i) (er i))) ∙ later) low
           (λ h. R .first s refl refl h .size ∙ first-full (m .n) (x .stage) (x .value) s h) (λ h. R .second s refl refl h .size)))
-      go false low = refl
+      go false later low = refl
 
   -- the step has ended
   ends : length (K .held) ≡ quorum (m .n) → Below (ending-words m k coin out .lent)

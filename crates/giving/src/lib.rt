@@ -101,7 +101,7 @@ fn answer(old: u32, d: u32) -> u32
 fn send_next(m: Module, k: Station, x: Following, f: Fields, d: u32, out: &mut [u32]) -> Sent
     ensures { λ r. ⌜ (r .count ≡ sent-count (set-by (x .first)) (count-by (x .first) (x .second) (Quorum (m .n))) (now (out .entry)))
         × (r .station ≡ sent-station m (k .identity .question) (x .stage) d (sent-bundle m (k .identity .question) f (k .held .slots) (set-by (x .first)) (group-by (x .second) (k .groups)) (count-by (x .first) (x .second) (Quorum (m .n))) (now (out .entry))))
-        × (r .after ≡ sent-after m (k .identity .question) f)
+        × (r .after ≡ sent-after m (k .identity .question) f (k .held .slots) (set-by (x .first)) (group-by (x .second) (k .groups)) (count-by (x .first) (x .second) (Quorum (m .n))) (now (out .entry)))
         × (now (out .exit) ≡ sent-lent m (k .identity .question) f (k .held .slots) (set-by (x .first)) (group-by (x .second) (k .groups)) (count-by (x .first) (x .second) (Quorum (m .n))) (now (out .entry))) ⌝ }
 {
     let identity = k.identity;
@@ -129,8 +129,8 @@ fn send_next(m: Module, k: Station, x: Following, f: Fields, d: u32, out: &mut [
 }
 
 // The fields of the statement that follows, of the module's station.
-fn own_fields(number: u32, kind: u32, value: u32, flag: u32, round: u32) -> Fields
-    ensures { λ r. ⌜ r ≡ record { kind = kind; value = value; flag = flag; spare = 0; station = number; round = record { 0 = round } } ⌝ }
+fn own_fields(number: u32, kind: u32, value: u32, flag: u32, round: Round) -> Fields
+    ensures { λ r. ⌜ r ≡ record { kind = kind; value = value; flag = flag; spare = 0; station = number; round = round } ⌝ }
 {
     Fields {
         kind,
@@ -138,7 +138,7 @@ fn own_fields(number: u32, kind: u32, value: u32, flag: u32, round: u32) -> Fiel
         flag,
         spare: 0,
         station: number,
-        round: Round(round),
+        round,
     }
 }
 
@@ -148,7 +148,8 @@ fn go_on(m: Module, k: Station, x: Following, d: u32, out: &mut [u32]) -> Given
 {
     let identity = k.identity;
     let last = m.last;
-    let f = own_fields(m.number, x.kind, x.value, x.flag, x.round);
+    let round = x.round;
+    let f = own_fields(m.number, x.kind, x.value, x.flag, round);
     if !sealed::above(last, identity.question, format::step_of(f)) {
         return no_bundle(12, k, m);
     }

@@ -25,12 +25,11 @@ use Rattle.station.specs.declared.Stage.the-variants.{Gathering, Proposing, Vot
 use Rattle.station.specs.declared.Station.{Station}
 use Rattle.certificate.specs.Rules.{some, holds, in-order}
 use Rattle.station.specs.Machine.{State, stage-step, keeping, insert, held-of, takes, began, supplies-first, supplies-second}
-use Rattle.station.specs.Words.{state-of, bundle-of, held-in, held-by, kept-first, kept-second, no-group}
+use Rattle.station.specs.Words.{state-of, bundle-of, held-in, held-by, kept-first, kept-second, no-group, Lengths}
 use Rattle.station.specs.Words as W
-use Rattle.station.specs.ReadBack.{Proper}
+use Rattle.format.specs.ReadBack.{Proper}
 use Rattle.station.specs.Bundles.{main-is, certificate-is, bundle-there}
 use Rattle.station.specs.Fit.{slots-fit, zeros, group-fits}
-use Rattle.station.specs.FitSane.{Lengths}
 use Rattle.compression.specs.Shape.{Below}
 use Rattle.keeping.specs.One.{LowWords, Fit}
 use Rattle.keeping.specs.Kept.{kept-words}

@@ -21,10 +21,9 @@ use Rattle.certificate.specs.Valid.{Bundle}
 use Rattle.sealed.specs.declared.Module.{Module}
 use Rattle.station.specs.declared.Station.{Station}
 use Rattle.station.specs.Machine.{keeping, insert, held-of, takes, supplies-first, supplies-second}
-use Rattle.station.specs.Words.{set-of, slot-of, slots-of, group-words, sites, held-by, state-of}
+use Rattle.station.specs.Words.{set-of, slot-of, slots-of, group-words, sites, held-by, state-of, Lengths}
 use Rattle.station.specs.Words as W
 use Rattle.station.specs.Slots.{bit-set}
-use Rattle.station.specs.FitSane.{Lengths}
 use Rattle.station.specs.Views.{Accepted}
 use Rattle.compression.specs.Shape.{Below}
 use Rattle.keeping.specs.Back.{written-back, all-slots}

@@ -22,12 +22,12 @@ use Rattle.certificate.specs.Check.{every}
 use Rattle.certificate.specs.Rules.{Rising, holds, some}
 use Rattle.station.specs.declared.Station.{Station}
 use Rattle.station.specs.Machine.{held-of, stage-step}
-use Rattle.station.specs.Words.{set-of, slot-of, slots-of, group-words, sites, held-by, kept-first, kept-second, state-of}
+use Rattle.station.specs.Words.{set-of, slot-of, slots-of, group-words, sites, held-by, kept-first, kept-second, state-of, Lengths}
 use Rattle.station.specs.Words as W
 use Rattle.station.specs.Fit.{slots-fit, zeros, stage-fits, group-fits, held-fits, rest-fits, fits}
 use Rattle.station.specs.Slots.{all-two, bit-set, slot-held}
 use Rattle.station.specs.Sane.{At, find, no-slot}
-use Rattle.station.specs.FitSane.{Lengths, read-slots, bit-held, first-size, second-size}
+use Rattle.station.specs.FitSane.{read-slots, bit-held, first-size, second-size}
 use Rattle.compression.specs.Shape.{Below}
 use Rattle.keeping.specs.Back.{group-back, set-back, slot-words, all-slots}
 

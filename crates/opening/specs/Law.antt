@@ -19,7 +19,7 @@ use Rattle.station.specs.declared.Stage.the-variants.{Gathering}
 use Rattle.station.specs.Calls.{Returned, opening}
 use Rattle.station.specs.Views.{InRange, in-range}
 use Rattle.station.specs.Fits.{own-proper}
-use Rattle.station.specs.ReadBack.{Proper}
+use Rattle.format.specs.ReadBack.{Proper}
 use Rattle.station.specs.Decision.{opens, opened-with}
 use Rattle.station.specs.Answers.{Answers}
 use Rattle.writer.specs.Bundle.{Certificate}
@@ -37,7 +37,7 @@ no-certificate n slots group top =
 module _ (m : Module) (question proposal : ℕ) (out slots group : List ℕ) where
   pub opens-answers : (k count : ℕ) (t : Station) (after : Module) (xs : List ℕ) (f : Fields) → k ≡ open-refusal m question proposal (length out) → k ≡ 0
       → f ≡ own-fields m kind-INIT proposal D-GET 0
-      → (count ≡ sent-count 0 0 out) × (t ≡ sent-station m question Gathering 2 (sent-bundle m question f slots 0 group 0 out)) × (after ≡ sent-after m question f)
+      → (count ≡ sent-count 0 0 out) × (t ≡ sent-station m question Gathering 2 (sent-bundle m question f slots 0 group 0 out)) × (after ≡ sent-after m question f slots 0 group 0 out)
       × (xs ≡ sent-lent m question f slots 0 group 0 out)
       → Below xs → Answers (opening hmac-code m question proposal out) sent count t after xs
   unfolding Rattle.station.specs.Words.set-of step step-of Rattle.laws.specs.Pick.pick
@@ -51,10 +51,10 @@ module _ (m : Module) (question proposal : ℕ) (out slots group : List ℕ) whe
       let lo : Below (sent-lent m question (own-fields m kind-INIT proposal D-GET 0) slots 0 group 0 out) = rw (← x) low in
       record {
         number-is = ap (λ (y : Returned). y .number) (sym r);
-        count-is = s .0 ∙ count-is m question kind-INIT proposal D-GET 0 Gathering none [] [] slots group C [] [] refl out (P .room) p ∙ ap (λ (y : Returned). y .count) (sym r);
+        count-is = s .0 ∙ count-is m question kind-INIT proposal D-GET 0 Gathering none [] [] slots group C [] [] refl out (P .room) p (P .fit) (P .later) ∙ ap (λ (y : Returned). y .count) (sym r);
         station-is = rw (← ef) (s .1)
-            ∙ station-is m question kind-INIT proposal D-GET 0 Gathering none [] [] slots group C [] [] refl out (P .room) p lo (λ z. never false refl z) (λ z. never false refl z)
+            ∙ station-is m question kind-INIT proposal D-GET 0 Gathering none [] [] slots group C [] [] refl out (P .room) p (P .fit) (P .later) lo (λ z. never false refl z) (λ z. never false refl z)
             ∙ ap (λ (y : Returned). y .station) (sym r);
-        after-is = rw (← ef) (s .2) ∙ after-is m question kind-INIT proposal D-GET 0 Gathering none [] [] slots group C [] [] refl out (P .room) p ∙ ap (λ (y : Returned). y .after) (sym r);
-        lent-is = x ∙ lent-is m question kind-INIT proposal D-GET 0 Gathering none [] [] slots group C [] [] refl out (P .room) p ∙ ap (λ (y : Returned). y .lent) (sym r);
+        after-is = rw (← ef) (s .2) ∙ after-is m question kind-INIT proposal D-GET 0 Gathering none [] [] slots group C [] [] refl out (P .room) p (P .fit) (P .later) ∙ ap (λ (y : Returned). y .after) (sym r);
+        lent-is = x ∙ lent-is m question kind-INIT proposal D-GET 0 Gathering none [] [] slots group C [] [] refl out (P .room) p (P .fit) (P .later) ∙ ap (λ (y : Returned). y .lent) (sym r);
       }

@@ -49,7 +49,7 @@ fn refusal(m: Module, question: u32, proposal: u32, lent: usize) -> u32
     first(331 <= lent, range, later)
 }
 
-// The station that a refused opening returns: closed and all zero.
+// The station that a refused opening returns: of no group, closed, undecided and otherwise zero.
 pub fn none() -> Station
     ensures { λ r. ⌜ r ≡ no-station ⌝ }
 {
@@ -70,7 +70,7 @@ pub fn none() -> Station
         identity,
         stage: Stage::Gathering,
         closed: true,
-        decision: 0,
+        decision: 2,
         held,
         groups,
     }

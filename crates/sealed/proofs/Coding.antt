@@ -18,7 +18,7 @@ use Rattle.format.specs.Group.{size-fits}
 use Rattle.format.specs.Words.{of-group, formed, fields-of, step-in}
 use Rattle.format.specs.Statement.{Statement, statement, written, step, hmac-code}
 use Rattle.sealed.specs.declared.Module.{Module}
-use Rattle.sealed.specs.Sealed.{above, making, fresh, no-module, module-fits, advanced, Coded, is-toss, signed, with-value, coding, coding-tests, coding-plain, coding-coin}
+use Rattle.sealed.specs.Sealed.{above, making, fresh, no-module, module-fits, advanced, Coded, by-plain, by-coin, signed, with-value, tossed, coding, coding-tests, coding-plain, coding-coin}
 use Rattle.sealed.specs.Answers.{Answered, Tested, word-with, lent-with}
 
 -- the same, by its words
@@ -95,27 +95,27 @@ finished m ws v number f s after lent n-is f-is s-is after-is lent-is =
     lent-is
 
 -- the two ways, from what the code computes
-pub plain-is : (m : Module) (ws : List ℕ) (w : ℕ) (f : Fields) (fit toss : Bool) (number : ℕ)
-    → w ≡ getD ws 0 0 → f ≡ fields-of w → fit ≡ module-fits m → toss ≡ (eqb (f .kind) kind-P && eqb (f .flag) R-GET)
-    → number ≡ first-failed (test fit out-of-range ∷ coding-tests m ws (not toss))
+pub plain-is : (m : Module) (ws : List ℕ) (w : ℕ) (f : Fields) (fit way : Bool) (number : ℕ)
+    → w ≡ getD ws 0 0 → f ≡ fields-of w → fit ≡ module-fits m → way ≡ by-plain (f .kind) (f .flag)
+    → number ≡ first-failed (test fit out-of-range ∷ coding-tests m ws way)
     → coding (hmac-code (m .key)) m (with-value (f .value) (statement ws 0)) ws number ≡ coding-plain hmac-code m ws
 unfolding coding-plain fields-of
-plain-is m ws w f fit toss number w-is f-is fit-is toss-is n-is =
+plain-is m ws w f fit way number w-is f-is fit-is way-is n-is =
     let fe : f ≡ fields-of (getD ws 0 0) = f-is ∙ ap fields-of w-is in
-    let te : toss ≡ is-toss (statement ws 0) = toss-is ∙ (λ i. eqb (fe i .kind) kind-P && eqb (fe i .flag) R-GET) in
-    let ne : number ≡ first-failed (test (module-fits m) out-of-range ∷ coding-tests m ws (not (is-toss (statement ws 0))))
-    = n-is ∙ (λ i. first-failed (test (fit-is i) out-of-range ∷ coding-tests m ws (not (te i)))) in
+    let te : way ≡ by-plain (statement ws 0 .kind) (statement ws 0 .flag) = way-is ∙ (λ i. by-plain (fe i .kind) (fe i .flag)) in
+    let ne : number ≡ first-failed (test (module-fits m) out-of-range ∷ coding-tests m ws (by-plain (statement ws 0 .kind) (statement ws 0 .flag)))
+    = n-is ∙ (λ i. first-failed (test (fit-is i) out-of-range ∷ coding-tests m ws (te i))) in
     λ i. coding (hmac-code (m .key)) m (with-value (fe i .value) (statement ws 0)) ws (ne i)
 
-pub coin-is : (m : Module) (ws : List ℕ) (coin w : ℕ) (f : Fields) (fit toss : Bool) (number : ℕ)
-    → w ≡ getD ws 0 0 → f ≡ fields-of w → fit ≡ module-fits m → toss ≡ (eqb (f .kind) kind-P && eqb (f .flag) R-GET)
-    → number ≡ first-failed (test (fit && ltb coin 2) out-of-range ∷ coding-tests m ws toss)
-    → coding (hmac-code (m .key)) m (with-value coin (statement ws 0)) ws number ≡ coding-coin hmac-code m ws coin
+pub coin-is : (m : Module) (ws : List ℕ) (coin w : ℕ) (f : Fields) (fit way : Bool) (number : ℕ)
+    → w ≡ getD ws 0 0 → f ≡ fields-of w → fit ≡ module-fits m → way ≡ by-coin (f .kind) (f .flag)
+    → number ≡ first-failed (test (fit && ltb coin 2) out-of-range ∷ coding-tests m ws way)
+    → coding (hmac-code (m .key)) m (tossed coin (statement ws 0)) ws number ≡ coding-coin hmac-code m ws coin
 unfolding coding-coin fields-of
-coin-is m ws coin w f fit toss number w-is f-is fit-is toss-is n-is =
+coin-is m ws coin w f fit way number w-is f-is fit-is way-is n-is =
     let fe : f ≡ fields-of (getD ws 0 0) = f-is ∙ ap fields-of w-is in
-    let te : toss ≡ is-toss (statement ws 0) = toss-is ∙ (λ i. eqb (fe i .kind) kind-P && eqb (fe i .flag) R-GET) in
-    ap (coding (hmac-code (m .key)) m (with-value coin (statement ws 0)) ws)
+    let te : way ≡ by-coin (statement ws 0 .kind) (statement ws 0 .flag) = way-is ∙ (λ i. by-coin (fe i .kind) (fe i .flag)) in
+    ap (coding (hmac-code (m .key)) m (tossed coin (statement ws 0)) ws)
     (n-is ∙ (λ i. first-failed (test (fit-is i && ltb coin 2) out-of-range ∷ coding-tests m ws (te i))))
 
 -- an answer by an equal definition

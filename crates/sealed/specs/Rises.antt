@@ -13,7 +13,7 @@ use Rattle.format.specs.Numbers.{out-of-range}
 use Rattle.format.specs.Statement.{Statement, statement, written, step}
 use Rattle.sealed.specs.declared.Last.{Last}
 use Rattle.sealed.specs.declared.Module.{Module}
-use Rattle.sealed.specs.Sealed.{above, pair, Coded, module-fits, is-toss, with-value, signed, coding, coding-plain, coding-coin, advanced, last-for, coding-tests}
+use Rattle.sealed.specs.Sealed.{above, pair, Coded, module-fits, by-plain, by-coin, tossed, signed, coding, coding-plain, coding-coin, advanced, last-for, coding-tests}
 
 -- a pair above another, which was coded: a later question, or the same and a later step
 pub data Above (l : Last) (q s : ℕ) : Type 0 where
@@ -71,8 +71,8 @@ did code m ws s range way same-question same-step = go (eqb tests 0) refl
 module _ (mac : List ℕ → List ℕ → List ℕ) (m : Module) (ws : List ℕ) where
   pub plain-rises : Did m ws (statement ws 0) (coding-plain mac m ws)
   unfolding coding-plain
-  plain-rises = did (mac (m .key)) m ws (statement ws 0) (module-fits m) (not (is-toss (statement ws 0))) refl refl
+  plain-rises = did (mac (m .key)) m ws (statement ws 0) (module-fits m) (by-plain (statement ws 0 .kind) (statement ws 0 .flag)) refl refl
 
-  pub coin-rises : (coin : ℕ) → Did m ws (with-value coin (statement ws 0)) (coding-coin mac m ws coin)
+  pub coin-rises : (coin : ℕ) → Did m ws (tossed coin (statement ws 0)) (coding-coin mac m ws coin)
   unfolding coding-coin step
-  coin-rises coin = did (mac (m .key)) m ws (with-value coin (statement ws 0)) (module-fits m && ltb coin 2) (is-toss (statement ws 0)) refl refl
+  coin-rises coin = did (mac (m .key)) m ws (tossed coin (statement ws 0)) (module-fits m && ltb coin 2) (by-coin (statement ws 0 .kind) (statement ws 0 .flag)) refl refl

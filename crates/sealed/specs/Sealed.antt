@@ -57,15 +57,30 @@ pub record Coded : Type 0 where
   pub after : Module
   pub lent : List ℕ
 
--- "a P flagged R-GET"
-abbrev pub is-toss : Statement → Bool
-is-toss s = eqb (s .kind) kind-P && eqb (s .flag) R-GET
+-- "a P flagged R-GET", by kind and flag
+abbrev pub is-R-GET : ℕ → ℕ → Bool
+is-R-GET kind flag = eqb kind kind-P && eqb flag R-GET
 
--- the statement with another value; with the code of its words 0 and 1
+-- what each way is for: "The coin way is only for a P flagged R-GET"; "The plain way takes every other statement and refuses an R-GET"
+abbrev pub by-coin : ℕ → ℕ → Bool
+by-coin kind flag = is-R-GET kind flag
+
+abbrev pub by-plain : ℕ → ℕ → Bool
+by-plain kind flag = not (is-R-GET kind flag)
+
+abbrev pub is-toss : Statement → Bool
+is-toss s = is-R-GET (s .kind) (s .flag)
+
+-- the statement with another value
 abbrev pub with-value : ℕ → Statement → Statement
 with-value v s =
     record { kind = s .kind; value = v; flag = s .flag; station = s .station; round = s .round; question = s .question; code = s .code }
 
+-- "it puts the coin in as the value"
+abbrev pub tossed : ℕ → Statement → Statement
+tossed coin s = with-value coin s
+
+-- the statement with the code of its words 0 and 1
 abbrev pub signed : (List ℕ → List ℕ) → Statement → Statement
 signed code s =
     record {
@@ -98,10 +113,10 @@ module _ (mac : List ℕ → List ℕ → List ℕ) where
   unfoldable pub coding-plain : Module → List ℕ → Coded
   coding-plain m ws =
       coding (mac (m .key)) m (statement ws 0) ws
-      (first-failed (test (module-fits m) out-of-range ∷ coding-tests m ws (not (is-toss (statement ws 0)))))
+      (first-failed (test (module-fits m) out-of-range ∷ coding-tests m ws (by-plain (statement ws 0 .kind) (statement ws 0 .flag))))
 
   -- "The coin way is only for a P flagged R-GET: it puts the coin in as the value and codes in the same call."
   unfoldable pub coding-coin : Module → List ℕ → ℕ → Coded
   coding-coin m ws coin =
-      coding (mac (m .key)) m (with-value coin (statement ws 0)) ws
-      (first-failed (test (module-fits m && ltb coin 2) out-of-range ∷ coding-tests m ws (is-toss (statement ws 0))))
+      coding (mac (m .key)) m (tossed coin (statement ws 0)) ws
+      (first-failed (test (module-fits m && ltb coin 2) out-of-range ∷ coding-tests m ws (by-coin (statement ws 0 .kind) (statement ws 0 .flag))))

@@ -3,15 +3,13 @@ use format::Fields;
 use format::Step;
 use hmac::Prepared;
 ghost use mathlib.Core.Path.{_≡_};
-ghost use mathlib.Core.Bool.{_&&_};
 ghost use mathlib.Core.List.{[], _∷_};
-ghost use lib.Dec.{eqb};
 ghost use lib.ListN.{length, getD};
 ghost use Rattle.laws.specs.Refusals.{test, first-failed};
 ghost use Rattle.hmac.specs.Hmac.{prepared, code-from};
-ghost use Rattle.format.specs.Numbers.{kind-P, R-GET, statement-words, out-of-range, malformed, wrong-code, not-above};
+ghost use Rattle.format.specs.Numbers.{statement-words, out-of-range, malformed, wrong-code, not-above};
 ghost use Rattle.format.specs.Statement.{statement, hmac-code};
-ghost use Rattle.sealed.specs.Sealed.{above as Above, advanced, module-fits, making, coding, coding-plain, coding-coin, with-value};
+ghost use Rattle.sealed.specs.Sealed.{above as Above, advanced, module-fits, making, coding, coding-plain, coding-coin, with-value, by-plain, by-coin};
 ghost use Rattle.sealed.specs.Answers.{Answered, Tested, word-with, lent-with};
 
 // The last pair that a module coded, or none.
@@ -57,7 +55,7 @@ pub fn above(last: Last, question: u32, step: Step) -> bool
 }
 
 // The module once it has coded a pair.
-pub fn advance(m: Module, question: u32, step: Step) -> Module
+fn advance(m: Module, question: u32, step: Step) -> Module
     ensures { λ r. ⌜ r ≡ advanced m question (step .0) ⌝ }
 {
     let key = m.key;
@@ -122,7 +120,7 @@ fn code_pair(key: Prepared, w0: u32, w1: u32) -> [u32; 8]
 }
 
 // The code of two words under the module's key.
-pub fn code_of(m: Module, w0: u32, w1: u32) -> [u32; 8]
+fn code_of(m: Module, w0: u32, w1: u32) -> [u32; 8]
     ensures { λ r. ⌜ r ≡ hmac-code (m .key) (w0 ∷ w1 ∷ []) ⌝ }
 {
     let key = m.key;
@@ -136,11 +134,18 @@ fn word(ws: &[u32], i: usize) -> u32
     if i < ws.len() { ws[i] } else { 0 }
 }
 
-// Whether the fields are those of a P flagged R-GET.
-fn is_toss(f: Fields) -> bool
-    ensures { λ r. ⌜ r ≡ (eqb (f .kind) kind-P && eqb (f .flag) R-GET) ⌝ }
+// Whether the coin way is for the fields: a P flagged R-GET.
+fn by_coin(f: Fields) -> bool
+    ensures { λ r. ⌜ r ≡ by-coin (f .kind) (f .flag) ⌝ }
 {
     (f.kind == 1) & (f.flag == 1)
+}
+
+// Whether the plain way is: every other statement.
+fn by_plain(f: Fields) -> bool
+    ensures { λ r. ⌜ r ≡ by-plain (f .kind) (f .flag) ⌝ }
+{
+    !((f.kind == 1) & (f.flag == 1))
 }
 
 // The number of the first test that fails, in the table's order, or 0.
@@ -234,7 +239,7 @@ pub fn code_plain(m: Module, ws: &mut [u32]) -> Coded
     ensures { λ r. ⌜ Answered (coding-plain hmac-code m (now (ws .entry))) (r .number) (r .after) (now (ws .exit)) ⌝ }
 {
     let f = format::read_fields(word(ws, 0));
-    let number = refusal(m, ws, fits(m), !is_toss(f));
+    let number = refusal(m, ws, fits(m), by_plain(f));
     finish(m, ws, f.value, number)
 }
 
@@ -243,6 +248,6 @@ pub fn code_coin(m: Module, ws: &mut [u32], coin: u32) -> Coded
     ensures { λ r. ⌜ Answered (coding-coin hmac-code m (now (ws .entry)) coin) (r .number) (r .after) (now (ws .exit)) ⌝ }
 {
     let f = format::read_fields(word(ws, 0));
-    let number = refusal(m, ws, fits(m) & (coin < 2), is_toss(f));
+    let number = refusal(m, ws, fits(m) & (coin < 2), by_coin(f));
     finish(m, ws, coin, number)
 }

@@ -1,12 +1,14 @@
 -- What sending leaves, by the words alone. `Law` ties it to the machine's definition, `sends`.
 use Prim.Native.Nat.{ℕ}
-use mathlib.Core.List.{List, [], _∷_}
-use lib.ListN.{length, take}
+use mathlib.Core.List.{List, [], _∷_, _++_}
+use lib.Dec.{eqb}
+use lib.ListN.{length, take, drop, replicate}
+use Rattle.laws.specs.Pick.{pick}
 use Rattle.format.specs.declared.Fields.{Fields}
-use Rattle.format.specs.Words.{word-of, step-in}
+use Rattle.format.specs.Words.{word-of}
 use Rattle.format.specs.Statement.{hmac-code}
 use Rattle.sealed.specs.declared.Module.{Module}
-use Rattle.sealed.specs.Sealed.{advanced}
+use Rattle.sealed.specs.Sealed.{Coded, by-coin, coding-plain, coding-coin}
 use Rattle.station.specs.declared.Stage.{Stage}
 use Rattle.station.specs.declared.Station.{Station}
 use Rattle.writer.specs.Written.{lent-after, count-after}
@@ -17,18 +19,40 @@ use Rattle.keeping.specs.Begun.{blank}
 unfoldable pub sent-count : ℕ → ℕ → List ℕ → ℕ
 sent-count set k out = count-after (length out) set k
 
--- the lent words: the coded statement with these fields, the held statements of the set, and k statements of a kept group
-unfoldable pub sent-lent : Module → ℕ → Fields → List ℕ → ℕ → List ℕ → ℕ → List ℕ → List ℕ
-sent-lent m question f slots set group k out =
-    lent-after (word-of f) question (hmac-code (m .key) (word-of f ∷ question ∷ [])) slots set group k out
+-- the lent words with the statement of these fields, not coded yet: zeros stand where its code will; behind it the held statements of the set, and k
+-- statements of a kept group
+unfoldable pub drafted : ℕ → Fields → List ℕ → ℕ → List ℕ → ℕ → List ℕ → List ℕ
+drafted question f slots set group k out = lent-after (word-of f) question (replicate 8 0) slots set group k out
 
--- the bundle among them
+-- the module's call on the statement's ten words, by the way that is for it: with its value as the coin where it is an R-GET, else plain
+unfoldable pub asked : Module → Fields → List ℕ → Coded
+asked m f ws = pick (by-coin (f .kind) (f .flag)) (coding-coin hmac-code m ws (f .value)) (coding-plain hmac-code m ws)
+
+-- the statement's words within the lent ones: ten behind the head
+abbrev pub main-part : List ℕ → List ℕ
+main-part ws = take 10 (drop 1 ws)
+
+abbrev pub with-main : List ℕ → List ℕ → List ℕ
+with-main main ws = take 1 ws ++ (main ++ drop 10 (drop 1 ws))
+
+-- where words were written their part is lent to the module; else it is not asked
+unfoldable pub coded-lent : Module → Fields → ℕ → List ℕ → List ℕ
+coded-lent m f count ws = pick (eqb count 0) ws (with-main (asked m f (main-part ws) .lent) ws)
+
+unfoldable pub coded-after : Module → Fields → ℕ → List ℕ → Module
+coded-after m f count ws = pick (eqb count 0) m (asked m f (main-part ws) .after)
+
+-- the lent words, and the module
+unfoldable pub sent-lent : Module → ℕ → Fields → List ℕ → ℕ → List ℕ → ℕ → List ℕ → List ℕ
+sent-lent m question f slots set group k out = coded-lent m f (sent-count set k out) (drafted question f slots set group k out)
+
+unfoldable pub sent-after : Module → ℕ → Fields → List ℕ → ℕ → List ℕ → ℕ → List ℕ → Module
+sent-after m question f slots set group k out = coded-after m f (sent-count set k out) (drafted question f slots set group k out)
+
+-- the bundle among the lent words
 unfoldable pub sent-bundle : Module → ℕ → Fields → List ℕ → ℕ → List ℕ → ℕ → List ℕ → List ℕ
 sent-bundle m question f slots set group k out = take (sent-count set k out) (sent-lent m question f slots set group k out)
 
 -- the station: nothing held but the bundle that it wrote
 unfoldable pub sent-station : Module → ℕ → Stage → ℕ → List ℕ → Station
 sent-station m question g d ws = kept-words (blank (m .n) (m .number) question g d) ws
-
-unfoldable pub sent-after : Module → ℕ → Fields → Module
-sent-after m question f = advanced m question (step-in f .0)

@@ -10,7 +10,7 @@ ghost use mathlib.Core.Path.{_≡_};
 ghost use Prim.Native.Nat.{_≤_};
 ghost use lib.ListN.{length, take};
 ghost use Rattle.keeping.specs.Begun.{blank as Blank};
-ghost use Rattle.sending.specs.Sent.{sent-count, sent-lent, sent-bundle, sent-station, sent-after};
+ghost use Rattle.sending.specs.Sent.{coded-lent, coded-after, sent-count, sent-lent, sent-bundle, sent-station, sent-after};
 
 // What sending answers: the word count, the station and the module. The bundle's words are lent.
 pub struct Sent {
@@ -62,6 +62,23 @@ fn begin(
     keeping::keep(t, &out[..count])
 }
 
+// The module codes the statement that stands behind the head of the lent words: with the coin where it is a P flagged R-GET, whose value the coin is;
+// else plain. Where no word was written it is not asked.
+fn code_main(m: Module, f: Fields, count: usize, out: &mut [u32]) -> Module
+    requires { ⌜ ((count ≡ 0 → ⊥) → 11 ≤ length (now out)) ⌝ }
+    ensures { λ r. ⌜ (r ≡ coded-after m f count (now (out .entry))) × (now (out .exit) ≡ coded-lent m f count (now (out .entry))) ⌝ }
+{
+    if count == 0 {
+        return m;
+    }
+    if (f.kind == 1) & (f.flag == 1) {
+        let tossed = sealed::code_coin(m, &mut out[1..11], f.value);
+        return tossed.after;
+    }
+    let coded = sealed::code_plain(m, &mut out[1..11]);
+    coded.after
+}
+
 // Sends a statement with these fields: behind it the held statements of the set, and behind these k statements of a kept group.
 pub fn send(
     m: Module,
@@ -77,14 +94,14 @@ pub fn send(
 ) -> Sent
     ensures { λ r. ⌜ (r .count ≡ sent-count set k (now (out .entry)))
         × (r .station ≡ sent-station m question stage decision (sent-bundle m question f (now (slots .entry)) set (now (group .entry)) k (now (out .entry))))
-        × (r .after ≡ sent-after m question f)
+        × (r .after ≡ sent-after m question f (now (slots .entry)) set (now (group .entry)) k (now (out .entry)))
         × (now (out .exit) ≡ sent-lent m question f (now (slots .entry)) set (now (group .entry)) k (now (out .entry))) ⌝ }
 {
     let w0 = format::write_fields(f);
-    let code = sealed::code_of(m, w0, question);
-    let count = writer::write_bundle(out, w0, question, &code, slots, set, group, k);
+    let blank_code = [0u32; 8];
+    let count = writer::write_bundle(out, w0, question, &blank_code, slots, set, group, k);
+    let after = code_main(m, f, count, out);
     let station = begin(m, question, stage, decision, out, count);
-    let after = sealed::advance(m, question, format::step_of(f));
     Sent {
         count,
         station,

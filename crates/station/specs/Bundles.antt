@@ -17,8 +17,9 @@ use Rattle.format.specs.Bundle.{count-in, main-of, certificate-of, all-formed}
 use Rattle.certificate.specs.Rules.{Holds, Backed, rule-1, rule-2, rule-3, rule-4, rule-5, rule-6, rule-7, some-D-GET}
 use Rattle.certificate.specs.Valid.{Bundle, Valid}
 use Rattle.station.specs.Words.{all-written, bundle-of}
-use Rattle.station.specs.ReadBack.{Proper, statement-drop, statement-back, statements-drop, statements-back, length-written, length-all}
-use Rattle.station.specs.Sane.{formed-back, all-formed-drop, all-formed-back}
+use Rattle.station.specs.ReadBack.{statements-drop, statements-back, length-all}
+use Rattle.format.specs.ReadBack.{Proper, statement-drop, statement-back, length-written, formed-back}
+use Rattle.station.specs.Sane.{all-formed-drop, all-formed-back}
 
 module _ (n : ℕ) (s : Statement) (c : List Statement) (top : n ≤ 31) (p : Proper n s) (a : All (Proper n) c) (few : length c ≤ most-statements) where
   abbrev ws : List ℕ
@@ -48,7 +49,7 @@ module _ (n : ℕ) (s : Statement) (c : List Statement) (top : n ≤ 31) (p : Pr
   formed-in-words : all-formed n ws 1 (suc (count-in ws)) ≡ true
   unfolding all-formed
   formed-in-words =
-      join (formed n (fields-of (getD ws 1 0))) _ (formed-back n s top p)
+      join (formed n (fields-of (getD ws 1 0))) _ (formed-back n s top (p .formed))
       (ap (all-formed n ws 11) count-is ∙ all-formed-drop n ws 11 (length c)
       ∙ ap (λ (l : List ℕ). all-formed n l 0 (length c)) (behind ∙ sym (append-nil (all-written c))) ∙ all-formed-back n c [] top a)
 

@@ -1,16 +1,16 @@
 -- Opening and giving: what the public calls promise, from words to words (document 01, "Table of returns").
-use Prim.Native.Nat.{ℕ, suc, _+_, _*_}
+use Prim.Native.Nat.{ℕ}
 use mathlib.Core.Bool.{Bool, true, false, not, _&&_}
 use mathlib.Core.List.{List, [], _∷_, _++_}
 use lib.Dec.{eqb, ltb, leb}
 use lib.ListN.{length, drop, replicate}
 use Rattle.laws.specs.Pick.{pick}
 use Rattle.laws.specs.Refusals.{Test, test, first-failed}
-use Rattle.format.specs.Numbers.{short-output, output-words, out-of-range, malformed, other-question, wrong-code, no-certificate, station-closed, bundle-words}
-use Rattle.format.specs.Statement.{Statement, statements, hmac-code, step}
-use Rattle.format.specs.Bundle.{count-in, main-of, certificate-of, bundle-fits}
-use Rattle.certificate.specs.Rules.{rule}
-use Rattle.certificate.specs.Check.{one-question, all-verify}
+use Rattle.format.specs.Numbers.{none, short-output, output-words, out-of-range, station-closed, bundle-words}
+use Rattle.format.specs.Statement.{step}
+use Rattle.format.specs.Bundle.{main-of, certificate-of}
+use Rattle.certificate.specs.declared.Which.the-variants.{Only}
+use Rattle.certificate.specs.Check.{bundle-tests}
 use Rattle.sealed.specs.declared.Module.{Module}
 use Rattle.sealed.specs.Sealed.{module-fits, last-for, advanced}
 use Rattle.station.specs.declared.Stage.the-variants.{Gathering}
@@ -44,17 +44,25 @@ returned m t out (sends k s c u) =
 abbrev pub unless : List Test → Outcome → Outcome
 unless l o = pick (eqb (first-failed l) 0) o (refused (first-failed l))
 
--- a refused opening returns this station, closed and all zero, which every call refuses by 2
+-- a refused opening returns this station: of no group, closed, undecided and otherwise zero. Every call refuses it
 unfoldable pub no-station : Station
 no-station =
     record {
       identity = record { n = 0; number = 0; question = 0 };
       stage = Gathering;
       closed = true;
-      decision = 0;
+      decision = none;
       held = record { heard = 0; slots = replicate 310 0 };
       groups = record { first = replicate 160 0; second = replicate 160 0 };
     }
+
+-- what a giving tests before it looks at the words: 1, 2, 11
+abbrev pub station-tests : Module → Station → ℕ → List ℕ → List Test
+station-tests m t coin out =
+    test (leb output-words (length out)) short-output
+    ∷ test (module-fits m && ltb coin 2 && fits (m .n) (m .number) t) out-of-range
+    ∷ test (not (t .closed)) station-closed
+    ∷ []
 
 module _ (mac : List ℕ → List ℕ → List ℕ) where
   -- "Opening tests 1, 2, 12."
@@ -71,14 +79,7 @@ module _ (mac : List ℕ → List ℕ → List ℕ) where
   -- "A station given a bundle tests 1, 2, 11, 3, 4, 5, 6, 7, 8, 9, 10 and, only where a bundle would be written, 12."
   abbrev pub give-tests : Module → Station → List ℕ → ℕ → List ℕ → List Test
   give-tests m t ws coin out =
-      test (leb output-words (length out)) short-output
-      ∷ test (module-fits m && ltb coin 2 && fits (m .n) (m .number) t) out-of-range
-      ∷ test (not (t .closed)) station-closed
-      ∷ test (bundle-fits (m .n) ws) malformed
-      ∷ test (one-question (main-of ws) (certificate-of ws) && eqb (main-of ws .question) (t .identity .question)) other-question
-      ∷ test (all-verify (mac (m .key)) (statements ws 1 (suc (count-in ws)))) wrong-code
-      ∷ test (rule (m .n) (main-of ws) (certificate-of ws)) no-certificate
-      ∷ step-tests (state-of t) (main-of ws)
+      station-tests m t coin out ++ (bundle-tests (mac (m .key)) (m .n) (Only (t .identity .question)) ws ++ step-tests (state-of t) (main-of ws))
 
   abbrev pub giving-outcome : Module → Station → List ℕ → ℕ → List ℕ → Outcome
   giving-outcome m t ws coin out =

@@ -24,6 +24,7 @@ use Rattle.station.specs.declared.Station.{Station}
 use Rattle.station.specs.Machine.{State, Outcome, refused, keeps, sends, Next, next, proposing, insert, has-value, vote-value, decided, carried, decision-after, keeping, follows, decision-at, closes, shut, moved, own, began, ended, taken}
 use Rattle.station.specs.Words.{state-of, bundle-of, over}
 use Rattle.station.specs.Calls.{Returned, returned, give-tests, giving}
+use Rattle.station.specs.Demand.{tossing, CoinEffect, no-effect, tossed}
 
 -- no vote for 0 or 1 among some: none is decided, and no call first decides
 no-votes : (s : Statement) (h : List Statement) → ltb (carried (s ∷ h)) none ≡ false → decided (s ∷ h) ≡ none
@@ -55,16 +56,10 @@ number-20 old new e = rw e (go (ltb old none))
     go false = refl
 
 module _ (code : List ℕ → List ℕ) (n number : ℕ) (last : Last) where
-  -- a coin tossed: 20, and the P flagged R-GET with the coin as its value, sent with the votes and then held
-  abbrev pub tossing : ℕ → ℕ → ℕ → List Statement → ℕ → Outcome
-  tossing question r d votes coin =
-      let s = own code number question kind-P coin R-GET r in
-      sends sent s (votes ++ []) (began question (proposing r R-GET) d s votes)
-
   -- what comes of coin 0 and of coin 1
   pub data Tossed (question : ℕ) (of-0 of-1 : Outcome) : Type 0 where
     no-toss : of-0 ≡ of-1 → Tossed question of-0 of-1
-    toss : (r d : ℕ) (votes : List Statement) → of-0 ≡ tossing question r d votes 0 → of-1 ≡ tossing question r d votes 1 → Tossed question of-0 of-1
+    toss : (r d : ℕ) (votes : List Statement) → of-0 ≡ tossing code number question r d votes 0 → of-1 ≡ tossing code number question r d votes 1 → Tossed question of-0 of-1
 
   ended-tossed : (t : State) → (ltb (carried (t .held)) none ≡ false → decided (t .held) ≡ none) → Tossed (t .question) (ended code n number last t 0) (ended code n number last t 1)
   unfolding ended pick follows step
@@ -125,22 +120,13 @@ module _ (code : List ℕ → List ℕ) (n number : ℕ) (last : Last) where
 
 -- ---- all that giving returns
 module _ (mac : List ℕ → List ℕ → List ℕ) (m : Module) (t : Station) (ws out : List ℕ) where
-  -- 20, and the written bundle is a P flagged R-GET of round r with the coin as its value; its certificate, the votes, is the same for either coin
-  abbrev pub tossed-with : ℕ → ℕ → List Statement → ℕ → Returned
-  tossed-with r d votes coin = returned m t out (tossing (mac (m .key)) (m .n) (m .number) (last-for m (t .identity .question)) (t .identity .question) r d votes coin)
-
-  pub tossed-says : (r d : ℕ) (votes : List Statement) (coin : ℕ)
-      → (tossed-with r d votes coin .number ≡ sent)
-      × (tossed-with r d votes coin .lent ≡ over (bundle-of (own (mac (m .key)) (m .number) (t .identity .question) kind-P coin R-GET r) (votes ++ [])) out)
+  -- what a toss returns: 20, and a bundle whose main statement is a P flagged R-GET of round r with the coin as its value
+  pub tossed-says : (r d : ℕ) (votes : List Statement) (coin : ℕ) → let x = returned m t out (tossing (mac (m .key)) (m .number) (t .identity .question) r d votes coin) in
+      (x .number ≡ sent) × (x .lent ≡ over (bundle-of (own (mac (m .key)) (m .number) (t .identity .question) kind-P coin R-GET r) (votes ++ [])) out)
   unfolding returned
   tossed-says r d votes coin = (refl, refl)
 
-  -- coin 0 and coin 1: the same answer in every part, or a toss in both calls
-  pub data CoinEffect : Type 0 where
-    no-effect : giving mac m t ws 0 out ≡ giving mac m t ws 1 out → CoinEffect
-    tossed : (r d : ℕ) (votes : List Statement) → giving mac m t ws 0 out ≡ tossed-with r d votes 0 → giving mac m t ws 1 out ≡ tossed-with r d votes 1 → CoinEffect
-
-  pub coin-effect : CoinEffect
+  pub coin-effect : CoinEffect mac m t ws out
   unfolding giving pick state-of
   coin-effect = go (eqb (first-failed (give-tests mac m t ws 0 out)) 0) refl refl
     where
@@ -150,10 +136,10 @@ module _ (mac : List ℕ → List ℕ → List ℕ) (m : Module) (t : Station) (
       whole : ℕ → Outcome
       whole coin = taken (mac (m .key)) (m .n) (m .number) (last-for m (t .identity .question)) (state-of t) (main-of ws) (certificate-of ws) coin
 
-      go : (b : Bool) → giving mac m t ws 0 out ≡ returned m t out (pick b (whole 0) (refused k)) → giving mac m t ws 1 out ≡ returned m t out (pick b (whole 1) (refused k)) → CoinEffect
+      go : (b : Bool) → giving mac m t ws 0 out ≡ returned m t out (pick b (whole 0) (refused k)) → giving mac m t ws 1 out ≡ returned m t out (pick b (whole 1) (refused k)) → CoinEffect mac m t ws out
       go true x y = from (taken-tossed (mac (m .key)) (m .n) (m .number) (last-for m (t .identity .question)) (state-of t) (main-of ws) (certificate-of ws))
         where
-          from : Tossed (mac (m .key)) (m .n) (m .number) (last-for m (t .identity .question)) (t .identity .question) (whole 0) (whole 1) → CoinEffect
+          from : Tossed (mac (m .key)) (m .n) (m .number) (last-for m (t .identity .question)) (t .identity .question) (whole 0) (whole 1) → CoinEffect mac m t ws out
           from (no-toss e) = no-effect (x ∙ ap (returned m t out) e ∙ sym y)
           from (toss r d votes e f) = tossed r d votes (x ∙ ap (returned m t out) e) (y ∙ ap (returned m t out) f)
       go false x y = no-effect (x ∙ sym y)

@@ -25,7 +25,7 @@ use Rattle.station.specs.declared.Stage.{Stage}
 use Rattle.station.specs.declared.Stage.the-variants.{Gathering, Proposing, Voting}
 use Rattle.station.specs.Machine.{State, kind-in, round-in, stage-step, supplies-first, supplies-second, number-of, has-value, first-value, those, vote-value, carried, Next, after-inits, after-proposals, after-votes, conflict}
 use Rattle.station.specs.Words.{kept-first, kept-second, first-of-round, leading, no-group}
-use Rattle.station.specs.ReadBack.{Proper}
+use Rattle.format.specs.ReadBack.{Proper}
 use Rattle.station.specs.Slots.{all-two}
 use Rattle.station.specs.Sane.{Kept, InRounds, FlagOf}
 use Rattle.station.specs.Keep.{same-step, all-take}

@@ -29,17 +29,11 @@ use Rattle.station.specs.declared.Stage.{Stage}
 use Rattle.station.specs.declared.Stage.the-variants.{Gathering, Proposing, Voting}
 use Rattle.station.specs.declared.Station.{Station}
 use Rattle.station.specs.Machine.{State, stage-step, held-of, supplies-first, supplies-second, round-in}
-use Rattle.station.specs.Words.{held-in, sites, kept-first, kept-second, first-of-round, leading, no-group, held-by, state-of}
+use Rattle.station.specs.Words.{held-in, sites, kept-first, kept-second, first-of-round, leading, no-group, held-by, state-of, Lengths}
 use Rattle.station.specs.Fit.{zeros, slot-fits, slots-fit, stage-fits, group-fits, held-fits, rest-fits, fits}
-use Rattle.station.specs.ReadBack.{Proper}
+use Rattle.format.specs.ReadBack.{Proper}
 use Rattle.station.specs.Slots.{all-two}
 use Rattle.station.specs.Sane.{Kept, InRounds, FlagOf, Sane}
-
--- the declared lengths of a station's arrays
-pub record Lengths (t : Station) : Type 0 where
-  pub slots : length (t .held .slots) ≡ 310
-  pub first : length (t .groups .first) ≡ 160
-  pub second : length (t .groups .second) ≡ 160
 
 code-eight : (ws : List ℕ) (at : ℕ) → at + 10 ≤ length ws → length (take 8 (drop (at + 2) ws)) ≡ 8
 code-eight ws at h = length-take-le 8 (drop (at + 2) ws) (rw length-drop (omega arith))

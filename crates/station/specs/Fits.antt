@@ -25,16 +25,18 @@ use Rattle.station.specs.declared.Stage.the-variants.{Gathering, Proposi
 use Rattle.station.specs.declared.Station.{Station}
 use Rattle.station.specs.Machine.{State, Outcome, refused, keeps, sends, Next, own, began, shut, keeping, kind-in, round-in, stage-step, supplies-first, supplies-second, closes, decision-at, decision-after, decided, vote-value, follows, after-inits, after-votes, carried, has-value}
 use Rattle.station.specs.Words as W
-use Rattle.station.specs.Words.{kept-first, kept-second, first-of-round, leading, no-group, state-of, group-words, slots-of, all-written, sites}
+use Rattle.station.specs.Words.{kept-first, kept-second, first-of-round, leading, no-group, state-of, group-words, slots-of, all-written, sites, Lengths}
 use Rattle.station.specs.Fit.{fits}
 use Rattle.station.specs.Calls.{Returned, returned, opening, giving, opening-outcome, giving-outcome, no-station}
-use Rattle.station.specs.ReadBack.{Proper, length-all}
+use Rattle.station.specs.ReadBack.{length-all}
+use Rattle.format.specs.ReadBack.{Proper}
 use Rattle.station.specs.Slots.{slots-length}
 use Rattle.station.specs.Sane.{Kept, InRounds, FlagOf, Sane, sane-fits}
-use Rattle.station.specs.FitSane.{Lengths, first-size, second-size}
+use Rattle.station.specs.FitSane.{first-size, second-size}
 use Rattle.station.specs.Keep.{keep-sane}
 use Rattle.station.specs.End.{Full, Given, Ready, inits-ready, inits-backed, votes-ready, votes-backed, proposals-ready, proposals-backed}
-use Rattle.station.specs.Views.{unrefused, InRange, Accepted, after, decision-then, sent-statement, Gives, refuses, holds-on, shuts, goes-on, gives-view, sane-before, full-after, init-statement, Opens, no-opening, begins, opens-view}
+use Rattle.station.specs.Views.{InRange, Accepted, after, decision-then, sent-statement, Gives, refuses, holds-on, shuts, goes-on, gives-view, sane-before, full-after, init-statement, Opens, no-opening, begins, opens-view}
+use Rattle.station.specs.Returns.{unrefused}
 
 -- ---- a station that has just sent
 module _ (n number question d : ℕ) (g : Stage) (s : Statement) (c : List Statement) (big : 2 ≤ n) (p : Proper n s) (mine : s .station ≡ number)

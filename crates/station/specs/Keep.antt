@@ -23,7 +23,7 @@ use Rattle.station.specs.declared.Stage.{Stage}
 use Rattle.station.specs.declared.Stage.the-variants.{Gathering, Proposing, Voting}
 use Rattle.station.specs.Machine.{State, kind-in, round-in, stage-step, held-of, supplies-first, supplies-second, takes, insert, keeping}
 use Rattle.station.specs.Words.{kept-first, kept-second, first-of-round, leading, no-group}
-use Rattle.station.specs.ReadBack.{Proper}
+use Rattle.format.specs.ReadBack.{Proper}
 use Rattle.station.specs.Insert.{insert-all, insert-length, insert-rising, some-insert, leading-new, leading-other, leading-old, lower-some}
 use Rattle.station.specs.Sane.{Kept, InRounds, FlagOf, Sane}
 

@@ -1,7 +1,9 @@
 pub mod Machine
 pub mod Words
 pub mod Fit
+pub mod Returns
 pub mod Calls
+pub mod Demand
 pub mod Marked
 pub mod Order
 pub mod Coin
@@ -20,3 +22,7 @@ pub mod Bundles
 pub mod Written
 pub mod Answers
 pub mod Refused
+pub mod NoStation
+pub mod Seal
+pub mod Theorem
+pub mod AsCalled

@@ -235,10 +235,13 @@ conflict (Proposing r f) h =
     ltb 1 (r .0) && (some (λ s. eqb (s .flag) D-GET && has-value 0 s) h && some (λ s. eqb (s .flag) D-GET && has-value 1 s) h)
 conflict (Voting r) h = some (has-value 0) h && some (has-value 1) h
 
-abbrev pub step-tests : State → Statement → List Test
-step-tests t m =
+-- 7, 8, 9: of the station's step, and of a station that is not held yet
+abbrev pub place-tests : State → Statement → List Test
+place-tests t m =
     test (leb (stage-step (t .stage)) (step m)) too-late
     ∷ test (leb (step m) (stage-step (t .stage))) too-early
     ∷ test (not (held-of (m .station) (t .held))) already-held
-    ∷ test (not (conflict (t .stage) (m ∷ t .held))) conflicting
     ∷ []
+
+abbrev pub step-tests : State → Statement → List Test
+step-tests t m = place-tests t m ++ (test (not (conflict (t .stage) (m ∷ t .held))) conflicting ∷ [])

@@ -1,5 +1,5 @@
--- "Marked examples of the count": the whole table, and one theorem over it. Each row goes through the definitions of the calls themselves: a station that
--- holds its own statement is given bundles, one after the other, each tested by its rule and by the station's step tests; a module codes ten words.
+-- "Marked examples of the count": the whole table, and one theorem over it. A station that holds its own statement is given bundles, one after the other,
+-- each tested by its rule and by the station's step tests, which is what giving comes to (`given-as-called` in AsCalled); a module codes ten words.
 use Prim.Native.Nat.{ℕ}
 use mathlib.Core.List.{List, [], _∷_}
 use mathlib.Core.Path.{_≡_, refl}
@@ -12,6 +12,7 @@ use Rattle.format.specs.Words.{fields-of, word-of, formed, step-of}
 use Rattle.format.specs.Statement.{Statement, written, step}
 use Rattle.certificate.specs.Rules.{rule, wanted, some, in-order, holds, first-group, second-group, has-second, early-toss, rest-holds, spread, groups-hold}
 use Rattle.certificate.specs.Check.{every}
+use Rattle.sealed.specs.declared.Last.{Last}
 use Rattle.sealed.specs.declared.Module.{Module}
 use Rattle.sealed.specs.Sealed.{no-pair, pair, above, coding-plain}
 use Rattle.station.specs.declared.Stage.{Stage}
@@ -61,17 +62,17 @@ unless-kept f (refused k) = answers k
 unless-kept f (keeps k t) = f k t
 unless-kept f (sends k s c t) = writes k (s .kind) (s .value) (s .flag) (s .round) c (t .decision)
 
-module _ (code : List ℕ → List ℕ) (n coin : ℕ) where
-  -- station 1, whose module has coded nothing yet, is given a bundle that is read already
-  abbrev pub given : State → Bundle → Outcome
-  given t b =
-      unless (test (rule n (b .main) (b .certificate)) no-certificate ∷ step-tests t (b .main))
-      (taken code n 1 no-pair t (b .main) (b .certificate) coin)
+-- a station is given a bundle that is read already, well-formed, of its question and with codes that verify: what giving comes to then
+-- (`given-as-called`)
+abbrev pub given : (List ℕ → List ℕ) → ℕ → ℕ → Last → ℕ → State → Bundle → Outcome
+given code n number last coin t b =
+    unless (test (rule n (b .main) (b .certificate)) no-certificate ∷ step-tests t (b .main)) (taken code n number last t (b .main) (b .certificate) coin)
 
-  -- while it keeps, it is given the next
+module _ (code : List ℕ → List ℕ) (n coin : ℕ) where
+  -- station 1, whose module has coded nothing yet; while it keeps, it is given the next
   unfoldable pub seen : List Bundle → Outcome → Seen
   seen [] o = unless-kept (λ k t. answers k) o
-  seen (b ∷ l) o = unless-kept (λ k t. seen l (given t b)) o
+  seen (b ∷ l) o = unless-kept (λ k t. seen l (given code n 1 no-pair coin t b)) o
 
 -- ---- a row: its case, and what it gives
 pub data Row : Type 0 where

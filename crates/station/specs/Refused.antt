@@ -10,13 +10,11 @@ use Rattle.format.specs.Numbers.{none, sent, sent-decided}
 use Rattle.sealed.specs.declared.Module.{Module}
 use Rattle.station.specs.declared.Station.{Station}
 use Rattle.station.specs.Machine.{Outcome}
+use Rattle.station.specs.Demand.{as-given}
 use Rattle.station.specs.Calls.{Returned, returned, opening, opening-outcome, giving, giving-outcome, no-station}
-use Rattle.station.specs.FitSane.{Lengths}
-use Rattle.station.specs.Views.{unrefused, decision-then, Gives, refuses, holds-on, shuts, goes-on, gives-view, Opens, no-opening, begins, opens-view}
-
--- nothing but the number
-abbrev pub as-given : ℕ → Module → Station → List ℕ → Returned
-as-given k m t out = record { number = k; count = 0; station = t; after = m; lent = out }
+use Rattle.station.specs.Words.{Lengths}
+use Rattle.station.specs.Views.{decision-then, Gives, refuses, holds-on, shuts, goes-on, gives-view, Opens, no-opening, begins, opens-view}
+use Rattle.station.specs.Returns.{unrefused}
 
 sent-number : (b : Bool) → unrefused (pick b sent sent-decided) ≡ true
 unfolding pick

@@ -32,7 +32,8 @@ use Rattle.station.specs.Machine.{State, stage-step, held-of}
 use Rattle.station.specs.Words as W
 use Rattle.station.specs.Words.{held-in, set-of, slot-of, slots-of, all-written, group-words, sites, kept-first, kept-second, held-by, state-of}
 use Rattle.station.specs.Fit.{zeros, slot-fits, slots-fit, stage-fits, group-fits, held-fits, rest-fits, fits}
-use Rattle.station.specs.ReadBack.{Proper, fields-in, fields-back, Back, word-back, length-written, length-all, statements-back, statement-drop}
+use Rattle.station.specs.ReadBack.{length-all, statements-back}
+use Rattle.format.specs.ReadBack.{Proper, formed-back, Back, word-back, length-written, statement-drop}
 use Rattle.station.specs.Slots.{all-two, bit-set, ones-set, set-low, slot-at, slot-held, held-back, rising-above}
 
 -- a kept group: as it is asked for, of the question
@@ -112,11 +113,6 @@ unfolding zeros
 zero-list zero rest = refl
 zero-list (suc k) rest = zeros-drop (0 ∷ (replicate k 0 ++ rest)) 1 k ∙ zero-list k rest
 
--- ---- a written word 0 is formed
-pub formed-back : (n : ℕ) (s : Statement) → n ≤ 31 → Proper n s → formed n (fields-of (word-0 s)) ≡ true
-unfolding formed well-formed
-formed-back n s top p = rw (fields-back n s top p) (p .formed)
-
 suc-pred : (k : ℕ) → 1 ≤ k → suc (k - 1) ≡ k
 suc-pred k h = omega arith
 
@@ -153,12 +149,12 @@ module _ (n question st : ℕ) (h : List Statement) (top : n ≤ 31) (r : Rising
               let d : drop (i * 10) (slots-of h 1 sites) ≡ written s ++ rest = here ∙ ap (λ (l : List ℕ). l ++ rest) (ap (slot-of h) (sym e) ∙ p .1 .0) in
               let w : getD (slots-of h 1 sites) (i * 10) 0 ≡ word-0 s = getD-at (slots-of h 1 sites) (i * 10) (written s ++ rest) d in
               let q : getD (slots-of h 1 sites) (i * 10 + 1) 0 ≡ s .question = getD-next (slots-of h 1 sites) (i * 10) (written s ++ rest) d in
-              let b = word-back n s top (p .0) in
+              let b = word-back n s top (p .0 .formed) in
               let sum : (c d e f : Bool) → c ≡ true → d ≡ true → e ≡ true → f ≡ true → (c && d && e && f) ≡ true
               = λ c d e f x y z w. join (c && d && e) f (join (c && d) e (join c d x y) z) w in
               rw (w, q) (sum (formed n (fields-of (word-0 s))) (eqb (station-of (word-0 s)) (i + 1)) (eqb (s .question) question)
               (eqb (step-of (kind-of (word-0 s)) (round-of (word-0 s))) st)
-              (formed-back n s top (p .0)) (eq-eqb (station-of (word-0 s)) (i + 1) (b .station ∙ omega arith)) (eq-eqb (s .question) question (p .1 .1 .0))
+              (formed-back n s top (p .0 .formed)) (eq-eqb (station-of (word-0 s)) (i + 1) (b .station ∙ omega arith)) (eq-eqb (s .question) question (p .1 .1 .0))
               (eq-eqb (step-of (kind-of (word-0 s)) (round-of (word-0 s))) st (rw (b .kind, b .round) (step-is s ∙ p .1 .1 .1))))
 
       go : (c : Bool) → held-of (suc i) h ≡ c → pick c (slot-fits n question st i (slots-of h 1 sites)) (zeros (slots-of h 1 sites) (i * 10) 10) ≡ true
@@ -191,7 +187,7 @@ all-formed-back n (s ∷ c) rest top h =
     = all-formed-drop n (written s ++ all-written c ++ rest) (0 + 10) (length c)
     ∙ ap (λ (l : List ℕ). all-formed n l 0 (length c)) (ap (drop 10) a ∙ drop-at (written s) (all-written c ++ rest) 10 (length-written n s (h .0)))
     ∙ all-formed-back n c rest top (h .1) in
-    join (formed n (fields-of (getD (written s ++ all-written c ++ rest) 0 0))) _ (formed-back n s top (h .0)) more
+    join (formed n (fields-of (getD (written s ++ all-written c ++ rest) 0 0))) _ (formed-back n s top (h .0 .formed)) more
 
 group-ok : (n question : ℕ) (g : Group) (c : List Statement) → n ≤ 31 → Kept n question g c → group-fits n question g (group-words c) ≡ true
 group-ok n question g c top k =
@@ -246,7 +242,7 @@ module _ (n number : ℕ) (t : State) (top : n ≤ 31) (lo : 1 ≤ number) (hi :
           = slot-at n (t .held) (number - 1) (S .proper) (omega arith) ∙ ap (λ (l : List ℕ). l ++ rest) (ap (slot-of (t .held)) x ∙ p .1 .1) in
           let w : getD (slots-of (t .held) 1 sites) ((number - 1) * 10) 0 ≡ word-0 s
           = getD-at (slots-of (t .held) 1 sites) ((number - 1) * 10) (written s ++ rest) d in
-          rw w (by (t .stage) (word-0 s) s (word-back n s top (p .1 .0) .flag) (S .rounds) (p .0 e))
+          rw w (by (t .stage) (word-0 s) s (word-back n s top (p .1 .0 .formed) .flag) (S .rounds) (p .0 e))
 
       go : At P number → stage-fits (t .stage) (getD (slots-of (t .held) 1 sites) ((number - 1) * 10) 0) ≡ true
       go f = at-own (f .one) (f .of-station) (f .has)

@@ -19,7 +19,7 @@ use Rattle.format.specs.Shape.{formed-out}
 use Rattle.certificate.specs.Rules.{Rising, some}
 use Rattle.station.specs.Machine.{held-of}
 use Rattle.station.specs.Words.{held-in, set-of, slot-of, slots-of, sites}
-use Rattle.station.specs.ReadBack.{Proper, statement-drop, statement-back, length-written}
+use Rattle.format.specs.ReadBack.{Proper, statement-drop, statement-back, length-written}
 
 pub all-two : {A : Type 0} (P Q : A → Type 0) (l : List A) → All P l → All Q l → All (λ x. P x × Q x) l
 all-two P Q [] h k = tt

@@ -18,7 +18,8 @@ use Rattle.format.specs.Bundle.{count-in, main-of, certificate-of, bundle-fits,
 use Rattle.format.specs.Layout.{all-well}
 use Rattle.format.specs.Shape.{formed-out}
 use Rattle.certificate.specs.Rules.{Backed, rule, some}
-use Rattle.certificate.specs.Check.{every, one-question, all-verify}
+use Rattle.certificate.specs.declared.Which.the-variants.{Only}
+use Rattle.certificate.specs.Check.{every, one-question, all-verify, bundle-tests}
 use Rattle.certificate.specs.Backed.{rule-backed}
 use Rattle.certificate.specs.Valid.{Bundle, bundle-out, every-out}
 use Rattle.sealed.specs.declared.Module.{Module}
@@ -26,24 +27,21 @@ use Rattle.sealed.specs.Sealed.{above, module-fits, last-for}
 use Rattle.station.specs.declared.Stage.{Stage}
 use Rattle.station.specs.declared.Stage.the-variants.{Gathering, Proposing, Voting}
 use Rattle.station.specs.declared.Station.{Station}
-use Rattle.station.specs.Machine.{State, Outcome, refused, keeps, sends, Next, own, began, opened, keeping, insert, closes, decision-at, shut, follows, moved, ended, taken, held-of, conflict, step-tests, stage-step}
-use Rattle.station.specs.Words.{state-of}
+use Rattle.station.specs.Machine.{State, Outcome, refused, keeps, sends, Next, own, began, opened, keeping, insert, closes, decision-at, shut, follows, moved, ended, taken, held-of, conflict, place-tests, step-tests, stage-step}
+use Rattle.station.specs.Words.{state-of, Lengths}
 use Rattle.station.specs.Fit.{fits}
-use Rattle.station.specs.Calls.{Returned, returned, giving, open-tests, opening-outcome, give-tests, giving-outcome}
-use Rattle.station.specs.ReadBack.{Proper}
+use Rattle.station.specs.Returns.{unrefused}
+use Rattle.station.specs.Calls.{Returned, returned, giving, open-tests, opening-outcome, station-tests, give-tests, giving-outcome}
+use Rattle.format.specs.ReadBack.{Proper}
 use Rattle.station.specs.Slots.{all-two}
 use Rattle.station.specs.Insert.{insert-length, conflict-insert}
 use Rattle.station.specs.Sane.{Kept, InRounds, Sane}
-use Rattle.station.specs.FitSane.{Lengths, fits-sane, eights}
+use Rattle.station.specs.FitSane.{fits-sane, eights}
 use Rattle.station.specs.Keep.{Fitting, kept-first-on, kept-second-on, grown, keep-sane}
 use Rattle.station.specs.End.{Full}
 
--- the numbers that are no refusal
-abbrev pub unrefused : ℕ → Bool
-unrefused k = eqb k kept || (eqb k sent || (eqb k sent-decided || eqb k closed-now))
-
 -- a failed test's number is one of the table's
-failed-one : (P : ℕ → Type 0) (l : List Test) → All (λ t. P (t .number)) l → (first-failed l ≡ 0 → ⊥) → P (first-failed l)
+pub failed-one : (P : ℕ → Type 0) (l : List Test) → All (λ t. P (t .number)) l → (first-failed l ≡ 0 → ⊥) → P (first-failed l)
 unfolding first-failed pick
 failed-one P [] a e = absurd (e refl)
 failed-one P (t ∷ l) a e = go (t .ok) e (failed-one P l (a .1))
@@ -51,6 +49,12 @@ failed-one P (t ∷ l) a e = go (t .ok) e (failed-one P l (a .1))
     go : (b : Bool) → (pick b (first-failed l) (t .number) ≡ 0 → ⊥) → ((first-failed l ≡ 0 → ⊥) → P (first-failed l)) → P (pick b (first-failed l) (t .number))
     go true e ih = ih e
     go false e ih = a .0
+
+-- tests that have passed can be left out in front
+pub passed-front : (l r : List Test) → All (λ t. t .ok ≡ true) l → first-failed (l ++ r) ≡ first-failed r
+unfolding first-failed pick
+passed-front [] r a = refl
+passed-front (t ∷ l) r a = rw (a .0) (passed-front l r (a .1))
 
 -- a module in range
 pub record InRange (m : Module) : Type 0 where
@@ -125,17 +129,7 @@ module _ (mac : List ℕ → List ℕ → List ℕ) where
       -- the tests before that of 10
       abbrev pub ten-tests : List Test
       ten-tests =
-          test (leb output-words (length out)) short-output
-          ∷ test (module-fits m && ltb coin 2 && fits (m .n) (m .number) t) out-of-range
-          ∷ test (not (t .closed)) station-closed
-          ∷ test (bundle-fits (m .n) ws) malformed
-          ∷ test (one-question (main-of ws) (certificate-of ws) && eqb (main-of ws .question) (t .identity .question)) other-question
-          ∷ test (all-verify (mac (m .key)) (statements ws 1 (suc (count-in ws)))) wrong-code
-          ∷ test (rule (m .n) (main-of ws) (certificate-of ws)) no-certificate
-          ∷ test (leb (stage-step (state-of t .stage)) (step (main-of ws))) too-late
-          ∷ test (leb (step (main-of ws)) (stage-step (state-of t .stage))) too-early
-          ∷ test (not (held-of (main-of ws .station) (state-of t .held))) already-held
-          ∷ []
+          station-tests m t coin out ++ (bundle-tests (mac (m .key)) (m .n) (Only (t .identity .question)) ws ++ place-tests (state-of t) (main-of ws))
 
       pub nearly : All (λ x. x .ok ≡ true) ten-tests → Nearly
       unfolding statements
@@ -292,6 +286,36 @@ module _ (mac : List ℕ → List ℕ → List ℕ) where
             begun (above (last-for m question) question (step init-statement)) refl (leb-true output-words (length out) (p .0)) (in-range m (a .0)) (ltb-true proposal 2 (a .1))
         go false e = no-opening (failed-one (λ k. unrefused k ≡ false) (open-tests mac m proposal out) (refl, (refl, tt)) (eqb-false _ _ e))
 
+-- what is taken is answered 0, 22, 20, 21 or 12
+pub taken-number : (mac : List ℕ → List ℕ → List ℕ) (m : Module) (t : Station) (ws : List ℕ) (coin : ℕ) (out : List ℕ) (P : ℕ → Type 0)
+    → P kept → P closed-now → P sent → P sent-decided → P not-above
+    → P (returned m t out (taken (mac (m .key)) (m .n) (m .number) (last-for m (t .identity .question)) (state-of t) (main-of ws) (certificate-of ws) coin) .number)
+unfolding returned pick taken ended
+taken-number mac m t ws coin out P p0 p22 p20 p21 p12 = by (ltb (length (after mac m t ws coin out .held)) (quorum (m .n)))
+  where
+    x : Next
+    x = follows (m .n) (state-of t .stage) (after mac m t ws coin out) coin
+
+    s : Statement
+    s = own (mac (m .key)) (m .number) (state-of t .question) (x .kind) (x .value) (x .flag) (x .round)
+
+    d : ℕ
+    d = decision-at (state-of t .stage) (state-of t .decision) (after mac m t ws coin out .held)
+
+    sent-by : (a b : Bool) → P (returned m t out (pick a (sends (pick b sent sent-decided) s (x .first ++ x .second) (began (state-of t .question) (x .stage) d s (x .first))) (refused not-above)) .number)
+    sent-by true true = p20
+    sent-by true false = p21
+    sent-by false b = p12
+
+    ended-by : (c : Bool) → P (returned m t out (pick c (keeps closed-now (shut (mac (m .key)) (m .n) (m .number) (last-for m (t .identity .question)) (after mac m t ws coin out) d))
+        (moved (mac (m .key)) (m .n) (m .number) (last-for m (t .identity .question)) (after mac m t ws coin out) x d)) .number)
+    ended-by true = p22
+    ended-by false = sent-by (above (last-for m (t .identity .question)) (s .question) (step s)) (ltb (state-of t .decision) none || eqb d none)
+
+    by : (b : Bool) → P (returned m t out (pick b (keeps kept (after mac m t ws coin out)) (ended (mac (m .key)) (m .n) (m .number) (last-for m (t .identity .question)) (after mac m t ws coin out) coin)) .number)
+    by true = p0
+    by false = ended-by (closes (state-of t .stage))
+
 -- answered 10: all tests before have passed, and there is a conflict
 passed-until : (l : List Test) (b : Bool) (k : ℕ) → 0 < k → All (λ t. t .number ≡ k → ⊥) l → first-failed (l ++ (test b k ∷ [])) ≡ k → All (λ t. t .ok ≡ true) l × (b ≡ false)
 unfolding first-failed pick
@@ -310,7 +334,7 @@ pub record Conflicts (mac : List ℕ → List ℕ → List ℕ) (m : Module) (t 
 
 pub conflicts : (mac : List ℕ → List ℕ → List ℕ) (m : Module) (t : Station) (ws : List ℕ) (coin : ℕ) (out : List ℕ) (L : Lengths t)
     → giving mac m t ws coin out .number ≡ conflicting → Conflicts mac m t ws coin out L
-unfolding giving returned pick taken ended
+unfolding giving returned pick
 conflicts mac m t ws coin out L e = go (eqb (first-failed (give-tests mac m t ws coin out)) 0) refl e
   where
     from-tests : first-failed (give-tests mac m t ws coin out) ≡ conflicting → Conflicts mac m t ws coin out L
@@ -319,35 +343,9 @@ conflicts mac m t ws coin out L e = go (eqb (first-failed (give-tests mac m t ws
         ((λ z. omega arith), ((λ z. omega arith), ((λ z. omega arith), ((λ z. omega arith), ((λ z. omega arith), ((λ z. omega arith), ((λ z. omega arith), ((λ z. omega arith), ((λ z. omega arith), ((λ z. omega arith), tt)))))))))) h in
         record { near = nearly mac m t ws coin out L (p .0); clash = not-false _ (p .1) }
 
-    -- what is taken is not answered 10
-    not-ten : returned m t out (taken (mac (m .key)) (m .n) (m .number) (last-for m (t .identity .question)) (state-of t) (main-of ws) (certificate-of ws) coin) .number ≡ conflicting → ⊥
-    not-ten z = by (ltb (length (after mac m t ws coin out .held)) (quorum (m .n))) z
-      where
-        x : Next
-        x = follows (m .n) (state-of t .stage) (after mac m t ws coin out) coin
-
-        s : Statement
-        s = own (mac (m .key)) (m .number) (state-of t .question) (x .kind) (x .value) (x .flag) (x .round)
-
-        d : ℕ
-        d = decision-at (state-of t .stage) (state-of t .decision) (after mac m t ws coin out .held)
-
-        sent-by : (a b : Bool) → returned m t out (pick a (sends (pick b sent sent-decided) s (x .first ++ x .second) (began (state-of t .question) (x .stage) d s (x .first))) (refused not-above)) .number ≡ conflicting → ⊥
-        sent-by true true z = omega arith
-        sent-by true false z = omega arith
-        sent-by false b z = omega arith
-
-        ended-by : (c : Bool) → returned m t out (pick c (keeps closed-now (shut (mac (m .key)) (m .n) (m .number) (last-for m (t .identity .question)) (after mac m t ws coin out) d))
-            (moved (mac (m .key)) (m .n) (m .number) (last-for m (t .identity .question)) (after mac m t ws coin out) x d)) .number ≡ conflicting → ⊥
-        ended-by true z = omega arith
-        ended-by false z = sent-by (above (last-for m (t .identity .question)) (s .question) (step s)) (ltb (state-of t .decision) none || eqb d none) z
-
-        by : (b : Bool) → returned m t out (pick b (keeps kept (after mac m t ws coin out)) (ended (mac (m .key)) (m .n) (m .number) (last-for m (t .identity .question)) (after mac m t ws coin out) coin)) .number ≡ conflicting → ⊥
-        by true z = omega arith
-        by false z = ended-by (closes (state-of t .stage)) z
-
     go : (b : Bool) → eqb (first-failed (give-tests mac m t ws coin out)) 0 ≡ b
         → returned m t out (pick b (taken (mac (m .key)) (m .n) (m .number) (last-for m (t .identity .question)) (state-of t) (main-of ws) (certificate-of ws) coin)
         (refused (first-failed (give-tests mac m t ws coin out)))) .number ≡ conflicting → Conflicts mac m t ws coin out L
-    go true q z = absurd (not-ten z)
+    go true q z =
+        absurd (taken-number mac m t ws coin out (λ k. k ≡ conflicting → ⊥) (λ e. omega arith) (λ e. omega arith) (λ e. omega arith) (λ e. omega arith) (λ e. omega arith) z)
     go false q z = from-tests z

@@ -2,6 +2,7 @@
 use Prim.Native.Nat.{ℕ, zero, suc, _+_, _-_, _*_, _/_, _%_, _^_}
 use mathlib.Core.Bool.{Bool, true, false, _&&_}
 use mathlib.Core.List.{List, [], _∷_, _++_}
+use mathlib.Core.Path.{_≡_}
 use lib.Dec.{eqb}
 use lib.ListN.{length, getD, take, drop, replicate}
 use Rattle.laws.specs.Pick.{pick}
@@ -48,6 +49,12 @@ unfoldable pub kept-second : ℕ → Stage → List Statement → Group
 kept-second n g h = pick (some (supplies-second g) h) (none-votes n (round-in g - 1)) no-group
 
 -- ---- reading
+-- the declared lengths of a station's arrays, which every value of its type has
+pub record Lengths (t : Station) : Type 0 where
+  pub slots : length (t .held .slots) ≡ 310
+  pub first : length (t .groups .first) ≡ 160
+  pub second : length (t .groups .second) ≡ 160
+
 abbrev pub held-by : Station → List Statement
 held-by t = held-in (t .held .heard) (t .held .slots) 0 sites
 

@@ -30,18 +30,21 @@ use Rattle.station.specs.declared.Stage.the-variants.{Gathering, Proposi
 use Rattle.station.specs.declared.Station.{Station}
 use Rattle.station.specs.Machine.{State, Outcome, refused, keeps, sends, Next, own, began, shut, keeping, insert, supplies-first, supplies-second, takes, closes, those, has-value, first-value, vote-value, carried, follows, after-votes}
 use Rattle.station.specs.Words as W
-use Rattle.station.specs.Words.{state-of, slots-of, all-written, group-words, sites, bundle-of, over, kept-first, kept-second}
+use Rattle.station.specs.Words.{state-of, slots-of, all-written, group-words, sites, bundle-of, over, kept-first, kept-second, Lengths}
 use Rattle.station.specs.Fit.{fits}
 use Rattle.station.specs.Calls.{Returned, returned, opening, giving, opening-outcome, giving-outcome, no-station}
-use Rattle.station.specs.ReadBack.{Proper, length-all}
+use Rattle.station.specs.ReadBack.{length-all}
+use Rattle.format.specs.ReadBack.{Proper}
 use Rattle.station.specs.Slots.{slots-length}
 use Rattle.station.specs.Insert.{insert-all}
 use Rattle.station.specs.Sane.{Kept, Sane, sane-fits, state-back}
-use Rattle.station.specs.FitSane.{Lengths, first-size, second-size}
+use Rattle.station.specs.FitSane.{first-size, second-size}
 use Rattle.station.specs.Keep.{Fitting, all-take}
 use Rattle.station.specs.Pieces.{those-all}
 use Rattle.station.specs.End.{Full, Given, Ready}
-use Rattle.station.specs.Views.{unrefused, InRange, Accepted, after, decision-then, sent-statement, Gives, refuses, holds-on, shuts, goes-on, gives-view, sane-before, full-after, init-statement, Opens, no-opening, begins, opens-view}
+use Rattle.station.specs.Views.{InRange, Accepted, after, decision-then, sent-statement, Gives, refuses, holds-on, shuts, goes-on, gives-view, sane-before, full-after, init-statement, Opens, no-opening, begins, opens-view}
+use Rattle.station.specs.Returns.{unrefused, wrote, wrote-unrefused}
+use Rattle.station.specs.Demand.{message, OfGroup, Reached, by-opening, by-giving}
 use Rattle.station.specs.Fits.{backed, own-proper, init-sane, next-ready, sent-proper, sent-sane, kept-sane, giving-fits, opening-fits}
 use Rattle.station.specs.Bundles.{bundle-valid, backed-few, ws-length}
 
@@ -194,18 +197,6 @@ module _ (mac : List ℕ → List ℕ → List ℕ) (m : Module) (t : Station) (
 
 -- ---- stations made by opening and changed only by these calls
 module _ (mac : List ℕ → List ℕ → List ℕ) (key : List ℕ) (n : ℕ) where
-  -- a module of the group
-  pub record OfGroup (number : ℕ) (m : Module) : Type 0 where
-    pub same-key : m .key ≡ key
-    pub same-n : m .n ≡ n
-    pub same-number : m .number ≡ number
-
-  pub data Reached (number : ℕ) : Station → Type 0 where
-    by-opening : (m : Module) (question proposal : ℕ) (out : List ℕ) → OfGroup number m → unrefused (opening mac m question proposal out .number) ≡ true
-        → Reached number (opening mac m question proposal out .station)
-    by-giving : {t : Station} → Reached number t → (m : Module) (ws : List ℕ) (coin : ℕ) (out : List ℕ) → OfGroup number m
-        → unrefused (giving mac m t ws coin out .number) ≡ true → Reached number (giving mac m t ws coin out .station)
-
   pub record Good (number : ℕ) (t : Station) : Type 0 where
     pub lengths : Lengths t
     pub certain : t .closed ≡ false → Certain (mac key) (state-of t)
@@ -223,7 +214,7 @@ module _ (mac : List ℕ → List ℕ → List ℕ) (key : List ℕ) (n : ℕ) w
     unfolding W.station-of
     good-shut number i t c h f s = record { lengths = shut-lengths i number t h f s; certain = λ e. never (t .closed) e c }
 
-    pub good-opening : (number : ℕ) (m : Module) (question v : ℕ) (out : List ℕ) → OfGroup number m → unrefused (opening mac m question v out .number) ≡ true
+    pub good-opening : (number : ℕ) (m : Module) (question v : ℕ) (out : List ℕ) → OfGroup mac key n number m → unrefused (opening mac m question v out .number) ≡ true
         → Good number (opening mac m question v out .station)
     unfolding opening returned pick
     good-opening number m question v out G = go (opening-outcome mac m question v out) (opens-view mac m question v out)
@@ -237,7 +228,7 @@ module _ (mac : List ℕ → List ℕ → List ℕ) (key : List ℕ) (n : ℕ) w
             (subst (λ (c : List ℕ). Certain (mac c) (began question Gathering none (init-statement mac m question v out) [])) (G .same-key)
             (record { held = (own-verifies (mac (m .key)) (m .number) question kind-INIT v D-GET 0, tt); first = tt; second = tt; given = ((λ a b. absurd (omega arith)), tt) })))
 
-    pub good-giving : (number : ℕ) (t : Station) → Good number t → (m : Module) (ws : List ℕ) (coin : ℕ) (out : List ℕ) → OfGroup number m
+    pub good-giving : (number : ℕ) (t : Station) → Good number t → (m : Module) (ws : List ℕ) (coin : ℕ) (out : List ℕ) → OfGroup mac key n number m
         → unrefused (giving mac m t ws coin out .number) ≡ true → Good number (giving mac m t ws coin out .station)
     unfolding giving returned
     good-giving number t good m ws coin out G = go (giving-outcome mac m t ws coin out) (gives-view mac m t ws coin out (good .lengths))
@@ -263,26 +254,9 @@ module _ (mac : List ℕ → List ℕ → List ℕ) (key : List ℕ) (n : ℕ) w
             here _ (good-state (m .number) (m .n) _ (A .range .at-most-31) (A .range .low) (A .range .high)
             (sent-sane mac eight m t ws coin out (good .lengths) A size c) (of-key (sent-certain mac m t ws coin out A eight (good .lengths) (C A) size c)))
 
-    pub reached-good : (number : ℕ) (t : Station) → Reached number t → Good number t
+    pub reached-good : (number : ℕ) (t : Station) → Reached mac key n number t → Good number t
     reached-good number _ (by-opening m question v out G u) = good-opening number m question v out G u
     reached-good number _ (by-giving {t} r m ws coin out G u) = good-giving number t (reached-good number t r) m ws coin out G u
-
-    -- what is written: the lent words up to the word count
-    abbrev pub message : Returned → List ℕ
-    message r = take (r .count) (r .lent)
-
-    abbrev pub wrote : ℕ → Bool
-    wrote k = eqb k sent || eqb k sent-decided
-
-    -- what is sent is not refused
-    sent-unrefused : (k : ℕ) → wrote k ≡ true → unrefused k ≡ true
-    sent-unrefused k u = go (eqb k 0) (eqb k sent) (eqb k sent-decided) u
-      where
-        go : (a b c : Bool) → (b || c) ≡ true → (a || (b || (c || eqb k 22))) ≡ true
-        go true b c e = refl
-        go false true c e = refl
-        go false false true e = refl
-        go false false false e = never false refl e
 
     -- the written words are the bundle's, and no more
     bundle-front : (i : ℕ) (s : Statement) (c : List Statement) (out : List ℕ) → i ≤ 31 → Proper i s → All (Proper i) c → length c ≤ most-statements
@@ -291,14 +265,14 @@ module _ (mac : List ℕ → List ℕ → List ℕ) (key : List ℕ) (n : ℕ) w
     bundle-front i s c out top p a few =
         take-at (bundle-of s c) (drop (length (bundle-of s c)) out) (bundle-words (length c)) (ws-length i s c top p a few)
 
-    pub opening-written : (number : ℕ) (m : Module) (question v : ℕ) (out : List ℕ) → OfGroup number m → wrote (opening mac m question v out .number) ≡ true
+    pub opening-written : (number : ℕ) (m : Module) (question v : ℕ) (out : List ℕ) → OfGroup mac key n number m → wrote (opening mac m question v out .number) ≡ true
         → check-by (mac key) n Any (message (opening mac m question v out)) ≡ 0
     unfolding opening returned
     opening-written number m question v out G = go (opening-outcome mac m question v out) (opens-view mac m question v out)
       where
         go : (o : Outcome) → Opens mac m question v out o → wrote (returned m no-station out o .number) ≡ true
             → check-by (mac key) n Any (message (returned m no-station out o)) ≡ 0
-        go _ (no-opening {k} e) u = never (unrefused k) e (sent-unrefused k u)
+        go _ (no-opening {k} e) u = never (unrefused k) e (wrote-unrefused k u)
         go _ (begins room r p a) u = checks
           where
             s : Statement
@@ -316,13 +290,13 @@ module _ (mac : List ℕ → List ℕ → List ℕ) (key : List ℕ) (n : ℕ) w
                 (bundle-valid (m .n) s [] (r .at-most-31) proper tt (omega arith) (mac (m .key)) (r .at-least-2) tt
                 (own-verifies (mac (m .key)) (m .number) question kind-INIT v D-GET 0) tt (rule-1 refl))))
 
-    pub giving-written : (number : ℕ) (t : Station) → Reached number t → (m : Module) (ws : List ℕ) (coin : ℕ) (out : List ℕ) → OfGroup number m
+    pub giving-written : (number : ℕ) (t : Station) → Reached mac key n number t → (m : Module) (ws : List ℕ) (coin : ℕ) (out : List ℕ) → OfGroup mac key n number m
         → wrote (giving mac m t ws coin out .number) ≡ true → check-by (mac key) n Any (message (giving mac m t ws coin out)) ≡ 0
     unfolding giving returned
     giving-written number t reached m ws coin out G = go (giving-outcome mac m t ws coin out) (gives-view mac m t ws coin out (reached-good number t reached .lengths))
       where
         go : (o : Outcome) → Gives mac m t ws coin out o → wrote (returned m t out o .number) ≡ true → check-by (mac key) n Any (message (returned m t out o)) ≡ 0
-        go _ (refuses {k} e) u = never (unrefused k) e (sent-unrefused k u)
+        go _ (refuses {k} e) u = never (unrefused k) e (wrote-unrefused k u)
         go _ (holds-on A few) u = never false refl u
         go _ (shuts A size c) u = never false refl u
         go _ (goes-on A size c above k) u = checks A size c
@@ -346,12 +320,11 @@ module _ (mac : List ℕ → List ℕ → List ℕ) (key : List ℕ) (n : ℕ) w
 
 -- ---- under HMAC, by the public check's own answer
 pub opening-valid : (key : List ℕ) (n number : ℕ) (m : Module) (question v : ℕ) (out : List ℕ) → OfGroup hmac-code key n number m
-    → wrote hmac-code key n hmac-eight (opening hmac-code m question v out .number) ≡ true → checked key n (message hmac-code key n hmac-eight (opening hmac-code m question v out)) ≡ 0
+    → wrote (opening hmac-code m question v out .number) ≡ true → checked key n (message (opening hmac-code m question v out)) ≡ 0
 unfolding checked judged
 opening-valid key n number m question v out G u = opening-written hmac-code key n hmac-eight number m question v out G u
 
 pub giving-valid : (key : List ℕ) (n number : ℕ) (t : Station) → Reached hmac-code key n number t → (m : Module) (ws : List ℕ) (coin : ℕ) (out : List ℕ)
-    → OfGroup hmac-code key n number m → wrote hmac-code key n hmac-eight (giving hmac-code m t ws coin out .number) ≡ true
-    → checked key n (message hmac-code key n hmac-eight (giving hmac-code m t ws coin out)) ≡ 0
+    → OfGroup hmac-code key n number m → wrote (giving hmac-code m t ws coin out .number) ≡ true → checked key n (message (giving hmac-code m t ws coin out)) ≡ 0
 unfolding checked judged
 giving-valid key n number t r m ws coin out G u = giving-written hmac-code key n hmac-eight number t r m ws coin out G u

@@ -19,7 +19,8 @@ use Rattle.format.specs.Shape.{formed-out}
 use Rattle.certificate.specs.Rules.{Rising, some}
 use Rattle.station.specs.Machine.{held-of, those}
 use Rattle.station.specs.Words.{set-of, slot-of, slots-of, all-written, group-words, bundle-of, over, sites}
-use Rattle.station.specs.ReadBack.{Proper, length-written, length-all}
+use Rattle.station.specs.ReadBack.{length-all}
+use Rattle.format.specs.ReadBack.{Proper, length-written}
 use Rattle.station.specs.Slots.{all-two, rising-above, below-not-held, bit-set, ones-set, set-low, slot-at, slot-held}
 use Rattle.station.specs.Pieces.{those-all, those-rising, take-rising}
 use Rattle.station.specs.Keep.{all-take}

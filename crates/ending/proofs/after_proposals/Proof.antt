@@ -18,7 +18,7 @@ returns c =
     let a = c .before .before .before .args in
     let v = c .before .before .vote-value in
     let b = c .before .some-d-get in
-    proposals-given (a .set) (a .slots .now) (a .r) (v .result) (b .result) (c .second-source .result) (v .ensures) (b .ensures) (c .second-source .ensures)
+    proposals-given (a .set) (a .slots .now) (a .r .0) (v .result) (b .result) (c .second-source .result) (v .ensures) (b .ensures) (c .second-source .ensures)
 
 pub after-proposals-spec : {M : Type 1} → statement M
 after-proposals-spec =

@@ -15,14 +15,14 @@ returns c =
     let a = c .before .before .before .args in
     let v = c .before .before .carried in
     let b = c .before .round-after in
-    votes-carry (a .set) (a .slots .now) (a .r) (a .coin) (v .result) (b .result) (v .ensures) (b .ensures) (c .if1 .taken)
+    votes-carry (a .set) (a .slots .now) (a .r .0) (a .coin) (v .result) (b .result .0) (v .ensures) (b .ensures) (c .if1 .taken)
 
 returns-2 : tie.Need-returns-2
 returns-2 c =
     let a = c .before .before .before .args in
     let v = c .before .before .carried in
     let b = c .before .round-after in
-    votes-toss (a .set) (a .slots .now) (a .r) (a .coin) (v .result) (b .result) (v .ensures) (b .ensures) (c .if1 .left)
+    votes-toss (a .set) (a .slots .now) (a .r .0) (a .coin) (v .result) (b .result .0) (v .ensures) (b .ensures) (c .if1 .left)
 
 pub after-votes-spec : {M : Type 1} → statement M
 after-votes-spec = tie.close (tie.spec carried-requires round-after-requires returns returns-2)

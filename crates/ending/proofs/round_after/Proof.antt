@@ -5,8 +5,8 @@ use borrow.Author.Needs.{needs}
 use Rattle.ending.proofs.round_after.Statement.{statement}
 use Rattle.ending.proofs.round_after.Tie as tie
 
-add-result : tie.Need-add-result
-add-result c = search needs
+add-t3 : tie.Need-add-t3
+add-t3 c = search needs
 
 returns : tie.Need-returns
 unfolding round-after
@@ -17,4 +17,4 @@ unfolding round-after
 returns-2 c = search cases depth 24
 
 pub round-after-spec : {M : Type 1} → statement M
-round-after-spec = tie.close (tie.spec add-result returns returns-2)
+round-after-spec = tie.close (tie.spec add-t3 returns returns-2)

@@ -7,23 +7,23 @@ use Rattle.ending.proofs.second_source.Tie as tie
 
 returns : tie.Need-returns
 unfolding second-source pick
-returns c = let a = c .before .args in
-    rw (le-ltb 1 (a .r) (c .if1 .taken))
+returns c = let a = c .before .before .args in
+    rw (le-ltb 1 (a .r .0) (c .if1 .taken))
 
 returns-2 : tie.Need-returns-2
 unfolding second-source pick
-returns-2 c = let a = c .before .before .args in
-    rw (lt-ltb 1 (a .r) (c .before .if1 .left), le-ltb (a .value) 2 (c .if2 .taken))
+returns-2 c = let a = c .before .before .before .args in
+    rw (lt-ltb 1 (a .r .0) (c .before .if1 .left), le-ltb (a .value) 2 (c .if2 .taken))
 
 returns-3 : tie.Need-returns-3
 unfolding second-source pick
-returns-3 c = let a = c .before .before .before .args in
-    rw (lt-ltb 1 (a .r) (c .before .before .if1 .left), lt-ltb (a .value) 2 (c .before .if2 .left), c .if3 .taken)
+returns-3 c = let a = c .before .before .before .before .args in
+    rw (lt-ltb 1 (a .r .0) (c .before .before .if1 .left), lt-ltb (a .value) 2 (c .before .if2 .left), c .if3 .taken)
 
 returns-4 : tie.Need-returns-4
 unfolding second-source pick
-returns-4 c = let a = c .before .before .before .args in
-    rw (lt-ltb 1 (a .r) (c .before .before .if1 .left), lt-ltb (a .value) 2 (c .before .if2 .left), c .if3 .left)
+returns-4 c = let a = c .before .before .before .before .args in
+    rw (lt-ltb 1 (a .r .0) (c .before .before .if1 .left), lt-ltb (a .value) 2 (c .before .if2 .left), c .if3 .left)
 
 pub second-source-spec : {M : Type 1} → statement M
 second-source-spec = tie.close (tie.spec returns returns-2 returns-3 returns-4)

@@ -2,7 +2,7 @@
 use Prim.Native.Nat.{ℕ}
 use mir.Syntax.{w32}
 use borrow.Author.Needs.{needs, length-unmapped, elem-fits-field}
-use Rattle.station.specs.FitSane.{Lengths}
+use Rattle.station.specs.Words.{Lengths}
 use Rattle.keeping.specs.One.{LowWords}
 use Rattle.giving.specs.Found.{answers-none}
 use Rattle.giving.specs.Give.{give-refused, none-found, give-12, give-after}

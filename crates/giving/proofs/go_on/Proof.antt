@@ -17,7 +17,7 @@ no-bundle-requires : tie.Need-no-bundle-requires
 no-bundle-requires c κs = search needs
 
 returns : tie.Need-returns
-returns c = let a = c .before .before .before .before .before .before .before .before .args in
+returns c = let a = c .before .before .before .before .before .before .before .before .before .args in
     answers-none _ _ _ _ _ _ (c .no-bundle .ensures)
     (moved-12 (a .m) (a .k) (a .x) (a .d) (a .out .now) _ _ _ (c .before .before .before .before .own-fields .ensures) (c .before .before .before .step-of .ensures) (c .before .before .above .ensures) (c .before .if1 .taken))
 
@@ -31,7 +31,7 @@ same-length : tie.Need-same-length
 same-length c = search needs
 
 returns-2 : tie.Need-returns-2
-returns-2 c = let a = c .before .before .before .before .before .before .before .before .before .before .before .before .before .before .args in
+returns-2 c = let a = c .before .before .before .before .before .before .before .before .before .before .before .before .before .before .before .args in
     moved-sent (a .m) (a .k) (a .x) (a .d) (a .out .now) _ _ _ (c .before .before .before .before .before .before .before .before .before .before .own-fields .ensures) (c .before .before .before .before .before .before .before .before .before .step-of .ensures) (c .before .before .before .before .before .before .before .before .above .ensures) _ _ _ _ _ (c .before .before .before .before .before .before .before .if1 .left) (c .answer .ensures) (c .before .before .before .before .before .send-next .ensures)
 
 pub go-on-spec : {M : Type 1} → statement M

@@ -13,8 +13,8 @@ read-fields-requires c κs = search needs
 fits-requires : tie.Need-fits-requires
 fits-requires c κs = search needs
 
-is-toss-requires : tie.Need-is-toss-requires
-is-toss-requires c κs = search needs
+by-coin-requires : tie.Need-by-coin-requires
+by-coin-requires c κs = search needs
 
 refusal-requires : tie.Need-refusal-requires
 refusal-requires c κs = search needs
@@ -31,7 +31,7 @@ returns c =
     let r = k .before .before .before .before in
     let a = c .before .before .before .before .before .before .before .before .before .before .before .before .args in
     by _ _ _ _ _
-    (coin-is (a .m) (a .ws .now) (a .coin) _ _ _ _ _ (r .before .word .ensures) (r .read-fields .ensures) (k .before .before .fits2 .ensures) (k .before .is-toss .ensures) (k .refusal .ensures .number-is))
+    (coin-is (a .m) (a .ws .now) (a .coin) _ _ _ _ _ (r .before .word .ensures) (r .read-fields .ensures) (k .before .before .fits2 .ensures) (k .before .by-coin .ensures) (k .refusal .ensures .number-is))
     (c .before .before .finish .ensures)
 
 pub code-coin-spec : {M : Type 1} → statement M
@@ -41,7 +41,7 @@ code-coin-spec =
     word-requires
     read-fields-requires
     fits-requires
-    is-toss-requires
+    by-coin-requires
     refusal-requires
     finish-requires
     same-length

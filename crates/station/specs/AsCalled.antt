@@ -1,0 +1,85 @@
+-- What the marked table says of bundles that are read already, it says of the calls: giving words that are a bundle with codes that verify, to an open
+-- and fitting station, comes to the table's `given`, and the station returned is read as the state that is kept.
+use Prim.Native.Nat.{ℕ, suc, _≤_, _<_}
+use mathlib.Core.Bool.{Bool, true, false, not, _&&_}
+use mathlib.Core.List.{List, [], _∷_, _++_}
+use mathlib.Core.Path.{_≡_, ap, _∙_}
+use native.Mathlib.Omega.{arith}
+use lib.Dec.{eqb, ltb, leb}
+use lib.ListN.{length}
+use borrow.Author.Tests.{lt-ltb, le-leb}
+use Rattle.laws.specs.Pick.{pick}
+use Rattle.laws.specs.Bools.{join}
+use Rattle.laws.specs.Refusals.{All, Test, test, first-failed}
+use Rattle.format.specs.Numbers.{kept, output-words, no-certificate}
+use Rattle.format.specs.Statement.{statements}
+use Rattle.format.specs.Bundle.{count-in, main-of, certificate-of, bundle-fits}
+use Rattle.certificate.specs.declared.Which.the-variants.{Only}
+use Rattle.certificate.specs.Rules.{rule}
+use Rattle.certificate.specs.Check.{question-fits, all-verify}
+use Rattle.sealed.specs.declared.Module.{Module}
+use Rattle.sealed.specs.Sealed.{module-fits, last-for}
+use Rattle.station.specs.declared.Station.{Station}
+use Rattle.station.specs.Machine.{State, Outcome, refused, keeps, sends, taken, step-tests}
+use Rattle.station.specs.Words.{Lengths, state-of}
+use Rattle.station.specs.Fit.{fits}
+use Rattle.station.specs.Calls.{returned, station-tests, giving, giving-outcome}
+use Rattle.station.specs.Marked.{_by_, given}
+use Rattle.station.specs.Views.{passed-front, after, Gives, refuses, holds-on, shuts, goes-on, gives-view}
+use Rattle.station.specs.Sane.{state-back}
+use Rattle.station.specs.Fits.{kept-sane}
+
+module _ (mac : List ℕ → List ℕ → List ℕ) (m : Module) (t : Station) (ws : List ℕ) (coin : ℕ) (out : List ℕ) where
+  -- where the tests 1, 2, 11, 3, 4 and 5 pass, giving is what the table's rows use
+  pub given-as-called : output-words ≤ length out → module-fits m ≡ true → coin < 2 → fits (m .n) (m .number) t ≡ true → t .closed ≡ false
+      → bundle-fits (m .n) ws ≡ true → question-fits (Only (t .identity .question)) (main-of ws) (certificate-of ws) ≡ true
+      → all-verify (mac (m .key)) (statements ws 1 (suc (count-in ws))) ≡ true
+      → giving-outcome mac m t ws coin out
+      ≡ given (mac (m .key)) (m .n) (m .number) (last-for m (t .identity .question)) coin (state-of t) (main-of ws by certificate-of ws)
+  given-as-called room fit bit fitting still three four five =
+      ap (λ (k : ℕ). pick (eqb k 0) whole (refused k)) (passed-front front rest passed)
+    where
+      whole : Outcome
+      whole = taken (mac (m .key)) (m .n) (m .number) (last-for m (t .identity .question)) (state-of t) (main-of ws) (certificate-of ws) coin
+
+      rest : List Test
+      rest = test (rule (m .n) (main-of ws) (certificate-of ws)) no-certificate ∷ step-tests (state-of t) (main-of ws)
+
+      front : List Test
+      front =
+          station-tests m t coin out
+          ++ (test (bundle-fits (m .n) ws) 3
+          ∷ test (question-fits (Only (t .identity .question)) (main-of ws) (certificate-of ws)) 4
+          ∷ test (all-verify (mac (m .key)) (statements ws 1 (suc (count-in ws)))) 5
+          ∷ [])
+
+      passed : All (λ x. x .ok ≡ true) front
+      passed = (
+        le-leb output-words (length out) room,
+        (join (module-fits m && ltb coin 2) _ (join (module-fits m) _ fit (lt-ltb coin 2 bit)) fitting, (ap not still, (three, (four, (five, tt))))),
+      )
+
+-- 0 for a bundle that was kept
+kept-number : Outcome → ℕ
+kept-number (refused k) = 1
+kept-number (keeps k u) = k
+kept-number (sends k s c u) = 1
+
+state-in : State → Outcome → State
+state-in d (refused k) = d
+state-in d (keeps k u) = u
+state-in d (sends k s c u) = u
+
+-- the station of a call that kept the bundle is read as the state that the next call goes on with
+pub kept-as-read : (mac : List ℕ → List ℕ → List ℕ) → ((key ws : List ℕ) → length (mac key ws) ≡ 8) → (m : Module) (t : Station) (ws : List ℕ) (coin : ℕ) (out : List ℕ)
+    → Lengths t → (u : State) → giving-outcome mac m t ws coin out ≡ keeps kept u → state-of (giving mac m t ws coin out .station) ≡ u
+unfolding giving returned kept-number state-in
+kept-as-read mac eight m t ws coin out L u = go (giving-outcome mac m t ws coin out) (gives-view mac m t ws coin out L)
+  where
+    go : (o : Outcome) → Gives mac m t ws coin out o → o ≡ keeps kept u → state-of (returned m t out o .station) ≡ u
+    go _ (refuses e) z = absurd (omega (arith, ap kept-number z))
+    go _ (holds-on A few) z =
+        state-back (m .n) (m .number) (after mac m t ws coin out) (A .range .at-most-31) (A .range .low) (A .range .high) (kept-sane mac eight m t ws coin out L A few)
+        ∙ ap (state-in u) z
+    go _ (shuts A size c) z = absurd (omega (arith, ap kept-number z))
+    go _ (goes-on A size c later k) z = absurd (omega (arith, ap kept-number z))

@@ -1,0 +1,109 @@
+-- Demand 2 of document 01, stated of opening and giving: what is written is valid to every station of the group and coded by the module's own ways, what is
+-- returned fits, a refusal changes nothing, a coin that is not tossed has no effect. `demand-2` in Theorem proves it, of HMAC and of any other code of
+-- eight words. (Valid exactly by the rules: `Valid` in certificate. Numbers, stations and words by the tables: the promises' own definitions.)
+use Prim.Native.Nat.{ℕ, _≤_, _<_}
+use mathlib.Core.Bool.{Bool, true, false, _||_}
+use mathlib.Core.List.{List, [], _∷_, _++_}
+use mathlib.Core.Path.{_≡_}
+use lib.Dec.{eqb}
+use lib.ListN.{length, take, drop}
+use Rattle.format.specs.Numbers.{kind-P, R-GET, sent, output-words, out-of-range, malformed, other-question, wrong-code, no-certificate}
+use Rattle.format.specs.Statement.{Statement, statement}
+use Rattle.format.specs.Bundle.{main-of}
+use Rattle.certificate.specs.declared.Which.the-variants.{Any}
+use Rattle.certificate.specs.Check.{check-by}
+use Rattle.sealed.specs.declared.Module.{Module}
+use Rattle.sealed.specs.Sealed.{Coded, module-fits, is-toss, coding-plain, coding-coin}
+use Rattle.station.specs.declared.Station.{Station}
+use Rattle.station.specs.Machine.{Outcome, sends, own, began, proposing}
+use Rattle.station.specs.Words.{Lengths}
+use Rattle.station.specs.Fit.{fits}
+use Rattle.station.specs.Returns.{unrefused, wrote}
+use Rattle.station.specs.Calls.{Returned, returned, opening, giving, no-station}
+
+-- what a call wrote: the lent words up to the word count
+abbrev pub message : Returned → List ℕ
+message r = take (r .count) (r .lent)
+
+abbrev pub one-of : List ℕ → ℕ → Bool
+one-of [] k = false
+one-of (x ∷ l) k = eqb k x || one-of l k
+
+-- the numbers that say that a bundle is not valid, or that module, station or coin are out of order
+abbrev pub invalid : ℕ → Bool
+invalid = one-of (out-of-range ∷ malformed ∷ other-question ∷ wrong-code ∷ no-certificate ∷ [])
+
+-- nothing but the number
+abbrev pub as-given : ℕ → Module → Station → List ℕ → Returned
+as-given k m t out = record { number = k; count = 0; station = t; after = m; lent = out }
+
+-- "P flagged R-GET with the call's coin": 20, a P of round r with the coin as its value; the votes are its certificate
+abbrev pub tossing : (List ℕ → List ℕ) → ℕ → ℕ → ℕ → ℕ → List Statement → ℕ → Outcome
+tossing code number question r d votes coin =
+    let s = own code number question kind-P coin R-GET r in
+    sends sent s (votes ++ []) (began question (proposing r R-GET) d s votes)
+
+module _ (mac : List ℕ → List ℕ → List ℕ) where
+  module _ (key : List ℕ) (n : ℕ) where
+    -- "All modules of a group share one key and one n."
+    pub record OfGroup (number : ℕ) (m : Module) : Type 0 where
+      pub same-key : m .key ≡ key
+      pub same-n : m .n ≡ n
+      pub same-number : m .number ≡ number
+
+    -- "stations, each made by opening and changed only by these calls"
+    pub data Reached (number : ℕ) : Station → Type 0 where
+      by-opening : (m : Module) (question proposal : ℕ) (out : List ℕ) → OfGroup number m → unrefused (opening mac m question proposal out .number) ≡ true
+          → Reached number (opening mac m question proposal out .station)
+      by-giving : {t : Station} → Reached number t → (m : Module) (ws : List ℕ) (coin : ℕ) (out : List ℕ) → OfGroup number m
+          → unrefused (giving mac m t ws coin out .number) ≡ true → Reached number (giving mac m t ws coin out .station)
+
+    -- words that are "valid to every station of its group": the check answers 0 under the group's key and n, and any open, fitting station of the group on
+    -- that question, given them with 331 lent words and a coin in range, answers none of 2, 3, 4, 5, 6
+    pub record ValidToAll (ws : List ℕ) : Type 0 where
+      pub valid : check-by (mac key) n Any ws ≡ 0
+      pub everywhere : (number : ℕ) (m : Module) (t : Station) (coin : ℕ) (out : List ℕ) → OfGroup number m → module-fits m ≡ true
+          → fits (m .n) (m .number) t ≡ true → t .closed ≡ false → main-of ws .question ≡ t .identity .question → output-words ≤ length out → coin < 2
+          → invalid (giving mac m t ws coin out .number) ≡ false
+
+  -- the module's part: what stands in a written bundle as its main statement is what the module's plain way, or for an R-GET its coin way, codes for
+  -- these words 0 and 1 with any eight words behind them, and the module is left as that coding leaves it
+  pub record BySeal (m : Module) (coin : ℕ) (r : Returned) : Type 0 where
+    pub plain : is-toss (statement (r .lent) 1) ≡ false → (x : List ℕ) → length x ≡ 8
+        → coding-plain mac m (take 2 (drop 1 (r .lent)) ++ x) ≡ record { number = 0; after = r .after; lent = take 10 (drop 1 (r .lent)) }
+    pub tossed : is-toss (statement (r .lent) 1) ≡ true → (x : List ℕ) → length x ≡ 8
+        → coding-coin mac m (take 2 (drop 1 (r .lent)) ++ x) coin ≡ record { number = 0; after = r .after; lent = take 10 (drop 1 (r .lent)) }
+
+  -- coin 0 and coin 1: the same answer in every part, or a toss in both calls, which differ in the coin alone
+  pub data CoinEffect (m : Module) (t : Station) (ws out : List ℕ) : Type 0 where
+    no-effect : giving mac m t ws 0 out ≡ giving mac m t ws 1 out → CoinEffect m t ws out
+    tossed : (r d : ℕ) (votes : List Statement)
+        → giving mac m t ws 0 out ≡ returned m t out (tossing (mac (m .key)) (m .number) (t .identity .question) r d votes 0)
+        → giving mac m t ws 1 out ≡ returned m t out (tossing (mac (m .key)) (m .number) (t .identity .question) r d votes 1) → CoinEffect m t ws out
+
+  pub record Demand-2 : Type 0 where
+    -- "every message that a station writes is valid to every station of its group"; "its word count with it"
+    pub opening-written : (key : List ℕ) (n number : ℕ) (m : Module) (question v : ℕ) (out : List ℕ) → OfGroup key n number m
+        → wrote (opening mac m question v out .number) ≡ true → ValidToAll key n (message (opening mac m question v out))
+    pub giving-written : (key : List ℕ) (n number : ℕ) (t : Station) → Reached key n number t → (m : Module) (ws : List ℕ) (coin : ℕ) (out : List ℕ)
+        → OfGroup key n number m → wrote (giving mac m t ws coin out .number) ≡ true → ValidToAll key n (message (giving mac m t ws coin out))
+    pub opening-counted : (m : Module) (question v : ℕ) (out : List ℕ) → length (message (opening mac m question v out)) ≡ opening mac m question v out .count
+    pub giving-counted : (m : Module) (t : Station) (ws : List ℕ) (coin : ℕ) (out : List ℕ) → Lengths t
+        → length (message (giving mac m t ws coin out)) ≡ giving mac m t ws coin out .count
+    -- "It has two ways to code": a station codes through them alone
+    pub opening-sealed : (m : Module) (question v : ℕ) (out : List ℕ) → wrote (opening mac m question v out .number) ≡ true
+        → (coin : ℕ) → BySeal m coin (opening mac m question v out)
+    pub giving-sealed : (m : Module) (t : Station) (ws : List ℕ) (coin : ℕ) (out : List ℕ) → Lengths t → wrote (giving mac m t ws coin out .number) ≡ true
+        → BySeal m coin (giving mac m t ws coin out)
+    -- "no station that these calls answer without refusing fails it"
+    pub opening-fits : (m : Module) (question v : ℕ) (out : List ℕ) → unrefused (opening mac m question v out .number) ≡ true
+        → fits (m .n) (m .number) (opening mac m question v out .station) ≡ true
+    pub giving-fits : (m : Module) (t : Station) (ws : List ℕ) (coin : ℕ) (out : List ℕ) → Lengths t
+        → unrefused (giving mac m t ws coin out .number) ≡ true → fits (m .n) (m .number) (giving mac m t ws coin out .station) ≡ true
+    -- "At a refusal station, module and lent words keep their values", and the word count is zero; a refused opening returns the station that is none
+    pub opening-refused : (m : Module) (question v : ℕ) (out : List ℕ) → unrefused (opening mac m question v out .number) ≡ false
+        → opening mac m question v out ≡ as-given (opening mac m question v out .number) m no-station out
+    pub giving-refused : (m : Module) (t : Station) (ws : List ℕ) (coin : ℕ) (out : List ℕ) → Lengths t
+        → unrefused (giving mac m t ws coin out .number) ≡ false → giving mac m t ws coin out ≡ as-given (giving mac m t ws coin out .number) m t out
+    -- "A coin in range has no effect where none is tossed."
+    pub coin-effect : (m : Module) (t : Station) (ws out : List ℕ) → CoinEffect m t ws out

@@ -1,0 +1,44 @@
+-- The numbers that opening and giving return, classed in one table (document 01, "Table of returns").
+use Prim.Native.Nat.{ℕ}
+use mathlib.Core.Bool.{Bool, true, false, _&&_, _||_}
+use mathlib.Core.List.{List, [], _∷_}
+use mathlib.Core.Path.{_≡_, refl}
+use lib.Dec.{eqb}
+use Rattle.laws.specs.Bools.{never}
+use Rattle.format.specs.Numbers.{kept, sent, sent-decided, closed-now}
+
+-- a number that is no refusal, and whether a bundle was written with it
+pub record Class : Type 0 where
+  pub number : ℕ
+  pub writes : Bool
+
+abbrev pub classed : ℕ → Bool → Class
+classed k w = record { number = k; writes = w }
+
+-- "0: kept, step not ended"; "20: sent: bundle written"; "21: sent, and first decided in this call"; "22: closed in this call". Every other number is a
+-- refusal
+abbrev pub classes : List Class
+classes = classed kept false ∷ classed sent true ∷ classed sent-decided true ∷ classed closed-now false ∷ []
+
+-- whether the number stands there, with what a test asks
+abbrev pub listed : (Class → Bool) → List Class → ℕ → Bool
+listed p [] k = false
+listed p (r ∷ l) k = (eqb k (r .number) && p r) || listed p l k
+
+abbrev pub unrefused : ℕ → Bool
+unrefused k = listed (λ r. true) classes k
+
+abbrev pub wrote : ℕ → Bool
+wrote k = listed (λ r. r .writes) classes k
+
+-- what is written is not refused
+pub wrote-unrefused : (k : ℕ) → wrote k ≡ true → unrefused k ≡ true
+wrote-unrefused k u = go classes u
+  where
+    step-by : (a b c d : Bool) → (c ≡ true → d ≡ true) → ((a && b) || c) ≡ true → ((a && true) || d) ≡ true
+    step-by true b c d f e = refl
+    step-by false b c d f e = f e
+
+    go : (l : List Class) → listed (λ r. r .writes) l k ≡ true → listed (λ r. true) l k ≡ true
+    go [] e = e
+    go (r ∷ l) e = step-by (eqb k (r .number)) (r .writes) (listed (λ r. r .writes) l k) (listed (λ r. true) l k) (go l) e
