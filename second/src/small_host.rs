@@ -5,7 +5,7 @@ use crate::group::BUNDLE_WORDS;
 use crate::hmac::Key;
 use crate::returns::{is_refusal, SENT};
 use crate::sealed::{make, Module};
-use crate::station::{give, open, step_and_decision, StationWords, STATION_WORDS};
+use crate::station::{give, open, refused_station, step_and_decision, StationWords};
 use crate::words::NONE;
 
 const KEY: Key = [0x0707_0707; 8];
@@ -23,7 +23,7 @@ impl Site {
     fn fresh(n: u32, number: u32) -> Site {
         Site {
             own: make(&KEY, n, number).1,
-            station: [0; STATION_WORDS],
+            station: refused_station(),
             question: 0,
             written: Vec::new(),
         }

@@ -155,10 +155,12 @@ fn closed_words(station: &Station, decision: u32) -> StationWords {
     words
 }
 
-/// What a refused opening returns: closed, and all else zero.
+/// What a refused opening returns, a station that is none: closed, with no decision, and all else
+/// zero. Its n is 0, so that every giving on it is refused, by 1 or 2.
 pub fn refused_station() -> StationWords {
     let mut words = [0; STATION_WORDS];
     words[6] = 1;
+    words[7] = NONE;
     words
 }
 
@@ -350,7 +352,7 @@ impl Station {
 // ---- opening ------------------------------------------------------------------------------
 
 /// "Opening tests 1, 2, 12." It answers 20 and writes the INIT; a refused opening returns the
-/// fixed closed station and changes nothing.
+/// station that is none and changes nothing.
 pub fn open(
     module: &mut Module,
     question: u32,

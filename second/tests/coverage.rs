@@ -4,6 +4,7 @@ use std::collections::BTreeMap;
 
 use second::generate::script;
 use second::script::{read_line, Command, Machine, Report};
+use second::words::NONE;
 
 /// A call of the script: n of its module before the call, how many words it is given to judge, and
 /// what it left.
@@ -141,7 +142,7 @@ fn every_edge_is_called() {
 }
 
 /// "At a refusal station, module and lent words keep their values." An opening that is refused
-/// returns a station of its own, a making a module of its own.
+/// returns the station that is none, a making the module of zeros.
 #[test]
 fn refusals_change_nothing() {
     let same = |pair: &(Vec<u32>, Vec<u32>)| pair.0 == pair.1;
@@ -160,8 +161,9 @@ fn refusals_change_nothing() {
         }
         match command {
             Command::Open(..) => {
-                let closed = |(i, word): (usize, &u32)| *word == u32::from(i == 6);
-                assert!(report.station.1.iter().enumerate().all(closed));
+                let front = [0, 0, 0, 0, 0, 0, 1, NONE];
+                assert_eq!(report.station.1[..8], front);
+                assert!(report.station.1[8..].iter().all(|word| *word == 0));
             }
             _ => assert!(same(&report.station), "{command:?}"),
         }
