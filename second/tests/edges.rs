@@ -1,11 +1,12 @@
-//! The edges that 01 lists, and the readings of 01 that decide numbers.
+//! The edges that 01 lists, and the readings of 01 that decide numbers. The readings are those of the
+//! README, in its words.
 
 mod common;
 use common::*;
 use second::check::check;
 use second::group::{backing, quorum, LAST_ROUND};
 use second::sealed::{code_coin, code_plain, make};
-use second::station::{fits, give, open, refused_station};
+use second::station::{fits, give, open, refused_station, step_and_decision};
 use second::words::{Bundle, Kind, Statement, Step, NONE};
 use second::world::{least_backing, meeting_number};
 
@@ -61,7 +62,7 @@ fn output_of_330_and_331_words() {
     assert_eq!((answer.number, closed), (1, refused_station()));
 }
 
-/// Reading 5: count 33 is 3 at every n; count 32 of the right length is well-formed.
+/// "Count 33 or more is 3; up to 32 with the right length is well-formed at every n."
 #[test]
 fn counts_of_32_and_33() {
     let many = |count: usize| vec![init(1, 0); count];
@@ -91,7 +92,7 @@ fn no_words_and_groups_of_q_less_1() {
 /// A station of 3 voting in the last round holds its own vote and is given another.
 fn last_votes(own: u32, other: u32, decision: u32) -> (u32, u32, u32) {
     let mut module = module(3, 1);
-    // reading 8: 12 is not tested where no bundle would be written
+    // "12 is not tested where no bundle would be written."
     module.last = Some((u32::MAX, Step(131_071)));
     let group = ps(&[1, 2], LAST_ROUND, 0, R);
     let first: &[Statement] = if own == 0 { &group } else { &[] };
@@ -113,7 +114,7 @@ fn last_votes(own: u32, other: u32, decision: u32) -> (u32, u32, u32) {
     assert_eq!(words[..7], expected_front);
     assert!(words[8..].iter().all(|word| *word == 0));
     let again = give_words(&mut module, &mut words, &given, 0).0.number;
-    // reading 6: a coin out of range is 2 even at a closed station
+    // "A coin out of range is 2 in every giving", at a closed station too
     assert_eq!(give_words(&mut module, &mut words, &given, 2).0.number, 2);
     (answer.number, words[7], again)
 }
@@ -127,7 +128,8 @@ fn closing_behind_the_last_round() {
     assert_eq!(last_votes(NONE, 0, 0), (22, 0, 11));
 }
 
-/// Reading 2: a P of round 1 flagged R-GET is well-formed.
+/// "A P of round 1 flagged R-GET is well-formed; it can be coded by the coin way, and stand in the P
+/// groups of rules 3 and 5, not of rule 6. As a main statement it is 6."
 #[test]
 fn first_round_r_get() {
     let mut coder = module(3, 1);
@@ -145,7 +147,7 @@ fn first_round_r_get() {
     assert_eq!(check(&KEY, 3, &bundle(v(1, 1, NONE), &[&both])), 0);
 }
 
-/// Reading 3: a second group that rule 5 does not ask for is one too many.
+/// "A second group that rule 5 does not ask for is 6."
 #[test]
 fn second_group_only_where_asked() {
     let before = ps(&[1, 2], 1, 0, D);
@@ -158,7 +160,8 @@ fn second_group_only_where_asked() {
     assert_eq!(check(&KEY, 3, &bundle(v(1, 1, 0), &[&before, &before])), 6);
 }
 
-/// Readings 4 and 7.
+/// "Station 0 or over n is 3 everywhere, in coding too. Another station of 1 to n to code is 5." "The
+/// coin way takes a value of 0 or 1 and replaces it." A coin out of range is 2.
 #[test]
 fn coding_stations_and_coins() {
     let mut fresh = module(4, 2);
@@ -191,7 +194,8 @@ fn coding_stations_and_coins() {
     assert_eq!(fresh, module(4, 2));
 }
 
-/// Reading 9: 10 is judged before it is known whether the step ends; not in round 1.
+/// "10 is judged over the held and the new together, before it is known whether the step ends." In
+/// round 1 proposals do not conflict.
 #[test]
 fn conflicts() {
     let mut own = module(7, 1);
@@ -215,8 +219,8 @@ fn conflicts() {
     assert_eq!(give_words(&mut second, &mut words, &given, 0).0.number, 10);
 }
 
-/// Reading 10: codes and conflicts are no part of fit, and a closed station fits whatever its set
-/// says; its n and number are compared all the same.
+/// "Codes are not verified again. A closed station fits if n and number are the module's", whatever its
+/// set says. Conflicts are no part of fit either, nor is an R-GET of round 1.
 #[test]
 fn what_fit_does_not_ask() {
     let group = ps(&[1, 2, 3, 4], 1, 1, D);
@@ -234,11 +238,36 @@ fn what_fit_does_not_ask() {
     assert!(!fits(&closed, &module(6, 2)));
     let round_1_r_get = station(7, p(2, 1, 0, D), &[p(3, 1, 0, R)], [&[], &[]]);
     assert!(fits(&round_1_r_get, &module(7, 2)));
-    assert!(!fits(&refused_station(), &module(7, 2)));
 }
 
-/// Reading 11: after an opening on a later question an earlier station keeps and may close; where
-/// it would write, the module says 12.
+/// "A refused making returns the module of zeros; a refused opening the station that is none": no
+/// decision is named, and every call on them is refused by 1 or 2.
+#[test]
+fn the_module_and_the_station_that_are_none() {
+    let none = refused_station();
+    assert_eq!(none[..8], [0, 0, 0, 0, 0, 0, 1, NONE]);
+    assert!(none[8..].iter().all(|word| *word == 0));
+    assert_eq!(step_and_decision(&none), (Step(0), NONE));
+    let no_module = make(&KEY, 32, 1).1;
+    for holder in [no_module.clone(), module(2, 1), module(31, 31)] {
+        for (length, number) in [(0, 1), (330, 1), (331, 2), (400, 2)] {
+            for words in [&[][..], &bundle(init(1, 0), &[])] {
+                let (mut holder, mut station) = (holder.clone(), none);
+                let mut lent = vec![7; length];
+                let answer = give(&mut holder, &mut station, words, 0, &mut lent);
+                assert_eq!((answer.number, answer.count, station), (number, 0, none));
+            }
+            let answer = open(&mut no_module.clone(), 1, 0, &mut vec![7; length]);
+            assert_eq!((answer.0.number, answer.1), (number, none));
+        }
+        assert!(!fits(&none, &holder));
+    }
+    assert_eq!(code_plain(&mut no_module.clone(), &mut [0; 10]), 2);
+    assert_eq!(code_coin(&mut no_module.clone(), &mut [0; 10], 0), 2);
+}
+
+/// "12 is not tested where no bundle would be written": after an opening on a later question an
+/// earlier station keeps what it is given; where it would write, the module says 12.
 #[test]
 fn earlier_questions() {
     let (mut module, mut station) = opened(5, 1, 0);
@@ -254,7 +283,7 @@ fn earlier_questions() {
     assert_eq!(given(4), 12);
 }
 
-/// Reading 1: the own certificate can supply a group.
+/// "The own statement counts among the held and its certificate among those that supply a group".
 #[test]
 fn own_certificate_supplies() {
     let mut module = module(3, 1);
