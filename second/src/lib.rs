@@ -1,7 +1,8 @@
 //! A second implementation of Trusted Ben-Or stations for relay sites.
 //!
 //! It is written from document 01 (and the paper, 004) alone, to be held against 01 sentence by
-//! sentence. Sentences of 01 stand in quotes at the code that renders them.
+//! sentence. Sentences of 01 stand in quotes at the code that renders them. One file follows the
+//! proved code: the loop of `small_host.rs`, which holds no rule of 01.
 
 pub mod check;
 pub mod group;

@@ -1,5 +1,9 @@
 //! What the small host prints (crates/small_host): all sites of a group in one program, with a radio
 //! that loses nothing. It is the whole vote that the benchmark times.
+//!
+//! The loop is a port of that program's, so that both make the same deliveries in the same order and
+//! print the same: the one file here that was made to follow the proved code. What a delivery does it
+//! takes from `station.rs`.
 
 use crate::group::BUNDLE_WORDS;
 use crate::hmac::Key;
