@@ -1,7 +1,7 @@
 //! What faulty sites and the radio do: find certificates among coded statements, forge stations,
 //! damage words.
 
-use crate::group::{backing, quorum, STATEMENT_WORDS};
+use crate::group::{backing, quorum, LAST_ROUND, STATEMENT_WORDS};
 use crate::rng::Rng;
 use crate::script::Command;
 use crate::station::{set_of, StationWords, FIRST_START, HEARD_WORD, HELD_START, SECOND_START};
@@ -42,11 +42,10 @@ struct Wanted {
 }
 
 impl World {
-    /// Coded statements as wanted, by rising station.
+    /// Coded statements as wanted.
     fn coded_like(&self, question: u32, wanted: &Wanted) -> Vec<Statement> {
         let loose = self.loose;
-        let mut found: Vec<Statement> = self
-            .coded
+        self.coded
             .iter()
             .filter(|s| s.kind == wanted.kind)
             .filter(|s| loose == Loose::AnyQuestion || s.question == question)
@@ -54,18 +53,49 @@ impl World {
             .filter(|s| loose == Loose::AnyValue || wanted.value.is_none_or(|v| v == s.value))
             .filter(|s| loose == Loose::AnyFlag || wanted.flag.is_none_or(|f| f == s.flag))
             .copied()
-            .collect();
+            .collect()
+    }
+
+    /// A statement as wanted of each station, coded by hand under the group's key; some are not
+    /// quite as wanted where certificates are loose.
+    fn made_like(&mut self, question: u32, wanted: &Wanted) -> Vec<Statement> {
+        let values: &[u32] = match wanted.kind {
+            Kind::V => &[0, 1, NONE],
+            _ => &[0, 1],
+        };
+        let mut made = Vec::new();
+        for station in 1..=self.n {
+            let is_loose = self.rng.percent(20);
+            let loosely = |loose: Loose| is_loose && self.loose == loose;
+            let value = wanted.value.filter(|_| !loosely(Loose::AnyValue));
+            let flag = wanted.flag.filter(|_| !loosely(Loose::AnyFlag));
+            let next = u32::from(loosely(Loose::AnyRound));
+            let other = u32::from(loosely(Loose::AnyQuestion));
+            let flag = match wanted.kind {
+                Kind::P => flag.unwrap_or(self.rng.pick(&[Flag::DGet, Flag::RGet])),
+                _ => Flag::DGet,
+            };
+            let value = value.unwrap_or(self.rng.pick(values));
+            let round = (wanted.round + next).min(LAST_ROUND);
+            let who = (station, question ^ other);
+            let statement = Statement::uncoded(wanted.kind, round, value, flag, who);
+            made.push(statement.coded(&self.key));
+        }
+        made
+    }
+
+    /// So many statements as wanted, by rising station.
+    fn some_like(&mut self, question: u32, size: usize, wanted: Wanted) -> Option<Vec<Statement>> {
+        let mut found = match self.by_hand {
+            true => self.made_like(question, &wanted),
+            false => self.coded_like(question, &wanted),
+        };
         found.sort_by_key(|s| s.station);
-        if loose == Loose::Twice {
+        if self.loose == Loose::Twice {
             found = found.into_iter().flat_map(|s| [s, s]).collect();
         } else {
             found.dedup_by_key(|s| s.station);
         }
-        found
-    }
-
-    fn some_like(&mut self, question: u32, size: usize, wanted: Wanted) -> Option<Vec<Statement>> {
-        let found = self.coded_like(question, &wanted);
         let fewer = usize::from(self.loose == Loose::OneFewer);
         self.rng.part(&found, size - fewer)
     }
@@ -134,9 +164,12 @@ impl World {
 
     // ---- forged stations --------------------------------------------------------------------
 
-    /// A statement for a forged station: the coded one of that station and step where the value
-    /// suits, else one without a true code.
+    /// A statement for a forged station: coded by hand, or the coded one of that station and step
+    /// where the value suits, else one without a true code.
     fn coded_or_false(&mut self, like: Statement) -> Statement {
+        if self.by_hand {
+            return like.coded(&self.key);
+        }
         let coded = self.coded.iter().find(|s| s.word0() == like.word0());
         match coded {
             Some(coded) if coded.question == like.question => *coded,

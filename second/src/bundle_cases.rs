@@ -116,7 +116,7 @@ fn with_words(bundle: &Bundle, i: usize, word0: u32, word1: u32, coded: bool) ->
 }
 
 /// Each way to change one field of word 0, with the number where the field alone fixes it.
-fn field_faults(n: u32, word0: u32) -> Vec<(u32, Option<u32>)> {
+pub fn field_faults(n: u32, word0: u32) -> Vec<(u32, Option<u32>)> {
     let mut faults = Vec::new();
     for kind in 0..4 {
         let ill = (kind == 3).then_some(3);

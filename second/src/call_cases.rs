@@ -4,7 +4,7 @@
 use crate::author::Author;
 use crate::fit_cases::fit_cases;
 use crate::group::{quorum, BUNDLE_WORDS, LAST_ROUND, MOST_CERTIFICATE, STATEMENT_WORDS};
-use crate::random::one_list;
+use crate::random::{one_list, List};
 use crate::samples::{
     both_values, bundle, init, module, none_votes, p, proposals, station, v, D, KEY, QUESTION, R,
 };
@@ -833,7 +833,14 @@ impl Calls {
     fn random_list(&mut self, n: u32, seed: u64, all_faulty: bool, turns: usize) {
         self.author.comment(&format!("a random list at n {n}"));
         let author = std::mem::take(&mut self.author);
-        let (author, _) = one_list(n, seed, all_faulty, turns, author).expect("all holds");
+        let list = List {
+            n,
+            seed,
+            all_faulty,
+            turns,
+            asides: 0,
+        };
+        let (author, _) = one_list(list, author).expect("all holds");
         self.author = author;
     }
 }

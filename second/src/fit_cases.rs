@@ -6,7 +6,7 @@ use crate::group::{quorum, LAST_ROUND, STATEMENT_WORDS};
 use crate::station::{StationWords, FIRST_START, HEARD_WORD, HELD_START, SECOND_START};
 
 /// A changed station, and the number where it is known without looking at the rest.
-type Changed = (StationWords, Option<u32>);
+pub type Changed = (StationWords, Option<u32>);
 
 /// The number that a station is refused by if it does not fit.
 const UNFIT: Option<u32> = Some(2);
@@ -15,6 +15,8 @@ struct Changes {
     from: StationWords,
     /// What the giving returns where the change does not matter.
     number: Option<u32>,
+    /// Whether each bit of the statements' first words is tried too.
+    every_bit: bool,
     all: Vec<Changed>,
 }
 
@@ -144,9 +146,13 @@ impl Changes {
         self.all.push((words, UNFIT));
     }
 
+    fn bits(&self) -> std::ops::Range<u32> {
+        0..if self.every_bit { 32 } else { 0 }
+    }
+
     /// Each bit of a statement's first word, and its question.
     fn fields(&mut self, at: usize) {
-        for bit in 0..32 {
+        for bit in self.bits() {
             // value and flag may change into what still fits
             let sure = !(27..30).contains(&bit);
             let expected = if sure { UNFIT } else { None };
@@ -187,7 +193,7 @@ impl Changes {
 
     fn group_fields(&mut self, at: usize) {
         let is_p = self.from[at] >> 30 == 1;
-        for bit in 0..32 {
+        for bit in self.bits() {
             let is_station = (16..24).contains(&bit);
             let is_flag = bit == 27;
             let expected = match (is_station, is_flag && is_p) {
@@ -219,11 +225,13 @@ impl Changes {
     }
 }
 
-fn changes(setup: &Setup, number: u32) -> Vec<Changed> {
+/// A giving's station with each of these changes.
+pub fn changes(setup: &Setup, number: u32, every_bit: bool) -> Vec<Changed> {
     let n = setup.module.n;
     let mut changes = Changes {
         from: setup.station,
         number: Some(number),
+        every_bit,
         all: Vec::new(),
     };
     changes.identity(n);
@@ -249,7 +257,7 @@ pub fn fit_cases(calls: &mut Calls) {
         });
         for (_, (name, setup, number)) in chosen {
             calls.base(&format!("fit, {name}"), setup);
-            for (station, expected) in changes(setup, *number) {
+            for (station, expected) in changes(setup, *number, true) {
                 let mut changed = setup.clone();
                 changed.station = station;
                 calls.give(&changed, expected);

@@ -17,8 +17,10 @@ pub mod words;
 pub mod script;
 
 pub mod adversary;
+pub mod asides;
 pub mod random;
 pub mod rng;
+pub mod seeded;
 pub mod world;
 
 pub mod author;

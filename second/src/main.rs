@@ -7,7 +7,8 @@ use std::process::ExitCode;
 use second::random::{many_lists, missing};
 use second::returns::TABLE;
 
-const USAGE: &str = "second run FILE | valley | random [--seed S] [--runs N] | generate [DIR]";
+const USAGE: &str = "second run FILE | valley | random [--seed S] [--runs N] | generate [DIR] \
+                     | script --seed S --calls N DIR";
 
 /// The fixed seed and number of lists of the random tester.
 const SEED: u64 = 20_181_217;
@@ -67,6 +68,12 @@ fn run_random(arguments: &[String]) -> Result<(), String> {
     }
 }
 
+fn write_script(seed: &str, calls: &str, directory: &str) -> Result<(), String> {
+    let seed = seed.parse().map_err(|_| "--seed needs a number")?;
+    let calls = calls.parse().map_err(|_| "--calls needs a number")?;
+    second::seeded::write(seed, calls, Path::new(directory))
+}
+
 fn main() -> ExitCode {
     let arguments: Vec<String> = std::env::args().skip(1).collect();
     let words: Vec<&str> = arguments.iter().map(String::as_str).collect();
@@ -74,6 +81,9 @@ fn main() -> ExitCode {
         ["run", file] => run_script(file),
         ["valley"] => run_valley(),
         ["random", ..] => run_random(&arguments[1..]),
+        ["script", "--seed", seed, "--calls", calls, directory] => {
+            write_script(seed, calls, directory)
+        }
         ["generate"] => second::generate::generate(&repository()),
         ["generate", directory] => second::generate::generate(Path::new(directory)),
         _ => Err(USAGE.to_string()),

@@ -31,11 +31,23 @@ struct Manner {
     push: u32,
 }
 
+/// What makes a list of calls.
+#[derive(Clone, Copy)]
+pub struct List {
+    pub n: u32,
+    pub seed: u64,
+    pub all_faulty: bool,
+    pub turns: usize,
+    /// How many turns in a hundred are calls beside the list.
+    pub asides: usize,
+}
+
 /// One list of calls under way.
 struct Run {
     world: World,
     manner: Manner,
     base_question: u32,
+    asides: usize,
 }
 
 /// The sites that are faulty: within the premise, or all of them. Without sound sites nothing is
@@ -52,9 +64,9 @@ fn faulty_sites(n: u32, rng: &mut Rng, all: bool) -> Vec<bool> {
 }
 
 impl Run {
-    fn new(n: u32, seed: u64, all_faulty: bool, author: Author) -> Run {
-        let mut rng = Rng::new(seed);
-        let faulty = faulty_sites(n, &mut rng, all_faulty);
+    fn new(list: List, author: Author) -> Run {
+        let mut rng = Rng::new(list.seed);
+        let faulty = faulty_sites(list.n, &mut rng, list.all_faulty);
         let manner = Manner {
             contrary: rng.pick(&[0, 50, 90, 100]),
             split_coins: rng.pick(&[0, 50, 95]),
@@ -65,9 +77,10 @@ impl Run {
         };
         let base_question = rng.pick(&[0, 1, 7, u32::MAX - 2, 1 << 31]);
         Run {
-            world: World::new(n, faulty, rng, author),
+            world: World::new(list.n, faulty, rng, author),
             manner,
             base_question,
+            asides: list.asides,
         }
     }
 
@@ -95,6 +108,10 @@ impl Run {
     }
 
     fn turn(&mut self) {
+        if self.asides > 0 && self.world.rng.percent(self.asides) {
+            self.world.aside();
+            return;
+        }
         let sound = self.sites(true);
         let faulty = self.sites(false);
         let chance = self.world.rng.below(100);
@@ -512,18 +529,12 @@ impl Run {
     }
 }
 
-/// One list of calls by its number; records it where the author does. Answers the author and what
-/// was counted, or what failed.
-pub fn one_list(
-    n: u32,
-    seed: u64,
-    all_faulty: bool,
-    turns: usize,
-    author: Author,
-) -> Result<(Author, Counts), String> {
-    let mut run = Run::new(n, seed, all_faulty, author);
+/// One list of calls; records it where the author does. Answers the author and what was counted, or
+/// what failed.
+pub fn one_list(list: List, author: Author) -> Result<(Author, Counts), String> {
+    let mut run = Run::new(list, author);
     run.world.author.set(Command::Fill(SPARE_OUTPUT, 331, 0));
-    run.go(turns);
+    run.go(list.turns);
     match run.world.failure {
         Some(failure) => Err(failure),
         None => Ok((run.world.author, run.world.counts)),
@@ -549,10 +560,14 @@ pub fn many_lists(seed: u64, lists: u64) -> Result<Counts, String> {
     let mut total = Counts::default();
     for i in 0..lists {
         let n = SIZES[(i % SIZES.len() as u64) as usize];
-        let all_faulty = i / SIZES.len() as u64 % 5 == 4;
-        let turns = if n == 31 { 2500 } else { 150 * n as usize };
-        let list_seed = seed.wrapping_mul(1_000_003).wrapping_add(i);
-        match one_list(n, list_seed, all_faulty, turns, Author::default()) {
+        let list = List {
+            n,
+            seed: seed.wrapping_mul(1_000_003).wrapping_add(i),
+            all_faulty: i / SIZES.len() as u64 % 5 == 4,
+            turns: if n == 31 { 2500 } else { 150 * n as usize },
+            asides: 0,
+        };
+        match one_list(list, Author::default()) {
             Ok((_, counts)) => add(&mut total, &counts),
             Err(failure) => return Err(format!("list {i} of seed {seed}: {failure}")),
         }

@@ -226,6 +226,12 @@ fn read_call(keyword: &str, numbers: &[u32]) -> Option<Command> {
 
 // ---- carrying commands out ----------------------------------------------------------------
 
+/// Whether a line of a well-formed script is a call, and so prints a line: "No two keywords start
+/// with the same letter."
+pub fn is_call(line: &str) -> bool {
+    line.starts_with(['c', 'g', 'm', 'o', 'p', 't'])
+}
+
 /// The registers. All are zero at first, buffers of length 0.
 pub struct Machine {
     pub modules: Vec<[u32; MODULE_WORDS]>,

@@ -20,8 +20,10 @@ pub const AIR_BUFFERS: usize = 118;
 pub const DAMAGED: usize = 127;
 pub const SHORT: usize = 126;
 pub const SPARE_OUTPUT: usize = 125;
-/// Station registers: lineages from 0 on, then copies of earlier stations, then one for forging.
-pub const LINEAGE_REGISTERS: usize = 50;
+/// Station registers: lineages from 0 on, then one for calls beside the list, copies of earlier
+/// stations, and one for forging.
+pub const LINEAGE_REGISTERS: usize = 49;
+pub const ASIDE: usize = 49;
 pub const COPIES: std::ops::Range<usize> = 50..63;
 pub const FORGED: usize = 63;
 
@@ -68,6 +70,9 @@ pub struct World {
     pub failure: Option<String>,
     /// How the faulty sites find certificates just now.
     pub loose: Loose,
+    /// Whether certificates and forged stations are coded by hand just now, under the group's key,
+    /// and not found among what the modules coded.
+    pub by_hand: bool,
     decisions: Vec<(u32, u32, u32)>,
     next_buffer: usize,
     ready_buffer: Option<usize>,
@@ -108,6 +113,7 @@ impl World {
             counts: Counts::default(),
             failure: None,
             loose: Loose::No,
+            by_hand: false,
             decisions: Vec::new(),
             next_buffer: 0,
             ready_buffer: None,
@@ -129,7 +135,7 @@ impl World {
         }
     }
 
-    fn count(&mut self, report: &Report) {
+    pub fn count(&mut self, report: &Report) {
         self.counts.calls += 1;
         *self.counts.returned.entry(report.number).or_default() += 1;
     }
@@ -292,7 +298,7 @@ impl World {
 
     /// "At a refusal station, module and lent words keep their values." and "Where no bundle is
     /// written the word count is zero."
-    fn require_unchanged(&mut self, report: &Report, station_too: bool) {
+    pub fn require_unchanged(&mut self, report: &Report, station_too: bool) {
         let station_same = !station_too || report.station.0 == report.station.1;
         let same = report.module.0 == report.module.1 && report.lent.0 == report.lent.1;
         self.require(same && station_same, "a refusal changes nothing");

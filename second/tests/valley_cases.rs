@@ -49,7 +49,7 @@ fn frames_are_as_described() {
         let [head, body, times, piece] = [1, 2, 3, 4].map(|i| words[i].parse::<usize>().unwrap());
         assert_eq!((words[0], words.len()), ("case", 5));
         assert!(head <= LIMIT && body <= LIMIT && times < 1_000_000);
-        assert!(1 <= piece && piece < 1_000_000);
+        assert!((1..1_000_000).contains(&piece));
         assert_eq!((times, piece), (case.times, case.piece));
         let copies = rest[head..head + body].repeat(times);
         assert!([&rest[..head], &copies].concat() == case.input());
