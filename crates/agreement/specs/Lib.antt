@@ -9,5 +9,6 @@ pub mod Line
 pub mod Giving
 pub mod Invariant
 pub mod Run
+pub mod Prefix
 pub mod Theorem
 pub mod Example
