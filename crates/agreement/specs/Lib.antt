@@ -11,4 +11,5 @@ pub mod Invariant
 pub mod Run
 pub mod Prefix
 pub mod Theorem
+pub mod Computed
 pub mod Example

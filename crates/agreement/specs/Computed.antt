@@ -1,0 +1,247 @@
+-- What demand 3 asks of a list of calls, as tests that the checker can compute: where `given`, `few` and `decides` are true, `Given`, `FewFaulty` and
+-- `Decides` hold.
+use Prim.Native.Nat.{ℕ, zero, suc, _+_, _-_, _*_, _/_, _≤_, _<_}
+use mathlib.Core.Bool.{Bool, true, false, not, _&&_, _||_}
+use mathlib.Core.List.{List, [], _∷_, _++_}
+use mathlib.Core.Path.{_≡_, refl, sym, _∙_, subst}
+use native.Mathlib.Omega.{arith}
+use lib.Count.{ones}
+use lib.Dec.{eqb, leb}
+use lib.ListN.{length, getD, take, drop}
+use borrow.Author.Tests.{eqb-true, eqb-false, eq-eqb, leb-true}
+use Rattle.laws.specs.Pick.{pick}
+use Rattle.laws.specs.Bools.{never, both, join}
+use Rattle.laws.specs.Count.{count, one-if}
+use Rattle.laws.specs.Refusals.{first-failed}
+use Rattle.format.specs.Numbers.{none}
+use Rattle.format.specs.Group.{quorum, backing, most-faulty}
+use Rattle.format.specs.Words as Format
+use Rattle.format.specs.Words.{fields-of, word-of, formed, step-of}
+use Rattle.format.specs.Statement.{statements, same-words, verifies, well-formed, step}
+use Rattle.format.specs.Bundle.{laid-out, all-formed, bundle-fits}
+use Rattle.format.specs.Layout.{same-out}
+use Rattle.certificate.specs.Rules.{wanted, some, in-order, holds, first-group, second-group, has-second, early-toss, rest-holds, spread, groups-hold, rule}
+use Rattle.certificate.specs.Check.{every}
+use Rattle.sealed.specs.Sealed.{above, making, coding-plain, coding-coin}
+use Rattle.station.specs.declared.Stage.{Stage}
+use Rattle.station.specs.declared.Stage.the-variants.{Gathering, Proposing, Voting}
+use Rattle.station.specs.declared.Station.{Station}
+use Rattle.station.specs.Machine.{kind-in, round-in, proposing, voting, insert, number-of, first-value, those, vote-value, decided, carried, follows, ended, taken, conflict}
+use Rattle.station.specs.Words.{held-in, leading, kept-first, kept-second, state-of, set-of, slot-of, slots-of, all-written, station-of, bundle-of, Lengths}
+use Rattle.station.specs.Fit.{zeros, slots-fit, fits}
+use Rattle.station.specs.Calls.{Returned, returned, opening, giving, no-station}
+use Rattle.station.specs.Returns.{unrefused}
+use Rattle.agreement.specs.Demand.{Call, opens, gives, codes, tosses, Entry, Lineage, Found, nothing, found, member, logged, votes, act, modules, answer, coded-in, log, openings, lineage, Presents, Sound, FewFaulty, CodesCame, Given, Decides}
+
+-- ---- two stations compared: their numbers in one list, and their three arrays
+abbrev flag-in : Stage → ℕ
+flag-in Gathering = 0
+flag-in (Proposing r f) = f
+flag-in (Voting r) = 0
+
+abbrev stage-at : ℕ → ℕ → ℕ → Stage
+stage-at k r f = pick (eqb k 0) Gathering (pick (eqb k 1) (proposing r f) (voting r))
+
+abbrev front : Station → List ℕ
+front t =
+    t .identity .n ∷ t .identity .number ∷ t .identity .question ∷ t .decision ∷ t .held .heard ∷ one-if (t .closed)
+    ∷ kind-in (t .stage) ∷ round-in (t .stage) ∷ flag-in (t .stage) ∷ []
+
+-- the station of such lists
+abbrev made-of : List ℕ → List ℕ → List ℕ → List ℕ → Station
+made-of f slots first second =
+    record {
+      identity = record { n = getD f 0 0; number = getD f 1 0; question = getD f 2 0 };
+      stage = stage-at (getD f 6 0) (getD f 7 0) (getD f 8 0);
+      closed = eqb (getD f 5 0) 1;
+      decision = getD f 3 0;
+      held = record { heard = getD f 4 0; slots = slots };
+      groups = record { first = first; second = second };
+    }
+
+stage-again : (g : Stage) → stage-at (kind-in g) (round-in g) (flag-in g) ≡ g
+unfolding pick
+stage-again Gathering = refl
+stage-again (Proposing r f) = refl
+stage-again (Voting r) = refl
+
+closed-again : (b : Bool) → eqb (one-if b) 1 ≡ b
+closed-again true = refl
+closed-again false = refl
+
+made-again : (t : Station) → made-of (front t) (t .held .slots) (t .groups .first) (t .groups .second) ≡ t
+made-again t =
+    λ i. record { identity = t .identity; stage = stage-again (t .stage) i; closed = closed-again (t .closed) i; decision = t .decision; held = t .held; groups = t .groups }
+
+abbrev pub same-station : Station → Station → Bool
+same-station a b =
+    same-words (front a) (front b) && same-words (a .held .slots) (b .held .slots)
+    && (same-words (a .groups .first) (b .groups .first) && same-words (a .groups .second) (b .groups .second))
+
+station-out : (a b : Station) → same-station a b ≡ true → a ≡ b
+station-out a b e =
+    let h = both (same-words (front a) (front b) && same-words (a .held .slots) (b .held .slots)) _ e in
+    let f = both (same-words (front a) (front b)) _ (h .0) in
+    let g = both (same-words (a .groups .first) (b .groups .first)) _ (h .1) in
+    sym (made-again a)
+    ∙ (λ i. made-of (same-out _ _ (f .0) i) (same-out _ _ (f .1) i) (same-out _ _ (g .0) i) (same-out _ _ (g .1) i))
+    ∙ made-again b
+
+-- ---- tests and what they tell
+implied : (a b : Bool) → (not a || b) ≡ true → a ≡ true → b ≡ true
+implied true b h p = h
+implied false b h p = never false refl p
+
+denied : (a : Bool) → not a ≡ true → a ≡ true → ⊥
+denied true h p = never false refl h
+denied false h p = never false refl p
+
+ordered : (a b c d : ℕ) → (leb a b && leb c d) ≡ true → (a ≤ b) × (c ≤ d)
+ordered a b c d e = let h = both (leb a b) _ e in (leb-true a b (h .0), leb-true c d (h .1))
+
+-- a test of all numbers below a bound
+unfoldable pub below : (ℕ → Bool) → ℕ → Bool
+below f zero = true
+below f (suc k) = f k && below f k
+
+below-out : (f : ℕ → Bool) (b k : ℕ) → below f b ≡ true → k < b → f k ≡ true
+unfolding below
+below-out f zero k e h = absurd (omega arith)
+below-out f (suc b) k e h = go (eqb k b) refl (below-out f b k (both (f b) (below f b) e .1))
+  where
+    go : (c : Bool) → eqb k b ≡ c → (k < b → f k ≡ true) → f k ≡ true
+    go true p ih = subst (λ (z : ℕ). f z ≡ true) (sym (eqb-true k b p)) (both (f b) (below f b) e .0)
+    go false p ih = ih (omega (arith, eqb-false k b p))
+
+abbrev lengths : Station → Bool
+lengths t = eqb (length (t .held .slots)) 310 && eqb (length (t .groups .first)) 160 && eqb (length (t .groups .second)) 160
+
+lengths-out : (t : Station) → lengths t ≡ true → Lengths t
+lengths-out t e =
+    let h = both (eqb (length (t .held .slots)) 310 && eqb (length (t .groups .first)) 160) _ e in
+    let f = both (eqb (length (t .held .slots)) 310) _ (h .0) in
+    record { slots = eqb-true _ _ (f .0); first = eqb-true _ _ (f .1); second = eqb-true _ _ (h .1) }
+
+-- a station is there, and its history
+abbrev pub there : Found → Bool
+there nothing = false
+there (found l) = true
+
+abbrev pub line-of : Found → Lineage
+line-of nothing = record { present = no-station; took = [] }
+line-of (found l) = l
+
+pub there-out : (f : Found) → there f ≡ true → f ≡ found (line-of f)
+there-out nothing e = never false refl e
+there-out (found l) e = refl
+
+module _ (mac : List ℕ → List ℕ → List ℕ) (key : List ℕ) (n : ℕ) where
+  -- what the last call of a list returned, and the words of the bundle that it wrote
+  abbrev pub last : List Call → Returned
+  last [] = record { number = 0; count = 0; station = no-station; after = making key n 0 .made; lent = [] }
+  last (c ∷ cs) = answer mac key n cs c
+
+  abbrev pub written : List Call → List ℕ
+  written cs = take (last cs .count) (last cs .lent)
+
+  -- what each call answered, the newest first
+  abbrev pub numbers : List Call → List ℕ
+  numbers [] = []
+  numbers (c ∷ cs) = answer mac key n cs c .number ∷ numbers cs
+
+  -- the history of station k of site i, and the station as the last call on it returned it
+  abbrev pub line : List Call → ℕ → ℕ → Lineage
+  line cs i k = line-of (lineage mac key n cs i k)
+
+  abbrev pub present : List Call → ℕ → ℕ → Station
+  present cs i k = line cs i k .present
+
+  -- ---- the premises on what calls bring
+  -- statement k behind the head does not verify, or was coded
+  abbrev came : List Entry → List ℕ → ℕ → Bool
+  came l ws k =
+      not (same-words (take 8 (drop (3 + k * 10) ws)) (mac key (take 2 (drop (1 + k * 10) ws))))
+      || logged l (Format.station-of (getD ws (1 + k * 10) 0)) (take 2 (drop (1 + k * 10) ws))
+
+  came-out : (l : List Entry) (ws : List ℕ) → below (came l ws) ((length ws - 1) / 10) ≡ true → CodesCame mac key n l ws
+  came-out l ws e k long verified =
+      implied (same-words (take 8 (drop (3 + k * 10) ws)) (mac key (take 2 (drop (1 + k * 10) ws)))) _
+      (below-out (came l ws) ((length ws - 1) / 10) k e (omega arith)) verified
+
+  unfoldable pub given : List Call → Bool
+  given [] = true
+  given (opens i q v out ∷ cs) = given cs && (leb 1 i && leb i n)
+  given (gives i k t ws coin out ∷ cs) = given cs && (lengths t && (below (came (log mac key n cs) ws) ((length ws - 1) / 10) && (leb 1 i && leb i n)))
+  given (codes i ws ∷ cs) = given cs && (leb 1 i && leb i n)
+  given (tosses i ws coin ∷ cs) = given cs && (leb 1 i && leb i n)
+
+  pub given-out : (cs : List Call) → given cs ≡ true → Given mac key n cs
+  unfolding given Given
+  given-out [] e = tt
+  given-out (opens i q v out ∷ cs) e = let h = both (given cs) _ e in (ordered _ _ _ _ (h .1), given-out cs (h .0))
+  given-out (gives i k t ws coin out ∷ cs) e =
+      let h = both (given cs) _ e in
+      let f = both (lengths t) _ (h .1) in
+      let g = both (below (came (log mac key n cs) ws) ((length ws - 1) / 10)) _ (f .1) in
+      (ordered _ _ _ _ (g .1), (lengths-out t (f .0), (came-out (log mac key n cs) ws (g .0), given-out cs (h .0))))
+  given-out (codes i ws ∷ cs) e = let h = both (given cs) _ e in (ordered _ _ _ _ (h .1), given-out cs (h .0))
+  given-out (tosses i ws coin ∷ cs) e = let h = both (given cs) _ e in (ordered _ _ _ _ (h .1), given-out cs (h .0))
+
+  -- ---- the premise on faulty sites
+  abbrev presents : Found → Station → Bool
+  presents nothing t = false
+  presents (found l) t = same-station (l .present) t
+
+  presents-out : (cs : List Call) (i k : ℕ) (t : Station) (f : Found) → lineage mac key n cs i k ≡ f → presents f t ≡ true → Presents mac key n cs i k t
+  presents-out cs i k t nothing z e = never false refl e
+  presents-out cs i k t (found l) z e = record { line = l; is = z; now = station-out (l .present) t e }
+
+  unfoldable pub sound : List Call → ℕ → Bool
+  sound [] i = true
+  sound (opens j q v out ∷ cs) i = sound cs i
+  sound (gives j k t ws coin out ∷ cs) i =
+      sound cs i && (not (eqb j i && unrefused (answer mac key n cs (gives j k t ws coin out) .number)) || presents (lineage mac key n cs i k) t)
+  sound (codes j ws ∷ cs) i = sound cs i && not (eqb j i && eqb (answer mac key n cs (codes j ws) .number) 0)
+  sound (tosses j ws coin ∷ cs) i = sound cs i && not (eqb j i && eqb (answer mac key n cs (tosses j ws coin) .number) 0)
+
+  given-sound : (j i : ℕ) (u p : Bool) → (not (eqb j i && u) || p) ≡ true → j ≡ i → u ≡ true → p ≡ true
+  given-sound j i u p h e f = implied (eqb j i && u) p h (join (eqb j i) u (eq-eqb j i e) f)
+
+  coded-sound : (j i k : ℕ) → not (eqb j i && eqb k 0) ≡ true → j ≡ i → k ≡ 0 → ⊥
+  coded-sound j i k h e f = denied (eqb j i && eqb k 0) h (join (eqb j i) _ (eq-eqb j i e) (eq-eqb k 0 f))
+
+  pub sound-out : (cs : List Call) (i : ℕ) → sound cs i ≡ true → Sound mac key n i cs
+  unfolding sound Sound
+  sound-out [] i e = tt
+  sound-out (opens j q v out ∷ cs) i e = sound-out cs i e
+  sound-out (gives j k t ws coin out ∷ cs) i e =
+      let h = both (sound cs i) _ e in
+      ((λ p u. presents-out cs i k t _ refl (given-sound j i _ _ (h .1) p u)), sound-out cs i (h .0))
+  sound-out (codes j ws ∷ cs) i e = let h = both (sound cs i) _ e in (coded-sound j i _ (h .1), sound-out cs i (h .0))
+  sound-out (tosses j ws coin ∷ cs) i e = let h = both (sound cs i) _ e in (coded-sound j i _ (h .1), sound-out cs i (h .0))
+
+  abbrev pub few : List ℕ → List Call → Bool
+  few faulty cs = leb (length faulty) (most-faulty n) && below (λ k. member (suc k) faulty || sound cs (suc k)) n
+
+  pub others-out : (faulty : List ℕ) (cs : List Call) → few faulty cs ≡ true → (i : ℕ) → 1 ≤ i → i ≤ n → member i faulty ≡ false → Sound mac key n i cs
+  others-out faulty cs e zero a b z = absurd (omega arith)
+  others-out faulty cs e (suc i) a b z =
+      let h = both (leb (length faulty) (most-faulty n)) _ e in
+      sound-out cs (suc i) (rw z at (below-out (λ k. member (suc k) faulty || sound cs (suc k)) n i (h .1) (omega arith)))
+
+  pub few-out : (faulty : List ℕ) (cs : List Call) → few faulty cs ≡ true → FewFaulty mac key n cs
+  few-out faulty cs e = record { faulty = faulty; few = leb-true _ _ (both (leb (length faulty) (most-faulty n)) _ e .0); others = others-out faulty cs e }
+
+  -- ---- a decision, in a round
+  abbrev pub decides : List Call → ℕ → ℕ → ℕ → ℕ → ℕ → Bool
+  decides cs i k question v round = there (lineage mac key n cs i k) && leb (quorum n) (count (votes (line cs i k .took) question round v) n)
+
+  unfoldable pub decides-out : (cs : List Call) (i k question v round : ℕ) → v < none → decides cs i k question v round ≡ true → Decides mac key n cs i k question v
+  decides-out cs i k question v round b e =
+      let h = both (there (lineage mac key n cs i k)) _ e in
+      record { line = line cs i k; is = there-out (lineage mac key n cs i k) (h .0); bit = b; round = round; enough = leb-true _ _ (h .1) }
+
+-- ---- all that the tests compute by
+unfoldable pub computes : Unit {0}
+unfolding pick count first-failed ones backing fields-of word-of formed step-of statements same-words verifies well-formed step laid-out all-formed bundle-fits wanted some in-order holds first-group second-group has-second early-toss rest-holds spread groups-hold rule every above making coding-plain coding-coin insert number-of first-value those vote-value decided carried follows ended taken conflict held-in leading kept-first kept-second state-of set-of slot-of slots-of all-written station-of bundle-of zeros slots-fit fits returned opening giving no-station act modules coded-in log openings lineage below given sound
+computes = tt
