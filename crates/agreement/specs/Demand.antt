@@ -8,7 +8,7 @@ use lib.Dec.{eqb}
 use lib.ListN.{length, getD, take, drop}
 use Rattle.laws.specs.Pick.{pick}
 use Rattle.laws.specs.Count.{count}
-use Rattle.format.specs.Numbers.{kind-INIT, kind-V, none, sent, sent-decided, conflicting}
+use Rattle.format.specs.Numbers.{kind-INIT, kind-V, none, conflicting}
 use Rattle.format.specs.Group.{quorum, backing, most-faulty}
 use Rattle.format.specs.Words.{kind-of, value-of, station-of}
 use Rattle.format.specs.Statement.{Statement, statement, same-words}
@@ -194,3 +194,7 @@ module _ (mac : List ℕ → List ℕ → List ℕ) (key : List ℕ) (n : ℕ) w
     -- "Under demand 3's premises 10 never occurs at a sound site's station"
     pub no-conflict : (i k : ℕ) (t : Station) (ws : List ℕ) (coin : ℕ) (out : List ℕ) → Sound i cs → Presents cs i k t → CodesCame (log cs) ws
         → answer cs (gives i k t ws coin out) .number ≡ conflicting → ⊥
+
+-- ---- demand 3 under a code function: the claim holds for every n from 2 to 31, every key and every list of calls within the premises
+abbrev pub Demand-3 : (List ℕ → List ℕ → List ℕ) → Type 1
+Demand-3 mac = (key : List ℕ) (n : ℕ) → 2 ≤ n → n ≤ 31 → (cs : List Call) → Given mac key n cs → FewFaulty mac key n cs → Claim mac key n cs

@@ -44,7 +44,7 @@ use Rattle.agreement.specs.Took.{is-vote, Vote, vote-out, one-more, none
 use Rattle.agreement.specs.Line.{reads, all-came, Enough, OpenLine, Line}
 use Rattle.agreement.specs.Invariant.{Mine, LogInv, start}
 use Rattle.agreement.specs.Run.{Inv, codes-step, tosses-step, open-step, give-step}
-use Rattle.agreement.specs.Demand.{Call, opens, gives, codes, tosses, site, Entry, Lineage, Found, nothing, found, gave, member, logged, votes, proposed, act, modules, answer, log, openings, lineage, Presents, Sound, FewFaulty, CodesCame, Given, Decides, Claim}
+use Rattle.agreement.specs.Demand.{Call, opens, gives, codes, tosses, site, Entry, Lineage, Found, nothing, found, gave, member, logged, votes, proposed, act, modules, answer, log, openings, lineage, Presents, Sound, FewFaulty, CodesCame, Given, Decides, Claim, Demand-3}
 
 -- ---- the premise on numbers
 member-few : (l : List ℕ) (n : ℕ) → count (λ i. member i l) n ≤ length l
@@ -425,5 +425,5 @@ module _ (mac : List ℕ → List ℕ → List ℕ) (eight : (key ws : List ℕ)
         not-named i k line si e no-v false x = omega (arith, ltb-false (line .present .decision) none x, here i k line si e .low)
 
 -- ---- the theorem, for HMAC-SHA-256
-pub demand-3 : (key : List ℕ) (n : ℕ) → 2 ≤ n → n ≤ 31 → (cs : List Call) → Given hmac-code key n cs → FewFaulty hmac-code key n cs → Claim hmac-code key n cs
+pub demand-3 : Demand-3 hmac-code
 demand-3 key n low top cs g f = claim hmac-code hmac-eight key n low top cs g f
