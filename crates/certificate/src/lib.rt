@@ -89,10 +89,13 @@ fn some_with(ws: &[u32], at: usize, have: usize, value: Which, flag: Which) -> b
 }
 
 // The round before, as the definitions count it: 0 before round 0.
-pub fn round_before(r: u32) -> u32
-    ensures { λ b. ⌜ b ≡ r - 1 ⌝ }
+pub fn round_before(r: Round) -> Round
+    ensures { λ b. ⌜ b .0 ≡ r .0 - 1 ⌝ }
 {
-    if r == 0 { 0 } else { r - 1 }
+    if r.0 == 0 {
+        return Round(0);
+    }
+    Round(r.0 - 1)
 }
 
 // The INITs that back a first proposal of v.
@@ -110,38 +113,38 @@ fn inits(n: u32, v: u32) -> Group
 }
 
 // A quorum of P.
-pub fn proposals(n: u32, r: u32, value: Which, flag: Which) -> Group
-    ensures { λ g. ⌜ g ≡ Proposals n r value flag ⌝ }
+pub fn proposals(n: u32, r: Round, value: Which, flag: Which) -> Group
+    ensures { λ g. ⌜ g ≡ Proposals n (r .0) value flag ⌝ }
 {
     let q = format::quorum(n);
     Group {
         size: q,
         kind: 1,
-        round: Round(r),
+        round: r,
         value: value,
         flag: flag,
     }
 }
 
 // A quorum of V with none.
-pub fn votes_for_none(n: u32, r: u32) -> Group
-    ensures { λ g. ⌜ g ≡ none-votes n r ⌝ }
+pub fn votes_for_none(n: u32, r: Round) -> Group
+    ensures { λ g. ⌜ g ≡ none-votes n (r .0) ⌝ }
 {
     let votes = format::quorum(n);
     Group {
         size: votes,
         kind: 2,
-        round: Round(r),
+        round: r,
         value: Which::Only(2),
         flag: Which::Any,
     }
 }
 
 // The group of a P by rules 2, 3 and 4.
-fn group_of_proposal(n: u32, value: u32, flag: u32, r: u32) -> Group
-    ensures { λ g. ⌜ g ≡ proposal-group n value flag r ⌝ }
+fn group_of_proposal(n: u32, value: u32, flag: u32, r: Round) -> Group
+    ensures { λ g. ⌜ g ≡ proposal-group n value flag (r .0) ⌝ }
 {
-    if r == 1 {
+    if r.0 == 1 {
         return inits(n, value);
     }
     if flag == 0 {
@@ -151,14 +154,14 @@ fn group_of_proposal(n: u32, value: u32, flag: u32, r: u32) -> Group
 }
 
 // The first group of a V by rules 5, 6 and 7.
-fn group_of_vote(n: u32, value: u32, r: u32) -> Group
-    ensures { λ g. ⌜ g ≡ vote-group n value r ⌝ }
+fn group_of_vote(n: u32, value: u32, r: Round) -> Group
+    ensures { λ g. ⌜ g ≡ vote-group n value (r .0) ⌝ }
 {
     if value < 2 {
         return proposals(n, r, Which::Only(value), Which::Any);
     }
-    if r == 1 {
-        return proposals(n, 1, Which::Any, Which::Only(0));
+    if r.0 == 1 {
+        return proposals(n, Round(1), Which::Any, Which::Only(0));
     }
     proposals(n, r, Which::Any, Which::Any)
 }
@@ -167,8 +170,7 @@ fn group_of_vote(n: u32, value: u32, r: u32) -> Group
 fn first_group(n: u32, f: Fields) -> Group
     ensures { λ g. ⌜ g ≡ first-group n (f .kind) (f .value) (f .flag) (f .round .0) ⌝ }
 {
-    let t = f.round;
-    let r = t.0;
+    let r = f.round;
     if f.kind == 1 {
         return group_of_proposal(n, f.value, f.flag, r);
     }
@@ -176,8 +178,8 @@ fn first_group(n: u32, f: Fields) -> Group
 }
 
 // The second group of rules 5 and 7.
-fn second_group(n: u32, value: u32, r: u32) -> Group
-    ensures { λ g. ⌜ g ≡ second-group n value r ⌝ }
+fn second_group(n: u32, value: u32, r: Round) -> Group
+    ensures { λ g. ⌜ g ≡ second-group n value (r .0) ⌝ }
 {
     let b = round_before(r);
     if value < 2 {
@@ -187,17 +189,17 @@ fn second_group(n: u32, value: u32, r: u32) -> Group
 }
 
 // Whether rules 5 and 7 ask for a second group; dget says that one of the first group is D-GET.
-fn has_second(kind: u32, value: u32, r: u32, dget: bool) -> bool
-    ensures { λ b. ⌜ b ≡ has-second kind value r dget ⌝ }
+fn has_second(kind: u32, value: u32, r: Round, dget: bool) -> bool
+    ensures { λ b. ⌜ b ≡ has-second kind value (r .0) dget ⌝ }
 {
-    (kind == 2) & (1 < r) & ((value == 2) | dget)
+    (kind == 2) & (1 < r.0) & ((value == 2) | dget)
 }
 
 // Whether it is an R-GET of round 1, for which there is no coin.
-fn early_toss(kind: u32, flag: u32, r: u32) -> bool
-    ensures { λ b. ⌜ b ≡ early-toss kind flag r ⌝ }
+fn early_toss(kind: u32, flag: u32, r: Round) -> bool
+    ensures { λ b. ⌜ b ≡ early-toss kind flag (r .0) ⌝ }
 {
-    (kind == 1) & (r == 1) & (flag == 1)
+    (kind == 1) & (r.0 == 1) & (flag == 1)
 }
 
 // Whether the first `have` statements of the certificate are spread over both values, where the main statement m is a V with none.
@@ -215,8 +217,7 @@ fn rest_holds(ws: &[u32], n: u32, m: Fields, have: usize, rest: usize) -> bool
     requires { ⌜ (have + rest ≤ 32) × (11 + (have + rest) * 10 ≤ length (now ws)) × (m ≡ fields-of (getD (now ws) 1 0)) ⌝ }
     ensures { λ r. ⌜ r ≡ rest-holds n (main-of (now (ws .entry))) (statements (now (ws .entry)) 11 have) (statements (now (ws .entry)) (11 + have * 10) rest) ⌝ }
 {
-    let t = m.round;
-    let r = t.0;
+    let r = m.round;
     let dget = some_with(ws, 11, have, Which::Any, Which::Only(0));
     if has_second(m.kind, m.value, r, dget) {
         return group_holds(ws, 11 + have * 10, rest, second_group(n, m.value, r));
@@ -249,11 +250,11 @@ fn rule_holds(ws: &[u32], n: u32, count: usize) -> bool
     ensures { λ r. ⌜ r ≡ rule n (main-of (now (ws .entry))) (statements (now (ws .entry)) 11 count) ⌝ }
 {
     let m = format::read_fields(ws[1]);
-    let t = m.round;
+    let r = m.round;
     if m.kind == 0 {
         return count == 0;
     }
-    if early_toss(m.kind, m.flag, t.0) {
+    if early_toss(m.kind, m.flag, r) {
         return false;
     }
     groups_hold(ws, n, m, first_group(n, m), count)

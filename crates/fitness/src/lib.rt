@@ -65,20 +65,20 @@ fn slot_empty(slots: &[u32; 310], i: u32) -> bool
 }
 
 // Whether slot i holds a well-formed statement of its station, of the question and of the step.
-fn slot_fits(slots: &[u32; 310], i: u32, n: u32, question: u32, step: u64) -> bool
+fn slot_fits(slots: &[u32; 310], i: u32, n: u32, question: u32, step: Step) -> bool
     requires { ⌜ i < 31 ⌝ }
-    ensures { λ r. ⌜ r ≡ slot-fits n question step i (now (slots .entry)) ⌝ }
+    ensures { λ r. ⌜ r ≡ slot-fits n question (step .0) i (now (slots .entry)) ⌝ }
 {
     let at = (i * 10) as usize;
     let f = format::read_fields(slots[at]);
     let s = format::step_of(f);
-    format::well_formed(f, n) & (f.station == i + 1) & (slots[at + 1] == question) & (s.0 == step)
+    format::well_formed(f, n) & (f.station == i + 1) & (slots[at + 1] == question) & (s.0 == step.0)
 }
 
 // Whether slot i is as its bit says.
-fn slot_matches(slots: &[u32; 310], heard: u32, i: u32, n: u32, question: u32, step: u64) -> bool
+fn slot_matches(slots: &[u32; 310], heard: u32, i: u32, n: u32, question: u32, step: Step) -> bool
     requires { ⌜ i < 31 ⌝ }
-    ensures { λ r. ⌜ r ≡ slot-right n question step heard (now (slots .entry)) i ⌝ }
+    ensures { λ r. ⌜ r ≡ slot-right n question (step .0) heard (now (slots .entry)) i ⌝ }
 {
     if is_heard(heard, i) {
         return slot_fits(slots, i, n, question, step);
@@ -87,8 +87,8 @@ fn slot_matches(slots: &[u32; 310], heard: u32, i: u32, n: u32, question: u32, s
 }
 
 // Whether every slot is.
-fn slots_fit(slots: &[u32; 310], heard: u32, n: u32, question: u32, step: u64) -> bool
-    ensures { λ r. ⌜ r ≡ slots-fit n question step heard (now (slots .entry)) 0 sites ⌝ }
+fn slots_fit(slots: &[u32; 310], heard: u32, n: u32, question: u32, step: Step) -> bool
+    ensures { λ r. ⌜ r ≡ slots-fit n question (step .0) heard (now (slots .entry)) 0 sites ⌝ }
 {
     let mut i: u32 = 0;
     while i < 31 {
@@ -154,21 +154,21 @@ fn first_of_round(n: u32, stage: Stage, v: u32) -> Group
     match stage {
         Stage::Gathering => no_group(),
         Stage::Proposing(r, _) => {
-            let before = certificate::round_before(r.0);
+            let before = certificate::round_before(r);
             certificate::proposals(n, before, Which::Only(v), Which::Any)
         }
-        Stage::Voting(r) => certificate::proposals(n, r.0, Which::Only(v), Which::Any),
+        Stage::Voting(r) => certificate::proposals(n, r, Which::Only(v), Which::Any),
     }
 }
 
 // The round before the stage's.
-fn round_before_in(stage: Stage) -> u32
-    ensures { λ b. ⌜ b ≡ round-in stage - 1 ⌝ }
+fn round_before_in(stage: Stage) -> Round
+    ensures { λ b. ⌜ b .0 ≡ round-in stage - 1 ⌝ }
 {
     match stage {
-        Stage::Gathering => 0,
-        Stage::Proposing(r, _) => certificate::round_before(r.0),
-        Stage::Voting(r) => certificate::round_before(r.0),
+        Stage::Gathering => Round(0),
+        Stage::Proposing(r, _) => certificate::round_before(r),
+        Stage::Voting(r) => certificate::round_before(r),
     }
 }
 
@@ -288,9 +288,9 @@ fn stage_fits(stage: Stage, w: u32) -> bool
 }
 
 // Whether the held statements fit: no bit behind the last slot, fewer than q, the own among them, and each slot as its bit says.
-fn held_fits(slots: &[u32; 310], heard: u32, n: u32, number: u32, question: u32, step: u64) -> bool
+fn held_fits(slots: &[u32; 310], heard: u32, n: u32, number: u32, question: u32, step: Step) -> bool
     requires { ⌜ (1 ≤ number) × (number ≤ 31) ⌝ }
-    ensures { λ r. ⌜ r ≡ held-words-fit n number question step heard (now (slots .entry)) ⌝ }
+    ensures { λ r. ⌜ r ≡ held-words-fit n number question (step .0) heard (now (slots .entry)) ⌝ }
 {
     let own = is_heard(heard, number - 1);
     let all = slots_fit(slots, heard, n, question, step);
@@ -352,7 +352,7 @@ fn words_fit(t: Station, n: u32, number: u32) -> bool
     let question = id.question;
     let step = step_in(stage);
     let at = ((number - 1) * 10) as usize;
-    let a = held_fits(&slots, heard, n, number, question, step.0);
+    let a = held_fits(&slots, heard, n, number, question, step);
     let b = stage_fits(stage, slots[at]);
     let c = first_fits(&slots, heard, stage, &one, n, question);
     let d = second_fits(&slots, heard, stage, &two, n, question);

@@ -13,7 +13,7 @@ quorum-requires c κs = search needs
 returns : tie.Need-returns
 returns c =
     let a = c .before .args in
-    ap (λ (q : ℕ). group q kind-P (a .r) (a .value) (a .flag)) (c .quorum .ensures)
+    ap (λ (q : ℕ). group q kind-P (a .r .0) (a .value) (a .flag)) (c .quorum .ensures)
 
 pub proposals-spec : {M : Type 1} → statement M
 proposals-spec = tie.close (tie.spec quorum-requires returns)

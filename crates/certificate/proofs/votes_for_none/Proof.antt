@@ -12,7 +12,7 @@ quorum-requires : tie.Need-quorum-requires
 quorum-requires c κs = search needs
 
 returns : tie.Need-returns
-returns c = ap (λ (q : ℕ). group q kind-V (c .before .args .r) (Only none) Any) (c .quorum .ensures)
+returns c = ap (λ (q : ℕ). group q kind-V (c .before .args .r .0) (Only none) Any) (c .quorum .ensures)
 
 pub votes-for-none-spec : {M : Type 1} → statement M
 votes-for-none-spec = tie.close (tie.spec quorum-requires returns)

@@ -18,7 +18,7 @@ returns : tie.Need-returns
 returns c =
     let a = c .before .before .before .before .args in
     let s = c .before .before .before .lowest-supplier in
-    second-found (a .n) (a .stage) (held-in (a .heard) (a .slots .now) 0 sites) (s .result .found) (c .votes-for-none .result) (c .before .round-before-in .result)
+    second-found (a .n) (a .stage) (held-in (a .heard) (a .slots .now) 0 sites) (s .result .found) (c .votes-for-none .result) (c .before .round-before-in .result .0)
     (s .ensures .0) (c .before .round-before-in .ensures) (c .before .before .if1 .taken) (c .votes-for-none .ensures)
 
 no-group-requires : tie.Need-no-group-requires

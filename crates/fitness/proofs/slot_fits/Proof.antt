@@ -40,7 +40,7 @@ element-copy-out-result c = search needs
 returns : tie.Need-returns
 unfolding fields-of step-in
 returns c =
-    let w = c .before .before .before in
+    let w = c .before .before .before .before in
     rw (w .well-formed .ensures, w .before .step-of .ensures, w .before .before .read-fields .ensures)
 
 pub slot-fits-spec : {M : Type 1} → statement M

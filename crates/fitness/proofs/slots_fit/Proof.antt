@@ -11,7 +11,7 @@ use Rattle.fitness.proofs.slots_fit.Statement.{statement}
 use Rattle.fitness.proofs.slots_fit.Tie as tie
 
 abbrev Inv-loop : tie.InvT-loop
-Inv-loop slots heard n question step i₀ i = (i ≤ 31) × (slots-fit n question step heard slots 0 sites ≡ slots-fit n question step heard slots i (sites - i))
+Inv-loop slots heard n question step i₀ i = (i ≤ 31) × (slots-fit n question (step .0) heard slots 0 sites ≡ slots-fit n question (step .0) heard slots i (sites - i))
 
 abbrev μ-loop : tie.MeasureT-loop
 μ-loop slots heard n question step i₀ i = 31 - i
@@ -20,13 +20,13 @@ abbrev μ-loop : tie.MeasureT-loop
 turn : (d : tie.In-loop Inv-loop μ-loop) →
     let a = d .before .before .args in
     let v = d .before .loop in
-    slots-fit (a .n) (a .question) (a .step) (a .heard) (a .slots .now) 0 sites ≡
-    pick (not (slot-right (a .n) (a .question) (a .step) (a .heard) (a .slots .now) (v .i))) false
-    (slots-fit (a .n) (a .question) (a .step) (a .heard) (a .slots .now) (v .i + 1) (sites - (v .i + 1)))
+    slots-fit (a .n) (a .question) (a .step .0) (a .heard) (a .slots .now) 0 sites ≡
+    pick (not (slot-right (a .n) (a .question) (a .step .0) (a .heard) (a .slots .now) (v .i))) false
+    (slots-fit (a .n) (a .question) (a .step .0) (a .heard) (a .slots .now) (v .i + 1) (sites - (v .i + 1)))
 turn d =
     let a = d .before .before .args in
     let v = d .before .loop in
-    v .inv .1 ∙ slots-turn (a .n) (a .question) (a .step) (a .heard) (a .slots .now) (v .i) (d .loop-test .taken)
+    v .inv .1 ∙ slots-turn (a .n) (a .question) (a .step .0) (a .heard) (a .slots .now) (v .i) (d .loop-test .taken)
 
 loop-holds : tie.Need-loop-holds Inv-loop μ-loop
 loop-holds c = (search needs, refl)
@@ -50,7 +50,7 @@ returns-2 : tie.Need-returns-2 Inv-loop μ-loop
 returns-2 c =
     let a = c .before .before .args in
     let v = c .before .loop in
-    slots-end (a .n) (a .question) (a .step) (a .heard) (a .slots .now) (v .i) (c .loop-test .left) ∙ sym (v .inv .1)
+    slots-end (a .n) (a .question) (a .step .0) (a .heard) (a .slots .now) (v .i) (c .loop-test .left) ∙ sym (v .inv .1)
 
 pub slots-fit-spec : {M : Type 1} → statement M
 slots-fit-spec =
