@@ -1,6 +1,6 @@
 -- Demand 3 of document 01, stated: the list of calls, the premises, the claim. Its steps are the definitions that the functions' promises cite
 -- (crates sealed and station). Lists of calls have the newest call first. `mac` is the code function; `demand-3` in Theorem names HMAC.
-use Prim.Native.Nat.{ℕ, zero, suc, _+_, _*_, _≤_, _<_}
+use Prim.Native.Nat.{ℕ, suc, _+_, _*_, _≤_, _<_}
 use mathlib.Core.Bool.{Bool, true, false, not, _&&_, _||_}
 use mathlib.Core.List.{List, [], _∷_, _++_}
 use mathlib.Core.Path.{_≡_}

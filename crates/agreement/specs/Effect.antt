@@ -1,30 +1,29 @@
 -- What a call does to its site's module and to the log: nothing, or one statement of the site's own, above the module's last pair.
-use mathlib.Core.Path.{_≡_, refl, sym, _∙_, ap, subst}
-use mathlib.Core.Bool.{Bool, true, false, not, _&&_, _||_}
-use mathlib.Core.List.{List, [], _∷_, _++_}
-use Prim.Native.Nat.{ℕ, zero, suc, _+_, _-_, _*_, _≤_, _<_}
+use mathlib.Core.Path.{_≡_, refl, _∙_, ap}
+use mathlib.Core.Bool.{Bool, true, false, _&&_}
+use mathlib.Core.List.{List, [], _∷_}
+use Prim.Native.Nat.{ℕ, _-_, _<_}
 use native.Mathlib.Omega.{arith}
-use lib.Dec.{eqb, ltb, leb}
+use lib.Dec.{eqb, ltb}
 use lib.ListN.{length, getD, take, drop}
-use borrow.Author.Tests.{eqb-true, eqb-false, eq-eqb, ne-eqb, ltb-true}
+use borrow.Author.Tests.{eqb-true, eqb-false, ltb-true}
 use Rattle.laws.specs.Pick.{pick}
 use Rattle.laws.specs.Bools.{never, both}
-use Rattle.laws.specs.Refusals.{All, Test, test, first-failed, all-passed}
-use Rattle.format.specs.Numbers.{statement-words, out-of-range, kind-INIT, D-GET, sent, sent-decided, none}
+use Rattle.laws.specs.Refusals.{Test, test, first-failed, all-passed}
+use Rattle.format.specs.Numbers.{statement-words, out-of-range, sent, sent-decided}
 use Rattle.format.specs.Words.{formed, fields-of}
-use Rattle.format.specs.Statement.{Statement, statement, covered, written, step, well-formed}
+use Rattle.format.specs.Statement.{Statement, statement, covered, step, well-formed}
 use Rattle.format.specs.Layout.{formed-well}
-use Rattle.format.specs.Shape.{Shape, init, proposal, vote, Formed, formed-out, formed-in}
+use Rattle.format.specs.Shape.{Shape, init, proposal, vote, formed-out, formed-in}
 use Rattle.sealed.specs.declared.Module.{Module}
-use Rattle.sealed.specs.Sealed.{above, last-for, advanced, module-fits, is-toss, by-plain, by-coin, with-value, signed, coding-tests, coding, coding-plain, coding-coin}
+use Rattle.sealed.specs.Sealed.{above, advanced, module-fits, is-toss, by-plain, by-coin, with-value, signed, coding-tests, coding, coding-plain, coding-coin}
 use Rattle.station.specs.declared.Station.{Station}
 use Rattle.station.specs.Machine.{Outcome, refused, keeps, sends}
-use Rattle.station.specs.Words.{bundle-of, over, Lengths}
+use Rattle.station.specs.Words.{bundle-of, Lengths}
 use Rattle.station.specs.Calls.{Returned, returned, opening, giving, opening-outcome, giving-outcome, no-station}
 use Rattle.format.specs.ReadBack.{Proper}
-use Rattle.station.specs.Views.{InRange, in-range, init-statement, Opens, no-opening, begins, opens-view, Gives, refuses, holds-on, shuts, goes-on, gives-view, sent-statement, Accepted}
+use Rattle.station.specs.Views.{Opens, no-opening, begins, opens-view, Gives, refuses, holds-on, shuts, goes-on, gives-view}
 use Rattle.station.specs.Returns.{unrefused, wrote, wrote-unrefused}
-use Rattle.station.specs.Fits.{own-proper, sent-proper}
 use Rattle.agreement.specs.Demand.{Call, opens, gives, codes, tosses, site, Entry, act, coded-in, as-returned}
 
 abbrev pub entry : ℕ → Statement → Entry

@@ -1,25 +1,24 @@
 -- A giving at a sound site to a station of its own: what is known of the station holds of the station returned, and the statement that it sends is
 -- justified by coded statements.
 use mathlib.Core.Path.{_≡_, refl, sym, _∙_, ap, subst}
-use mathlib.Core.Bool.{Bool, true, false, not, _&&_, _||_}
+use mathlib.Core.Bool.{Bool, true, false, _&&_}
 use mathlib.Core.Logic.{_⊎_, inl, inr}
-use mathlib.Core.List.{List, [], _∷_, _++_, List·Memᴰ, List·Memᴰ·head, List·Memᴰ·tail}
-use Prim.Native.Nat.{ℕ, zero, suc, _+_, _-_, _*_, _^_, _≤_, _<_}
+use mathlib.Core.List.{List, [], _∷_, _++_, List·Memᴰ·head, List·Memᴰ·tail}
+use Prim.Native.Nat.{ℕ, suc, _+_, _-_, _*_, _≤_, _<_}
 use native.Mathlib.Omega.{arith}
-use lib.Dec.{eqb, ltb, leb}
-use lib.ListN.{length, getD, take, drop}
-use borrow.Author.Tests.{eqb-true, eqb-false, eq-eqb, ltb-true, ltb-false, lt-ltb}
+use lib.Dec.{eqb, ltb}
+use lib.ListN.{length, take}
+use borrow.Author.Tests.{eqb-true, eqb-false, eq-eqb, ltb-true, lt-ltb}
 use Rattle.laws.specs.Pick.{pick}
 use Rattle.laws.specs.Bools.{never, both, join, left, right}
 use Rattle.laws.specs.Refusals.{All, all-map}
 use Rattle.laws.specs.Count.{count}
-use Rattle.format.specs.Numbers.{kind-INIT, kind-P, kind-V, none, D-GET, R-GET, last-round}
+use Rattle.format.specs.Numbers.{kind-INIT, kind-P, kind-V, none, D-GET, R-GET}
 use Rattle.format.specs.Group.{quorum}
-use Rattle.format.specs.Statement.{Statement, statement, statements, step, well-formed}
+use Rattle.format.specs.Statement.{Statement, statement, statements, step}
 use Rattle.format.specs.Bundle.{count-in, main-of, certificate-of}
 use Rattle.format.specs.Layout.{all-well}
-use Rattle.format.specs.Shape.{Formed, formed-out}
-use Rattle.certificate.specs.Rules.{Backed, some, some-value, which}
+use Rattle.certificate.specs.Rules.{some, some-value, which}
 use Rattle.certificate.specs.declared.Which.the-variants.{Any, Only}
 use Rattle.certificate.specs.Check.{every}
 use Rattle.sealed.specs.declared.Module.{Module}
@@ -27,18 +26,17 @@ use Rattle.sealed.specs.Sealed.{last-for}
 use Rattle.station.specs.declared.Stage.{Stage}
 use Rattle.station.specs.declared.Stage.the-variants.{Gathering, Proposing, Voting}
 use Rattle.station.specs.declared.Station.{Station}
-use Rattle.station.specs.Machine.{State, stage-step, kind-in, round-in, has-value, insert, number-of, decided, decision-at, decision-after, closes, follows, after-votes, Next, began, shut, takes, supplies-first, supplies-second, vote-value, carried}
+use Rattle.station.specs.Machine.{State, stage-step, kind-in, round-in, has-value, decided, decision-at, closes, follows, Next, began, shut, takes, supplies-first, supplies-second, vote-value, carried}
 use Rattle.station.specs.Words as W
-use Rattle.station.specs.Words.{state-of, Lengths}
-use Rattle.format.specs.ReadBack.{Proper}
+use Rattle.station.specs.Words.{state-of}
 use Rattle.station.specs.Slots.{all-two}
-use Rattle.station.specs.Insert.{insert-all, insert-length, some-insert}
+use Rattle.station.specs.Insert.{insert-all, some-insert}
 use Rattle.station.specs.Sane.{Sane, sane-fits, state-back}
-use Rattle.station.specs.Keep.{Fitting, all-take, steps-P, steps-V, steps-0}
+use Rattle.station.specs.Keep.{all-take, steps-P, steps-V, steps-0}
 use Rattle.station.specs.Pieces.{Found, find-some}
 use Rattle.station.specs.End.{Full, Known, known, Ready, both-values}
-use Rattle.station.specs.Views.{InRange, Accepted, after, decision-then, sent-statement, sane-before, full-after}
-use Rattle.station.specs.Fits.{next-ready, sent-proper, sent-sane, kept-sane, decision-low}
+use Rattle.station.specs.Views.{Accepted, after, decision-then, sent-statement, full-after}
+use Rattle.station.specs.Fits.{next-ready, sent-sane, kept-sane, decision-low}
 use Rattle.station.specs.Written.{Certain, next-all, kept-certain, sent-backed, sent-certain, lengths-of, shut-lengths, all-append}
 use Rattle.agreement.specs.Log.{In, all-at}
 use Rattle.agreement.specs.Safe.{Just, Split}

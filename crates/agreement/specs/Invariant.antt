@@ -1,26 +1,22 @@
 -- The log under the modules of a group: each entry is a well-formed statement of its site, pairs rise, and what a sound site's module coded is justified.
 use mathlib.Core.Path.{_≡_, refl, sym, _∙_, ap, subst}
-use mathlib.Core.Bool.{Bool, true, false, not, _&&_, _||_}
-use mathlib.Core.Logic.{_⊎_, inl, inr}
-use mathlib.Core.List.{List, [], _∷_, _++_}
-use Prim.Native.Nat.{ℕ, zero, suc, _+_, _-_, _*_, _≤_, _<_}
+use mathlib.Core.Bool.{Bool, true, false}
+use mathlib.Core.List.{List, [], _∷_}
+use Prim.Native.Nat.{ℕ, suc, _+_, _-_, _*_, _≤_, _<_}
 use native.Mathlib.Omega.{arith}
-use lib.Dec.{eqb, ltb, leb}
-use lib.ListN.{length}
-use borrow.Author.Tests.{eqb-true, eqb-false, eq-eqb, ne-eqb, ltb-true, ltb-false, le-leb}
+use lib.Dec.{eqb}
+use borrow.Author.Tests.{eqb-true, eqb-false, le-leb}
 use Rattle.laws.specs.Pick.{pick}
-use Rattle.laws.specs.Bools.{never, both, join}
+use Rattle.laws.specs.Bools.{never}
 use Rattle.laws.specs.Refusals.{All, all-map}
-use Rattle.format.specs.Numbers.{kind-INIT, kind-P, kind-V, none, last-round}
-use Rattle.format.specs.Group.{size-fits}
-use Rattle.format.specs.Words.{kind-of, value-of, flag-of, station-of, round-of, of-group}
+use Rattle.format.specs.Numbers.{kind-V, none}
 use Rattle.format.specs.Statement.{Statement, statement, covered, step, well-formed}
 use Rattle.format.specs.Shape.{Shape, init, proposal, vote, Formed, formed-out}
 use Rattle.sealed.specs.declared.Last.{Last}
 use Rattle.sealed.specs.declared.Module.{Module}
-use Rattle.sealed.specs.Sealed.{above, pair, advanced, making, fresh}
+use Rattle.sealed.specs.Sealed.{above, pair, advanced, making}
 use Rattle.sealed.specs.Rises.{Above, first, later-question, later-step, above-out}
-use Rattle.format.specs.ReadBack.{Proper, Back, word-back}
+use Rattle.format.specs.ReadBack.{Proper, word-back}
 use Rattle.station.specs.Keep.{steps-P, steps-V, steps-0}
 use Rattle.agreement.specs.Log.{Lower, Rising}
 use Rattle.agreement.specs.Safe.{Just, Split}

@@ -1,27 +1,26 @@
 -- What a certificate of coded statements gives for the statement that it backs, and that it stays so as the log grows.
-use mathlib.Core.Path.{_≡_, refl, sym, _∙_, ap, subst}
-use mathlib.Core.Bool.{Bool, true, false, not, _&&_, _||_}
+use mathlib.Core.Path.{_≡_}
+use mathlib.Core.Bool.{Bool, true, _&&_}
 use mathlib.Core.List.{List, [], _∷_, _++_, List·Memᴰ·tail}
-use Prim.Native.Nat.{ℕ, zero, suc, _+_, _-_, _*_, _≤_, _<_}
+use Prim.Native.Nat.{ℕ, _+_, _-_, _≤_, _<_}
 use native.Mathlib.Omega.{arith}
-use lib.Dec.{eqb, ltb}
+use lib.Dec.{eqb}
 use lib.ListN.{length}
 use borrow.Author.Tests.{eqb-true}
 use Rattle.laws.specs.Bools.{both}
 use Rattle.laws.specs.Refusals.{All, all-map}
 use Rattle.laws.specs.Count.{count}
-use Rattle.format.specs.Numbers.{kind-INIT, kind-P, kind-V, none, D-GET, R-GET}
+use Rattle.format.specs.Numbers.{kind-INIT, kind-P, kind-V, none}
 use Rattle.format.specs.Group.{quorum, backing}
 use Rattle.format.specs.Statement.{Statement}
 use Rattle.certificate.specs.declared.Which.{Which}
 use Rattle.certificate.specs.declared.Which.the-variants.{Any, Only}
-use Rattle.certificate.specs.declared.Group.{Group}
-use Rattle.certificate.specs.Rules.{which, wanted, matches, group, inits, proposals, none-votes, Holds, Backed, rule-1, rule-2, rule-3, rule-4, rule-5, rule-6, rule-7}
+use Rattle.certificate.specs.Rules.{wanted, matches, group, Holds, Backed, rule-1, rule-2, rule-3, rule-4, rule-5, rule-6, rule-7}
 use Rattle.certificate.specs.Rules as R
 use Rattle.station.specs.Slots.{all-two}
-use Rattle.agreement.specs.Counting.{Dist, Rise, rise-dist, Fits, dist-count, count-mono}
-use Rattle.agreement.specs.Log.{In, has, Has, has-out, has-at, Supp}
-use Rattle.agreement.specs.Safe.{Just, Split, Decided}
+use Rattle.agreement.specs.Counting.{Rise, rise-dist, dist-count, count-mono}
+use Rattle.agreement.specs.Log.{In, has, has-out, has-at, Supp}
+use Rattle.agreement.specs.Safe.{Just, Split}
 
 -- a statement but for its code: what the log has
 abbrev pub bare : Statement → Statement

@@ -1,51 +1,34 @@
 -- What is known of a sound site's station: all that it took was coded and is justified, and its decision is what its votes say.
 use mathlib.Core.Path.{_≡_, refl, sym, _∙_, ap, subst}
-use mathlib.Core.Bool.{Bool, true, false, not, _&&_, _||_}
-use mathlib.Core.Logic.{_⊎_, inl, inr}
-use mathlib.Core.List.{List, [], _∷_, _++_, List·Memᴰ, List·Memᴰ·head, List·Memᴰ·tail}
+use mathlib.Core.Bool.{Bool, true, false, _&&_, _||_}
+use mathlib.Core.List.{List, [], _∷_, List·Memᴰ·head, List·Memᴰ·tail}
 use Prim.Native.Nat.{ℕ, zero, suc, _+_, _-_, _*_, _^_, _≤_, _<_}
 use native.Mathlib.Omega.{arith}
-use lib.Dec.{eqb, ltb, leb}
+use lib.Dec.{eqb}
 use lib.ListN.{length, getD, take, drop}
-use borrow.Author.Tests.{eqb-true, eqb-false, eq-eqb, ltb-true, ltb-false}
-use Rattle.laws.specs.Pick.{pick}
-use Rattle.laws.specs.Bools.{never, both, join, left, right}
+use Rattle.laws.specs.Bools.{never, both}
 use Rattle.laws.specs.Refusals.{All, all-map}
 use Rattle.laws.specs.Count.{count}
-use Rattle.format.specs.Numbers.{kind-INIT, kind-P, kind-V, none, D-GET, R-GET, last-round, kept, sent, sent-decided, closed-now}
-use Rattle.format.specs.Group.{quorum, backing}
-use Rattle.format.specs.Words.{kind-of, fields-of, formed, station-of}
+use Rattle.format.specs.Numbers.{none}
+use Rattle.format.specs.Group.{quorum}
+use Rattle.format.specs.Words.{fields-of, formed, station-of}
 use Rattle.format.specs.Statement.{Statement, statement, statements, covered, same-words, verifies, step, well-formed}
-use Rattle.format.specs.Bundle.{count-in, main-of, certificate-of, all-formed}
+use Rattle.format.specs.Bundle.{all-formed}
 use Rattle.format.specs.Layout.{covered-read, same-out}
-use Rattle.format.specs.Shape.{Formed, formed-out, Small, small}
-use Rattle.certificate.specs.Rules.{Backed, rule-1, some, some-value, some-D-GET, which}
-use Rattle.certificate.specs.Check.{every}
+use Rattle.format.specs.Shape.{formed-out, small}
 use Rattle.certificate.specs.Codes.{two-words}
-use Rattle.sealed.specs.declared.Module.{Module}
-use Rattle.station.specs.declared.Stage.{Stage}
-use Rattle.station.specs.declared.Stage.the-variants.{Gathering, Proposing, Voting}
 use Rattle.station.specs.declared.Station.{Station}
-use Rattle.station.specs.Machine.{State, stage-step, kind-in, round-in, has-value, insert, decided, decision-at, decision-after, closes, follows, Next, began, shut, takes, supplies-first, supplies-second, vote-value}
+use Rattle.station.specs.Machine.{stage-step}
 use Rattle.station.specs.Words as W
 use Rattle.station.specs.Words.{state-of, Lengths}
 use Rattle.station.specs.Fit.{fits}
-use Rattle.format.specs.ReadBack.{Proper}
-use Rattle.station.specs.Slots.{all-two}
-use Rattle.station.specs.Insert.{insert-all, insert-length, some-insert}
-use Rattle.station.specs.Sane.{Sane, InRounds, sane-fits, state-back}
-use Rattle.station.specs.FitSane.{fits-sane}
-use Rattle.station.specs.Keep.{Fitting, all-take, steps-P, steps-V, steps-0}
-use Rattle.station.specs.Pieces.{Found, find-some}
-use Rattle.station.specs.End.{Full, Given, Known, known, both-values}
-use Rattle.station.specs.Views.{InRange, Accepted, after, decision-then, sent-statement, sane-before, full-after, init-statement}
-use Rattle.station.specs.Fits.{init-sane, next-ready, sent-proper, sent-sane, kept-sane, decision-low, own-proper}
-use Rattle.station.specs.Written.{Certain, next-all, kept-certain, sent-backed, sent-certain, own-verifies, lengths-of, shut-lengths, all-append}
-use Rattle.agreement.specs.Log.{In, Supp}
-use Rattle.agreement.specs.Safe.{Just, Split}
-use Rattle.agreement.specs.Just.{bare, Coded, backed-just, just-more, split-more, coded-more}
-use Rattle.agreement.specs.Took.{is-vote, NowHeld, votes-held, enough-before, enough-after, held-enough, all-counted, decided-every, every-decided}
-use Rattle.agreement.specs.Demand.{Entry, Lineage, votes, logged, CodesCame}
+use Rattle.station.specs.End.{known}
+use Rattle.station.specs.Written.{Certain}
+use Rattle.agreement.specs.Log.{In}
+use Rattle.agreement.specs.Safe.{Just}
+use Rattle.agreement.specs.Just.{Coded, just-more, coded-more}
+use Rattle.agreement.specs.Took.{NowHeld}
+use Rattle.agreement.specs.Demand.{Entry, votes, logged, CodesCame}
 
 -- the statements of a log
 unfoldable pub reads : List Entry → List Statement

@@ -1,16 +1,14 @@
 -- Every list of calls that meets the premises keeps the invariant of the log and what is known of sound sites' stations.
 use mathlib.Core.Path.{_≡_, refl, sym, _∙_, ap, subst}
 use mathlib.Core.Bool.{Bool, true, false, not, _&&_, _||_}
-use mathlib.Core.Logic.{_⊎_, inl, inr}
 use mathlib.Core.List.{List, [], _∷_, _++_, append-assoc, List·Memᴰ·head}
-use Prim.Native.Nat.{ℕ, zero, suc, _+_, _-_, _*_, _≤_, _<_}
+use Prim.Native.Nat.{ℕ, _+_, _-_, _≤_, _<_}
 use native.Mathlib.Omega.{arith}
-use lib.Dec.{eqb, ltb, leb}
-use lib.ListN.{length, take, drop}
-use borrow.Author.Tests.{eqb-true, eqb-false, eq-eqb, ne-eqb}
+use lib.Dec.{eqb, ltb}
+use lib.ListN.{length, drop}
+use borrow.Author.Tests.{eqb-true, eq-eqb, ne-eqb}
 use Rattle.laws.specs.Pick.{pick}
 use Rattle.laws.specs.Bools.{never, both, join, left}
-use Rattle.laws.specs.Refusals.{All, all-map}
 use Rattle.laws.specs.Count.{count}
 use Rattle.format.specs.Numbers.{kind-INIT, kind-V, none, D-GET, kept, sent, sent-decided, closed-now}
 use Rattle.format.specs.Group.{quorum}
@@ -32,15 +30,14 @@ use Rattle.station.specs.Views.{InRange, init-statement, Opens, no-opening, beg
 use Rattle.station.specs.Returns.{unrefused, wrote, wrote-unrefused}
 use Rattle.station.specs.Fits.{own-proper, init-sane, sent-proper}
 use Rattle.station.specs.Written.{own-verifies, lengths-of}
-use Rattle.agreement.specs.Log.{In}
 use Rattle.agreement.specs.Safe.{Just, Split}
-use Rattle.agreement.specs.Just.{bare, Coded, backed-just, just-more}
+use Rattle.agreement.specs.Just.{bare, backed-just}
 use Rattle.agreement.specs.Took.{none-there, enough-before}
 use Rattle.agreement.specs.Effect.{answers, entry, Effect, silent, speaks, log-of, after-of, open-coded, open-after, give-coded, give-after, plain-effect, toss-effect}
 use Rattle.agreement.specs.Line.{reads, Line, line-more}
 use Rattle.agreement.specs.Giving.{open-line, kept-line, shut-line, sent-line, sent-just, sent-split}
-use Rattle.agreement.specs.Invariant.{Mine, LogInv, start, unchanged, log-add, covered-back}
-use Rattle.agreement.specs.Demand.{Call, opens, gives, codes, tosses, site, Entry, Lineage, Found, nothing, found, own, gave, member, votes, act, modules, answer, coded-in, log, openings, lineage, Presents, Sound, CodesCame, Given}
+use Rattle.agreement.specs.Invariant.{Mine, LogInv, unchanged, log-add, covered-back}
+use Rattle.agreement.specs.Demand.{Call, opens, gives, codes, tosses, site, Entry, Lineage, Found, nothing, found, own, gave, member, votes, act, modules, answer, coded-in, log, openings, lineage, Presents, CodesCame}
 
 -- the main statement of a written bundle, read again
 main-written : (n : ℕ) (s : Statement) (c : List Statement) (out : List ℕ) → n ≤ 31 → Proper n s → statement (over (bundle-of s c) out) 1 ≡ s

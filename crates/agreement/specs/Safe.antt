@@ -1,12 +1,12 @@
 -- Safety over a log: what a decision locks, agreement, backing. What a list of calls supplies is the record LogOk.
-use mathlib.Core.Path.{_≡_, refl, sym, _∙_, ap, subst}
-use mathlib.Core.Bool.{Bool, true, false, not, _&&_, _||_}
-use mathlib.Core.List.{List, [], _∷_}
-use Prim.Native.Nat.{ℕ, zero, suc, _+_, _-_, _*_, _/_, _≤_, _<_}
+use mathlib.Core.Path.{_≡_, refl, sym, _∙_}
+use mathlib.Core.Bool.{Bool, true, false, not}
+use mathlib.Core.List.{List}
+use Prim.Native.Nat.{ℕ, zero, suc, _+_, _-_, _/_, _≤_, _<_}
 use native.Mathlib.Omega.{arith}
 use lib.Dec.{eqb, ltb}
 use borrow.Author.Tests.{eqb-true, eqb-false, ltb-true, ltb-false}
-use Rattle.laws.specs.Count.{count, count-not, meet, Shared}
+use Rattle.laws.specs.Count.{count, count-not, meet}
 use Rattle.format.specs.Group.{quorum, backing}
 use Rattle.format.specs.Statement.{Statement}
 use Rattle.agreement.specs.Log.{In, has, Has, has-out, has-one, Supp, Rising}

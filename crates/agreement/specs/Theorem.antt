@@ -1,17 +1,16 @@
 -- Demand 3, proved: for every n from 2 to 31, key and list of calls that meets the premises, the claim holds.
-use mathlib.Core.Path.{_≡_, refl, sym, _∙_, ap, subst}
+use mathlib.Core.Path.{_≡_, refl, sym, _∙_, subst}
 use mathlib.Core.Bool.{Bool, true, false, not, _&&_, _||_}
-use mathlib.Core.Logic.{_⊎_, inl, inr}
-use mathlib.Core.List.{List, [], _∷_, _++_, List·Memᴰ, List·Memᴰ·cases-cons, List·Memᴰ·not-nil}
-use Prim.Native.Nat.{ℕ, zero, suc, _+_, _-_, _*_, _/_, _≤_, _<_}
+use mathlib.Core.List.{List, [], _∷_}
+use Prim.Native.Nat.{ℕ, zero, suc, _-_, _/_, _≤_, _<_}
 use native.Mathlib.Omega.{arith}
-use lib.Dec.{eqb, ltb, leb}
+use lib.Dec.{eqb, ltb}
 use lib.ListN.{length, getD}
 use borrow.Author.Tests.{eqb-true, eqb-false, eq-eqb, ne-eqb, ltb-true, ltb-false}
 use Rattle.laws.specs.Pick.{pick}
-use Rattle.laws.specs.Bools.{never, both, join, left, right, is-false}
+use Rattle.laws.specs.Bools.{never, both, join, left, right}
 use Rattle.laws.specs.Refusals.{All, all-map}
-use Rattle.laws.specs.Count.{count, one-if, meet, Shared}
+use Rattle.laws.specs.Count.{count, meet}
 use Rattle.format.specs.Numbers.{kind-INIT, kind-P, kind-V, none, D-GET, conflicting}
 use Rattle.format.specs.Group.{quorum, backing, most-faulty}
 use Rattle.format.specs.Words.{kind-of, value-of}
@@ -26,25 +25,25 @@ use Rattle.station.specs.declared.Stage.{Stage}
 use Rattle.station.specs.declared.Stage.the-variants.{Gathering, Proposing, Voting}
 use Rattle.station.specs.declared.Station.{Station}
 use Rattle.station.specs.Machine.{conflict, has-value, kind-in, round-in, stage-step}
-use Rattle.station.specs.Words.{state-of, Lengths}
+use Rattle.station.specs.Words.{state-of}
 use Rattle.format.specs.ReadBack.{Proper}
 use Rattle.station.specs.Sane.{Sane}
 use Rattle.station.specs.FitSane.{fits-sane}
 use Rattle.station.specs.Keep.{same-step}
 use Rattle.station.specs.Slots.{all-two}
 use Rattle.station.specs.Pieces as P
-use Rattle.station.specs.Views.{Conflicts, conflicts, Nearly}
+use Rattle.station.specs.Views.{conflicts, Nearly}
 use Rattle.station.specs.Returns.{unrefused}
 use Rattle.agreement.specs.Counting.{count-mono}
-use Rattle.agreement.specs.Log.{In, is, has, Has, has-out, has-at, Supp, all-at}
+use Rattle.agreement.specs.Log.{In, is, has, has-out, has-at, Supp, all-at}
 use Rattle.agreement.specs.Safe as Safe
 use Rattle.agreement.specs.Safe.{Just, Split, LogOk, Decided}
 use Rattle.agreement.specs.Just.{bare, Coded, backed-just}
-use Rattle.agreement.specs.Took.{is-vote, Vote, vote-out, one-more, none-there}
+use Rattle.agreement.specs.Took.{is-vote, vote-out, one-more, none-there}
 use Rattle.agreement.specs.Line.{reads, all-came, Enough, OpenLine, Line}
-use Rattle.agreement.specs.Invariant.{Mine, LogInv, start}
+use Rattle.agreement.specs.Invariant.{Mine, start}
 use Rattle.agreement.specs.Run.{Inv, codes-step, tosses-step, open-step, give-step}
-use Rattle.agreement.specs.Demand.{Call, opens, gives, codes, tosses, site, Entry, Lineage, Found, nothing, found, gave, member, logged, votes, proposed, act, modules, answer, log, openings, lineage, Presents, Sound, FewFaulty, CodesCame, Given, Decides, Claim, Demand-3}
+use Rattle.agreement.specs.Demand.{Call, opens, gives, codes, tosses, site, Entry, Lineage, Found, found, gave, member, votes, proposed, act, modules, answer, log, lineage, Presents, Sound, FewFaulty, CodesCame, Given, Decides, Claim, Demand-3}
 
 -- ---- the premise on numbers
 member-few : (l : List ℕ) (n : ℕ) → count (λ i. member i l) n ≤ length l

@@ -1,25 +1,23 @@
 -- What a station took: counts of votes, and how they lie with the statements that it holds.
-use mathlib.Core.Path.{_≡_, refl, sym, _∙_, ap, subst}
-use mathlib.Core.Bool.{Bool, true, false, not, _&&_, _||_}
-use mathlib.Core.List.{List, [], _∷_, _++_, List·Memᴰ, List·Memᴰ·head, List·Memᴰ·tail}
+use mathlib.Core.Path.{_≡_, refl, _∙_, ap, subst}
+use mathlib.Core.Bool.{Bool, true, false, _&&_, _||_}
+use mathlib.Core.List.{List, [], _∷_}
 use Prim.Native.Nat.{ℕ, zero, suc, _+_, _-_, _*_, _≤_, _<_}
 use native.Mathlib.Omega.{arith}
-use lib.Dec.{eqb, ltb}
+use lib.Dec.{eqb}
 use lib.ListN.{length}
-use borrow.Author.Tests.{eqb-true, eqb-false, eq-eqb, ne-eqb, ltb-true, ltb-false}
+use borrow.Author.Tests.{eqb-true, eq-eqb, ne-eqb}
 use Rattle.laws.specs.Pick.{pick}
-use Rattle.laws.specs.Bools.{never, both, join, left, right, is-false}
+use Rattle.laws.specs.Bools.{never, both, join, right}
 use Rattle.laws.specs.Refusals.{All, all-map}
 use Rattle.laws.specs.Count.{count, one-if}
 use Rattle.format.specs.Numbers.{kind-V, none}
-use Rattle.format.specs.Group.{quorum}
-use Rattle.format.specs.Words.{step-of}
 use Rattle.format.specs.Statement.{Statement, step}
 use Rattle.certificate.specs.Rules.{some}
 use Rattle.certificate.specs.Rules as R
 use Rattle.certificate.specs.Check.{every}
 use Rattle.station.specs.Machine.{has-value, vote-value, decided, number-of}
-use Rattle.certificate.specs.Valid.{every-out}
+use Rattle.certificate.specs.Exact.{every-out}
 use Rattle.station.specs.Slots.{all-two}
 use Rattle.station.specs.Pieces.{Found, find-some}
 use Rattle.station.specs.Keep.{steps-V}

@@ -16,7 +16,8 @@ use Rattle.hmac.specs.declared.Code.{Code}
 use Rattle.hmac.specs.Hmac.{prepared, keyed, code-from, short-code}
 use Rattle.hmac.specs.Prepared.{code-is-hmac}
 use Rattle.format.specs.declared.Fields.{Fields}
-use Rattle.format.specs.Words.{kind-of, value-of, flag-of, spare-of, station-of, round-of, fields-of, word-of, written-read}
+use Rattle.format.specs.Words.{kind-of, value-of, flag-of, spare-of, station-of, round-of, fields-of, word-of}
+use Rattle.format.specs.Word0.{written-read}
 use Rattle.format.specs.Statement.{statement, word-0, covered, same-words, hmac-code, verifies}
 
 -- words 0 and 1 of a statement whose bits 26..24 are zero are those that its code covers

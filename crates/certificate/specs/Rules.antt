@@ -1,5 +1,5 @@
 -- Certificate groups, and the seven rules: `Backed` as document 01 lists them, `rule` as a test (`Valid` shows that the two agree).
-use Prim.Native.Nat.{ℕ, _+_, _-_, _*_, _<_}
+use Prim.Native.Nat.{ℕ, _+_, _-_, _<_}
 use mathlib.Core.Bool.{Bool, true, false, not, _&&_, _||_}
 use mathlib.Core.List.{List, [], _∷_, _++_}
 use mathlib.Core.Path.{_≡_}

@@ -1,11 +1,10 @@
 -- The group and its thresholds, for any n, with the laws that they are chosen for.
 use mathlib.Core.Path.{_≡_, refl}
-use mathlib.Core.Bool.{Bool, true, not, _&&_}
+use mathlib.Core.Bool.{Bool, not, _&&_}
 use mathlib.Core.List.{List, [], _∷_}
 use Prim.Native.Nat.{ℕ, _+_, _-_, _*_, _/_, _≤_, _<_}
 use native.Mathlib.Omega.{arith}
 use lib.Dec.{leb, eqb}
-use borrow.Author.Tests.{not-true}
 use Rattle.laws.specs.Pick.{pick}
 use Rattle.laws.specs.Refusals.{All}
 use Rattle.laws.specs.Count.{count, Shared, meet, count-not}

@@ -1,17 +1,18 @@
 -- Laws of the layout: what is formed in words is a well-formed statement, whose covered words are those that were read.
-use Prim.Native.Nat.{ℕ, zero, suc, _+_, _-_, _*_, _^_, _<_, _≤_}
-use mathlib.Core.Bool.{Bool, true, false, _&&_}
+use Prim.Native.Nat.{ℕ, zero, suc, _+_, _-_, _^_, _<_}
+use mathlib.Core.Bool.{true}
 use mathlib.Core.List.{List, [], _∷_}
 use mathlib.Core.Path.{_≡_, refl, sym, ap, _∙_}
 use native.Mathlib.Omega.{arith}
 use lib.Dec.{eqb}
-use lib.ListN.{getD, take, drop, length, length-take, length-drop}
+use lib.ListN.{getD}
 use borrow.Author.Tests.{eqb-true}
-use Rattle.laws.specs.Bools.{both, join}
+use Rattle.laws.specs.Bools.{both}
 use Rattle.laws.specs.Refusals.{All}
 use Rattle.format.specs.declared.Fields.{Fields}
-use Rattle.format.specs.Words.{kind-of, value-of, flag-of, spare-of, station-of, round-of, fields-of, word-of, formed, written-read}
-use Rattle.format.specs.Statement.{Statement, statement, statements, word-0, covered, same-words, well-formed}
+use Rattle.format.specs.Words.{kind-of, value-of, flag-of, spare-of, station-of, round-of, fields-of, word-of, formed}
+use Rattle.format.specs.Word0.{written-read}
+use Rattle.format.specs.Statement.{statement, statements, word-0, covered, same-words, well-formed}
 use Rattle.format.specs.Bundle.{all-formed}
 
 pub formed-well : (n : ℕ) (ws : List ℕ) (at : ℕ) → formed n (fields-of (getD ws at 0)) ≡ true → well-formed n (statement ws at) ≡ true

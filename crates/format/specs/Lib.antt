@@ -1,6 +1,7 @@
 pub mod Numbers
 pub mod Group
 pub mod Words
+pub mod Word0
 pub mod Statement
 pub mod Bundle
 pub mod Layout

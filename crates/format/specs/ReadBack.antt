@@ -8,7 +8,8 @@ use native.Mathlib.Omega.{arith}
 use lib.ListN.{length, getD, take, drop}
 use lib.Seq.{take-at, drop-drop, getD-drop}
 use Rattle.format.specs.declared.Fields.{Fields}
-use Rattle.format.specs.Words.{InBits, fields-of, read-written, kind-of, value-of, flag-of, station-of, round-of, formed}
+use Rattle.format.specs.Words.{fields-of, kind-of, value-of, flag-of, station-of, round-of, formed}
+use Rattle.format.specs.Word0.{InBits, read-written}
 use Rattle.format.specs.Statement.{Statement, statement, word-0, written, well-formed}
 use Rattle.format.specs.Shape.{formed-out, small}
 

@@ -1,14 +1,13 @@
 -- What a well-formed statement is: one of three shapes, of a station of the group; its fields fit their bits.
-use Prim.Native.Nat.{ℕ, _+_, _^_, _≤_, _<_}
+use Prim.Native.Nat.{ℕ, _≤_, _<_}
 use mathlib.Core.Bool.{Bool, true, false, _&&_, _||_}
-use mathlib.Core.Logic.{_⊎_, inl, inr}
 use mathlib.Core.Path.{_≡_, refl}
 use native.Mathlib.Omega.{arith}
 use lib.Dec.{eqb, ltb, leb}
 use borrow.Author.Tests.{eqb-true, eq-eqb, ltb-true, lt-ltb, leb-true, le-leb}
-use Rattle.laws.specs.Bools.{both, join, either, left, right}
+use Rattle.laws.specs.Bools.{both, join, left, right}
 use Rattle.format.specs.Numbers.{kind-INIT, kind-P, kind-V, none, D-GET, last-round}
-use Rattle.format.specs.Words.{shaped, of-group}
+use Rattle.format.specs.Words.{of-group}
 use Rattle.format.specs.Statement.{Statement, well-formed}
 
 pub data Shape (m : Statement) : Type 0 where

@@ -1,14 +1,12 @@
 -- A statement, read from its ten words and written to them.
-use Prim.Native.Nat.{ℕ, zero, suc, _+_, _*_, _^_, _<_, _≤_}
+use Prim.Native.Nat.{ℕ, zero, suc, _+_}
 use mathlib.Core.Bool.{Bool, true, false, _&&_}
 use mathlib.Core.List.{List, [], _∷_}
-use mathlib.Core.Path.{_≡_}
 use lib.Dec.{eqb}
-use lib.ListN.{getD, take, drop, length}
+use lib.ListN.{getD, take, drop}
 use Rattle.sha256.specs.Sha256.{words, bytes}
 use Rattle.hmac.specs.Hmac.{hmac}
-use Rattle.format.specs.declared.Fields.{Fields}
-use Rattle.format.specs.Words.{kind-of, value-of, flag-of, spare-of, station-of, round-of, fields-of, word-of, shaped, of-group, step-of}
+use Rattle.format.specs.Words.{kind-of, value-of, flag-of, station-of, round-of, word-of, shaped, of-group, step-of}
 
 pub record Statement : Type 0 where
   pub kind : ℕ

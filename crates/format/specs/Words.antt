@@ -1,11 +1,8 @@
 -- Word 0 of a statement: its fields, and the word that they make.
-use Prim.Native.Nat.{ℕ, _+_, _*_, _/_, _%_, _^_, _<_}
+use Prim.Native.Nat.{ℕ, _+_, _*_, _/_, _%_, _^_}
 use mathlib.Core.Bool.{Bool, _&&_, _||_}
-use mathlib.Core.Path.{_≡_, refl, _∙_}
-use native.Mathlib.Omega.{arith}
 use lib.Dec.{eqb, leb, ltb}
 use Rattle.format.specs.declared.Fields.{Fields}
-use Rattle.format.specs.declared.Round.{Round}
 use Rattle.format.specs.declared.Step.{Step}
 use Rattle.format.specs.Numbers.{kind-INIT, kind-P, kind-V, D-GET, none, last-round}
 use Rattle.laws.specs.Pick.{pick}
@@ -65,54 +62,3 @@ step-of kind round = pick (eqb kind kind-INIT) 0 (pick (eqb kind kind-P) (2 * ro
 
 unfoldable pub step-in : Fields → Step
 step-in f = record { 0 = step-of (f .kind) (f .round .0) }
-
--- ---- reading after writing, and writing after reading
-pub record InBits (f : Fields) : Type 0 where
-  pub kind : f .kind < 4
-  pub value : f .value < 4
-  pub flag : f .flag < 2
-  pub spare : f .spare < 8
-  pub station : f .station < 256
-  pub round : f .round .0 < 2 ^ 16
-
-module _ (f : Fields) (b : InBits f) where
-  bare : ℕ
-  bare = f .kind * 2 ^ 30 + f .value * 2 ^ 28 + f .flag * 2 ^ 27 + f .spare * 2 ^ 24 + f .station * 2 ^ 16 + f .round .0
-
-  uncut : word-of f ≡ bare
-  unfolding word-of bare
-  uncut =
-      let k : f .kind % 4 ≡ f .kind = omega (arith, b .kind) in
-      let v : f .value % 4 ≡ f .value = omega (arith, b .value) in
-      let g : f .flag % 2 ≡ f .flag = omega (arith, b .flag) in
-      let s : f .spare % 8 ≡ f .spare = omega (arith, b .spare) in
-      let t : f .station % 256 ≡ f .station = omega (arith, b .station) in
-      let r : f .round .0 % 2 ^ 16 ≡ f .round .0 = omega (arith, b .round) in
-      rw (k, v, g, s, t, r)
-
-  pub read-written : fields-of (word-of f) ≡ f
-  unfolding fields-of bare
-  read-written =
-      let k : kind-of bare ≡ f .kind = omega (arith, b .value, b .flag, b .spare, b .station, b .round) in
-      let v : value-of bare ≡ f .value = omega (arith, b .value, b .flag, b .spare, b .station, b .round) in
-      let g : flag-of bare ≡ f .flag = omega (arith, b .flag, b .spare, b .station, b .round) in
-      let s : spare-of bare ≡ f .spare = omega (arith, b .spare, b .station, b .round) in
-      let t : station-of bare ≡ f .station = omega (arith, b .station, b .round) in
-      let r : round-of bare ≡ f .round .0 = omega (arith, b .round) in
-      rw uncut (λ i. record { kind = k i; value = v i; flag = g i; spare = s i; station = t i; round = record { 0 = r i } })
-
--- the digits of a number, put together one by one
-glue : (w q1 r1 q2 r2 q3 r3 q4 r4 q5 r5 : ℕ) → q1 * 65536 + r1 ≡ w → q2 * 256 + r2 ≡ q1 → q3 * 8 + r3 ≡ q2 → q4 * 2 + r4 ≡ q3 → q5 * 4 + r5 ≡ q4
-    → q5 * 1073741824 + r5 * 268435456 + r4 * 134217728 + r3 * 16777216 + r2 * 65536 + r1 ≡ w
-glue w q1 r1 q2 r2 q3 r3 q4 r4 q5 r5 a b c d e = omega arith
-
-pub in-bits : (w : ℕ) → w < 2 ^ 32 → InBits (fields-of w)
-unfolding fields-of
-in-bits w h = omega arith
-
-pub written-read : (w : ℕ) → w < 2 ^ 32 → word-of (fields-of w) ≡ w
-unfolding fields-of bare
-written-read w h =
-    uncut (fields-of w) (in-bits w h)
-    ∙ glue w (w / 2 ^ 16) (round-of w) (w / 2 ^ 24) (station-of w) (w / 2 ^ 27) (spare-of w) (w / 2 ^ 28) (flag-of w) (kind-of w) (value-of w)
-    (omega arith) (omega arith) (omega arith) (omega arith) (omega arith)

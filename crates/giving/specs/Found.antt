@@ -4,9 +4,8 @@ use mathlib.Core.Bool.{Bool, true, false, not, _||_}
 use mathlib.Core.List.{List}
 use mathlib.Core.Path.{_≡_, refl, sym, ap, _∙_, subst}
 use lib.Count.{ones}
-use lib.Dec.{eqb, ltb}
 use borrow.Author.Tests.{not-true, not-false, lt-ltb, le-ltb}
-use Rattle.laws.specs.Pick.{pick, here, skip}
+use Rattle.laws.specs.Pick.{here, skip}
 use Rattle.format.specs.declared.Fields.{Fields}
 use Rattle.format.specs.declared.Step.{Step}
 use Rattle.format.specs.Numbers.{not-above, closed-now, kept}

@@ -1,22 +1,20 @@
 -- The law of giving: which held statements and which kept group make the certificate that the machine's definition asks for.
 use Prim.Native.Nat.{ℕ, zero, suc, _+_, _-_, _≤_, _<_}
-use mathlib.Core.Bool.{Bool, true, false, _&&_, _||_}
+use mathlib.Core.Bool.{Bool, true, false}
 use mathlib.Core.List.{List, [], _∷_, _++_, append-nil}
 use mathlib.Core.Path.{_≡_, refl, sym, ap, _∙_, subst}
 use native.Mathlib.Omega.{arith}
-use lib.Count.{ones}
-use lib.Dec.{eqb, ltb}
-use lib.ListN.{length, take, length-append}
-use borrow.Author.Tests.{ltb-true, ltb-false, lt-ltb, eqb-false}
+use lib.Dec.{ltb}
+use lib.ListN.{length, take}
+use borrow.Author.Tests.{ltb-true, lt-ltb, eqb-false}
 use Rattle.laws.specs.Pick.{pick}
 use Rattle.laws.specs.Bools.{never, join}
 use Rattle.laws.specs.Refusals.{All}
 use Rattle.format.specs.Numbers.{none, bundle-words, kind-P, kind-V, D-GET, R-GET, last-round}
 use Rattle.format.specs.Group.{quorum, backing}
 use Rattle.format.specs.declared.Fields.{Fields}
-use Rattle.format.specs.Statement.{Statement, hmac-code, step}
-use Rattle.format.specs.Bundle.{main-of, certificate-of}
-use Rattle.certificate.specs.Rules.{Rising, some-D-GET, some-value, Holds}
+use Rattle.format.specs.Statement.{Statement, step}
+use Rattle.certificate.specs.Rules.{some-D-GET}
 use Rattle.certificate.specs.Check.{every}
 use Rattle.sealed.specs.declared.Module.{Module}
 use Rattle.sealed.specs.Sealed.{above, last-for, advanced, module-fits}
@@ -24,24 +22,22 @@ use Rattle.station.specs.declared.Groups.{Groups}
 use Rattle.station.specs.declared.Stage.{Stage}
 use Rattle.station.specs.declared.Stage.the-variants.{Gathering, Proposing, Voting}
 use Rattle.station.specs.declared.Station.{Station}
-use Rattle.station.specs.Machine.{State, Next, next, proposing, voting, began, supplies-first, supplies-second, has-value, those, first-value, vote-value, carried, follows, closes, round-in}
+use Rattle.station.specs.Machine.{State, Next, next, proposing, voting, began, supplies-first, supplies-second, has-value, those, first-value, vote-value, carried, follows, closes}
 use Rattle.station.specs.Calls.{Returned}
-use Rattle.station.specs.Words.{sites, bundle-of, over, set-of, slots-of, all-written, group-words, held-in, held-by, state-of}
+use Rattle.station.specs.Words.{sites, bundle-of, over, set-of, slots-of, all-written, group-words, held-in}
 use Rattle.station.specs.Words as W
 use Rattle.format.specs.ReadBack.{Proper}
-use Rattle.station.specs.Slots.{ones-set, held-back}
-use Rattle.station.specs.Sane.{Kept, InRounds}
+use Rattle.station.specs.Slots.{held-back}
+use Rattle.station.specs.Sane.{InRounds}
 use Rattle.station.specs.End.{Full, Ready, kept-equal, kept-none, both-values}
 use Rattle.writer.specs.Bundle.{Certificate, all-held, some-held, kept-alone}
 use Rattle.compression.specs.Shape.{Below}
 use Rattle.sending.specs.Sent.{sent-count, sent-lent, sent-bundle, sent-station, sent-after}
 use Rattle.sending.specs.Sends.{own-fields, own-statement, lent-is, count-is, station-is, after-is}
-use Rattle.ending.specs.declared.Source.{Source}
 use Rattle.ending.specs.declared.Source.the-variants.{Nothing, Slots, First, Second}
 use Rattle.ending.specs.declared.Following.{Following}
-use Rattle.ending.specs.Lowest.{lowest}
 use Rattle.ending.specs.LowestSet.{lowest-set}
-use Rattle.ending.specs.After.{following, next-by, inits-next, proposals-next, votes-next, second-source, round-after, next-is, as-next}
+use Rattle.ending.specs.After.{following, next-by, inits-next, proposals-next, votes-next, second-source, round-after}
 use Rattle.giving.specs.Gives.{set-by, kept-in, group-by, count-by, answer, sending-words}
 
 -- with no statement of a kept group, the group may be any

@@ -1,52 +1,46 @@
 -- The law of giving: where no test fails, giving is what the code finds for the station that keeps the bundle, with the station as it was where the
 -- number is 12.
-use Prim.Native.Nat.{ℕ, _+_, _≤_, _<_}
-use mathlib.Core.Bool.{Bool, true, false, _&&_, _||_}
-use mathlib.Core.List.{List, [], _∷_, _++_}
+use Prim.Native.Nat.{ℕ, _+_, _≤_}
+use mathlib.Core.Bool.{Bool, true, false, _||_}
+use mathlib.Core.List.{List, _++_}
 use mathlib.Core.Path.{_≡_, refl, sym, ap, _∙_, subst}
 use native.Mathlib.Omega.{arith}
 use lib.Count.{ones}
 use lib.Dec.{eqb, ltb}
 use lib.ListN.{length}
-use borrow.Author.Tests.{eq-eqb, ltb-true, ltb-false}
+use borrow.Author.Tests.{eq-eqb, ltb-false}
 use Rattle.laws.specs.Pick.{pick, skip}
 use Rattle.laws.specs.Bools.{never}
 use Rattle.laws.specs.Refusals.{first-failed}
-use Rattle.format.specs.declared.Fields.{Fields}
-use Rattle.format.specs.Numbers.{none, kept, sent, sent-decided, closed-now, not-above, bundle-words, last-round}
+use Rattle.format.specs.Numbers.{none, kept, sent, sent-decided, closed-now, not-above, last-round}
 use Rattle.format.specs.Group.{quorum}
 use Rattle.format.specs.Words.{step-of}
 use Rattle.format.specs.Statement.{Statement, hmac-code, step}
 use Rattle.format.specs.Bundle.{main-of, certificate-of}
-use Rattle.certificate.specs.Rules.{Rising}
 use Rattle.sealed.specs.declared.Module.{Module}
-use Rattle.sealed.specs.Sealed.{above, last-for, advanced}
+use Rattle.sealed.specs.Sealed.{above, last-for}
 use Rattle.station.specs.declared.Stage.{Stage}
 use Rattle.station.specs.declared.Stage.the-variants.{Gathering, Proposing, Voting}
 use Rattle.station.specs.declared.Station.{Station}
-use Rattle.station.specs.Machine.{State, Next, supplies-first, Outcome, refused, keeps, sends, own, began, moved, shut, ended, taken, follows, closes, decision-at, keeping, insert, round-in}
-use Rattle.station.specs.Words.{sites, first-of-round, set-of, slot-of, slots-of, all-written, group-words, bundle-of, over, held-in, held-by, state-of, Lengths}
+use Rattle.station.specs.Machine.{State, Next, supplies-first, Outcome, refused, keeps, sends, began, moved, shut, ended, taken, follows, closes, decision-at, round-in}
+use Rattle.station.specs.Words.{sites, first-of-round, set-of, slot-of, slots-of, all-written, held-in, held-by, state-of, Lengths}
 use Rattle.station.specs.Words as W
-use Rattle.station.specs.Calls.{Returned, returned, give-tests, giving, giving-outcome}
-use Rattle.format.specs.ReadBack.{Proper}
+use Rattle.station.specs.Calls.{Returned, returned, give-tests, giving}
 use Rattle.station.specs.Slots.{ones-set, held-back}
 use Rattle.station.specs.Sane.{InRounds}
 use Rattle.station.specs.Keep.{Grown, grown}
 use Rattle.station.specs.Insert.{insert-length}
 use Rattle.station.specs.End.{Full, Ready}
-use Rattle.station.specs.Views.{Accepted, after, decision-then, sent-statement, sane-before, full-after}
+use Rattle.station.specs.Views.{Accepted, after, decision-then, sane-before, full-after}
 use Rattle.station.specs.Fits.{next-ready, sent-proper}
 use Rattle.station.specs.Seal.{range-fits}
 use Rattle.format.specs.Codes.{hmac-eight}
 use Rattle.compression.specs.Shape.{Below}
-use Rattle.keeping.specs.One.{LowWords}
-use Rattle.keeping.specs.Kept.{kept-words}
-use Rattle.keeping.specs.Law.{keeps-state}
 use Rattle.sending.specs.Sends.{own-fields, own-statement}
 use Rattle.ending.specs.declared.Following.{Following}
 use Rattle.ending.specs.After.{next-by, next-is, as-next}
 use Rattle.giving.specs.Gives.{answer, with-no-bundle, sending-words, moving, shut-words, ending-words, after-words}
-use Rattle.giving.specs.Law.{Chosen, chosen, sending-is}
+use Rattle.giving.specs.Law.{chosen, sending-is}
 
 -- 20 and 21 are not 12
 pub not-12 : (b : Bool) → eqb (pick b sent sent-decided) not-above ≡ false

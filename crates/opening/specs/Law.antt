@@ -1,15 +1,15 @@
 -- An opening in order: what was sent is what the definition returns.
-use Prim.Native.Nat.{ℕ, _+_, _≤_}
-use mathlib.Core.List.{List, [], _∷_, _++_}
+use Prim.Native.Nat.{ℕ, _≤_}
+use mathlib.Core.List.{List, []}
 use mathlib.Core.Path.{_≡_, refl, sym, ap, _∙_}
 use native.Mathlib.Omega.{arith}
-use lib.ListN.{length, replicate}
+use lib.ListN.{length}
 use borrow.Author.Tests.{le-leb, ltb-true}
 use mathlib.Core.Bool.{false}
 use Rattle.laws.specs.Bools.{never}
 use Rattle.format.specs.declared.Fields.{Fields}
 use Rattle.format.specs.Numbers.{kind-INIT, D-GET, sent, none, output-words}
-use Rattle.format.specs.Statement.{Statement, hmac-code, step}
+use Rattle.format.specs.Statement.{hmac-code, step}
 use Rattle.format.specs.Words.{step-of}
 use Rattle.format.specs.Codes.{hmac-eight}
 use Rattle.format.specs.Shape.{init}
@@ -20,7 +20,7 @@ use Rattle.station.specs.Calls.{Returned, opening}
 use Rattle.station.specs.Views.{InRange, in-range}
 use Rattle.station.specs.Fits.{own-proper}
 use Rattle.format.specs.ReadBack.{Proper}
-use Rattle.station.specs.Decision.{opens, opened-with}
+use Rattle.station.specs.Decision.{opens}
 use Rattle.station.specs.Answers.{Answers}
 use Rattle.writer.specs.Bundle.{Certificate}
 use Rattle.compression.specs.Shape.{Below}

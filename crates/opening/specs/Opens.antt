@@ -1,24 +1,22 @@
 -- Opening, by what its code finds: the refusal, and what is returned with it or without one.
 use Prim.Native.Nat.{ℕ, _≤_}
 use mathlib.Core.Bool.{Bool, true, false, _&&_}
-use mathlib.Core.List.{List, [], _∷_, _++_}
+use mathlib.Core.List.{List, [], _∷_}
 use mathlib.Core.Path.{_≡_, refl, sym, ap, _∙_}
 use native.Mathlib.Omega.{arith}
-use lib.Dec.{eqb, ltb, leb}
+use lib.Dec.{ltb, leb}
 use lib.ListN.{length}
-use borrow.Author.Tests.{leb-true, ltb-true}
+use borrow.Author.Tests.{leb-true}
 use Rattle.laws.specs.Pick.{pick}
 use Rattle.laws.specs.Bools.{both}
 use Rattle.laws.specs.Refusals.{Test, test, first-failed, all-passed}
-use Rattle.format.specs.Numbers.{output-words, short-output, out-of-range, not-above, kind-INIT, D-GET, sent, none}
+use Rattle.format.specs.Numbers.{output-words, short-output, out-of-range, not-above}
 use Rattle.format.specs.Statement.{hmac-code, step}
 use Rattle.format.specs.Words.{step-of}
 use Rattle.sealed.specs.declared.Module.{Module}
 use Rattle.sealed.specs.Sealed.{module-fits, above}
 use Rattle.station.specs.declared.Station.{Station}
-use Rattle.station.specs.declared.Stage.the-variants.{Gathering}
 use Rattle.station.specs.Calls.{Returned, returned, opening, no-station}
-use Rattle.station.specs.Decision.{opens, opened-with}
 use Rattle.station.specs.Answers.{Answers}
 
 -- "Opening tests 1, 2, 12."

@@ -1,9 +1,9 @@
 -- The sealed module: made, coding plain, coding with the coin (document 01, "The sealed module").
-use Prim.Native.Nat.{ℕ, _+_}
+use Prim.Native.Nat.{ℕ}
 use mathlib.Core.Bool.{Bool, true, false, not, _&&_, _||_}
-use mathlib.Core.List.{List, [], _∷_, _++_}
-use lib.Dec.{eqb, ltb, leb}
-use lib.ListN.{getD, length, take, drop, replicate}
+use mathlib.Core.List.{List, [], _∷_}
+use lib.Dec.{eqb, ltb}
+use lib.ListN.{getD, length, replicate}
 use Rattle.laws.specs.Pick.{pick}
 use Rattle.laws.specs.Refusals.{Test, test, first-failed}
 use Rattle.format.specs.Numbers.{kind-P, R-GET, statement-words, out-of-range, malformed, wrong-code, not-above}

@@ -2,7 +2,7 @@
 -- last pair, is coded by the way that is for it.
 use Prim.Native.Nat.{ℕ, _≤_, _<_}
 use mathlib.Core.Bool.{Bool, true, false, not, _&&_}
-use mathlib.Core.List.{List, [], _∷_, _++_, append-nil}
+use mathlib.Core.List.{List, [], _∷_, append-nil}
 use mathlib.Core.Path.{_≡_, refl, sym, ap, _∙_}
 use native.Mathlib.Omega.{arith}
 use lib.Dec.{eqb, ltb, leb}
@@ -10,14 +10,14 @@ use lib.ListN.{length, getD}
 use borrow.Author.Tests.{eqb-true, eqb-false, eq-eqb, ltb-true, lt-ltb, leb-true, not-true}
 use Rattle.laws.specs.Pick.{pick}
 use Rattle.laws.specs.Bools.{both, join}
-use Rattle.laws.specs.Refusals.{All, test, first-failed, all-passed, none-failed}
+use Rattle.laws.specs.Refusals.{test, first-failed, all-passed, none-failed}
 use Rattle.format.specs.Numbers.{kind-P, R-GET, statement-words, out-of-range}
 use Rattle.format.specs.Group.{size-fits}
 use Rattle.format.specs.Words.{formed, fields-of}
 use Rattle.format.specs.Statement.{Statement, statement, word-0, written, well-formed, step}
 use Rattle.format.specs.Layout.{formed-well}
-use Rattle.format.specs.Shape.{Shape, init, proposal, vote, Formed, formed-out, formed-in}
-use Rattle.format.specs.ReadBack.{Proper, Back, word-back, formed-back, length-written, statement-back}
+use Rattle.format.specs.Shape.{Shape, init, proposal, vote, formed-out, formed-in}
+use Rattle.format.specs.ReadBack.{Proper, word-back, formed-back, length-written, statement-back}
 use Rattle.sealed.specs.declared.Module.{Module}
 use Rattle.sealed.specs.Sealed.{above, last-for, advanced, module-fits, no-module, Coded, is-toss, by-plain, by-coin, tossed, signed, coding, coding-tests, coding-plain, coding-coin}
 

@@ -1,12 +1,12 @@
 -- The law of sending: where the certificate's statements stand in the slots and in the kept group, the words are those of the machine's `sends`.
 use Prim.Native.Nat.{ℕ, zero, suc, _+_, _*_, _^_, _≤_, _<_}
 use mathlib.Core.List.{List, [], _∷_, _++_, append-assoc}
-use mathlib.Core.Bool.{Bool, true, false, _&&_}
+use mathlib.Core.Bool.{Bool, true, false}
 use mathlib.Core.Path.{_≡_, refl, sym, ap, _∙_, subst}
 use native.Mathlib.Omega.{arith}
 use lib.Dec.{eqb}
-use lib.ListN.{length, getD, take, drop, replicate, length-append}
-use lib.Seq.{take-at, drop-at, drop-drop}
+use lib.ListN.{length, take, drop, replicate, length-append}
+use lib.Seq.{take-at}
 use borrow.Author.Tests.{eqb-true, ne-eqb}
 use Rattle.laws.specs.Pick.{pick}
 use Rattle.laws.specs.Bools.{both}
@@ -20,7 +20,6 @@ use Rattle.sealed.specs.declared.Module.{Module}
 use Rattle.sealed.specs.Sealed.{above, last-for, advanced, module-fits, is-toss, Coded, coding-plain, coding-coin}
 use Rattle.sealed.specs.Ways.{with-code, coded-as, own-plain, own-coin}
 use Rattle.station.specs.declared.Stage.{Stage}
-use Rattle.station.specs.declared.Station.{Station}
 use Rattle.station.specs.Machine.{own, began, supplies-first, supplies-second}
 use Rattle.station.specs.Words.{set-of, all-written, bundle-of, over}
 use Rattle.station.specs.Words as W
@@ -28,7 +27,7 @@ use Rattle.format.specs.ReadBack.{Proper, length-written}
 use Rattle.station.specs.Bundles.{ws-length}
 use Rattle.station.specs.Written.{all-append}
 use Rattle.station.specs.Seal.{main-words}
-use Rattle.writer.specs.Written.{lent-after, count-after}
+use Rattle.writer.specs.Written.{count-after}
 use Rattle.writer.specs.Bundle.{Certificate, lent-bundle, count-bundle}
 use Rattle.compression.specs.Shape.{Below}
 use Rattle.keeping.specs.Kept.{kept-words}

@@ -1,16 +1,16 @@
 -- What the marked table says of bundles that are read already, it says of the calls: giving words that are a bundle with codes that verify, to an open
 -- and fitting station, comes to the table's `given`, and the station returned is read as the state that is kept.
 use Prim.Native.Nat.{ℕ, suc, _≤_, _<_}
-use mathlib.Core.Bool.{Bool, true, false, not, _&&_}
+use mathlib.Core.Bool.{true, false, not, _&&_}
 use mathlib.Core.List.{List, [], _∷_, _++_}
 use mathlib.Core.Path.{_≡_, ap, _∙_}
 use native.Mathlib.Omega.{arith}
-use lib.Dec.{eqb, ltb, leb}
+use lib.Dec.{eqb, ltb}
 use lib.ListN.{length}
 use borrow.Author.Tests.{lt-ltb, le-leb}
 use Rattle.laws.specs.Pick.{pick}
 use Rattle.laws.specs.Bools.{join}
-use Rattle.laws.specs.Refusals.{All, Test, test, first-failed}
+use Rattle.laws.specs.Refusals.{All, Test, test}
 use Rattle.format.specs.Numbers.{kept, output-words, no-certificate}
 use Rattle.format.specs.Statement.{statements}
 use Rattle.format.specs.Bundle.{count-in, main-of, certificate-of, bundle-fits}

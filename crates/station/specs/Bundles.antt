@@ -1,20 +1,20 @@
 -- A bundle that is written of a proper statement and a certificate that backs it is valid.
-use Prim.Native.Nat.{ℕ, zero, suc, _+_, _-_, _*_, _/_, _%_, _^_, _≤_, _<_}
-use mathlib.Core.Bool.{Bool, true, false, not, _&&_, _||_}
+use Prim.Native.Nat.{ℕ, suc, _+_, _-_, _*_, _/_, _^_, _≤_}
+use mathlib.Core.Bool.{Bool, true, false}
 use mathlib.Core.List.{List, [], _∷_, _++_, append-nil}
 use mathlib.Core.Path.{_≡_, refl, sym, ap, _∙_, subst}
 use native.Mathlib.Omega.{arith}
-use lib.Dec.{eqb, ltb, leb}
-use lib.ListN.{length, getD, take, drop, length-append}
+use lib.Dec.{eqb, ltb}
+use lib.ListN.{length, getD, drop, length-append}
 use lib.Seq.{drop-at}
 use Rattle.laws.specs.Bools.{join}
 use Rattle.laws.specs.Refusals.{All, all-map}
-use Rattle.format.specs.Numbers.{most-statements, bundle-words, none}
-use Rattle.format.specs.Group.{quorum, backing, backing-0, backing-1}
+use Rattle.format.specs.Numbers.{most-statements, bundle-words}
+use Rattle.format.specs.Group.{backing}
 use Rattle.format.specs.Words.{fields-of, formed}
 use Rattle.format.specs.Statement.{Statement, statement, statements, written, verifies}
 use Rattle.format.specs.Bundle.{count-in, main-of, certificate-of, all-formed}
-use Rattle.certificate.specs.Rules.{Holds, Backed, rule-1, rule-2, rule-3, rule-4, rule-5, rule-6, rule-7, some-D-GET}
+use Rattle.certificate.specs.Rules.{Backed, rule-1, rule-2, rule-3, rule-4, rule-5, rule-6, rule-7, some-D-GET}
 use Rattle.certificate.specs.Valid.{Bundle, Valid}
 use Rattle.station.specs.Words.{all-written, bundle-of}
 use Rattle.station.specs.ReadBack.{statements-drop, statements-back, length-all}

@@ -1,9 +1,9 @@
 -- Opening and giving: what the public calls promise, from words to words (document 01, "Table of returns").
 use Prim.Native.Nat.{ℕ}
-use mathlib.Core.Bool.{Bool, true, false, not, _&&_}
+use mathlib.Core.Bool.{true, not, _&&_}
 use mathlib.Core.List.{List, [], _∷_, _++_}
 use lib.Dec.{eqb, ltb, leb}
-use lib.ListN.{length, drop, replicate}
+use lib.ListN.{length, replicate}
 use Rattle.laws.specs.Pick.{pick}
 use Rattle.laws.specs.Refusals.{Test, test, first-failed}
 use Rattle.format.specs.Numbers.{none, short-output, output-words, out-of-range, station-closed, bundle-words}
@@ -15,7 +15,7 @@ use Rattle.sealed.specs.declared.Module.{Module}
 use Rattle.sealed.specs.Sealed.{module-fits, last-for, advanced}
 use Rattle.station.specs.declared.Stage.the-variants.{Gathering}
 use Rattle.station.specs.declared.Station.{Station}
-use Rattle.station.specs.Machine.{State, Outcome, refused, keeps, sends, opened, taken, step-tests}
+use Rattle.station.specs.Machine.{Outcome, refused, keeps, sends, opened, taken, step-tests}
 use Rattle.station.specs.Words.{state-of, station-of, bundle-of, over}
 use Rattle.station.specs.Fit.{fits}
 

@@ -23,7 +23,7 @@ use Rattle.station.specs.declared.Stage.the-variants.{Gathering, Proposi
 use Rattle.station.specs.declared.Station.{Station}
 use Rattle.station.specs.Machine.{State, Outcome, refused, keeps, sends, Next, next, proposing, insert, has-value, vote-value, decided, carried, decision-after, keeping, follows, decision-at, closes, shut, moved, own, began, ended, taken}
 use Rattle.station.specs.Words.{state-of, bundle-of, over}
-use Rattle.station.specs.Calls.{Returned, returned, give-tests, giving}
+use Rattle.station.specs.Calls.{returned, give-tests, giving}
 use Rattle.station.specs.Demand.{tossing, CoinEffect, no-effect, tossed}
 
 -- no vote for 0 or 1 among some: none is decided, and no call first decides

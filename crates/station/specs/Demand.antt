@@ -13,7 +13,7 @@ use Rattle.format.specs.Bundle.{main-of}
 use Rattle.certificate.specs.declared.Which.the-variants.{Any}
 use Rattle.certificate.specs.Check.{check-by}
 use Rattle.sealed.specs.declared.Module.{Module}
-use Rattle.sealed.specs.Sealed.{Coded, module-fits, is-toss, coding-plain, coding-coin}
+use Rattle.sealed.specs.Sealed.{module-fits, is-toss, coding-plain, coding-coin}
 use Rattle.station.specs.declared.Station.{Station}
 use Rattle.station.specs.Machine.{Outcome, sends, own, began, proposing}
 use Rattle.station.specs.Words.{Lengths}

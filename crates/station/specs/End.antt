@@ -1,35 +1,34 @@
 -- The end of a step: the statement that follows is well-formed, a rule backs it by the certificate that is written with it, and the groups that the
 -- station keeps of it are those that its next step asks for.
-use Prim.Native.Nat.{ℕ, zero, suc, _+_, _-_, _*_, _≤_, _<_}
-use mathlib.Core.Bool.{Bool, true, false, not, _&&_, _||_}
-use mathlib.Core.List.{List, [], _∷_, _++_, append-nil}
+use Prim.Native.Nat.{ℕ, _+_, _-_, _*_, _≤_, _<_}
+use mathlib.Core.Bool.{Bool, true, false, _&&_}
+use mathlib.Core.List.{List, [], _++_, append-nil}
 use mathlib.Core.Path.{_≡_, refl, sym, ap, _∙_, subst}
 use native.Mathlib.Omega.{arith}
 use lib.Dec.{eqb, ltb, leb}
 use lib.ListN.{length, take}
 use lib.Seq.{length-take-le}
-use borrow.Author.Tests.{eqb-true, eqb-false, eq-eqb, ne-eqb, ltb-true, ltb-false, lt-ltb, le-ltb, leb-true, leb-false}
+use borrow.Author.Tests.{eqb-true, eqb-false, eq-eqb, ltb-true, ltb-false, lt-ltb, le-ltb, leb-true, leb-false}
 use Rattle.laws.specs.Pick.{pick}
-use Rattle.laws.specs.Bools.{never, both, join, left, right, is-false}
+use Rattle.laws.specs.Bools.{never, both, join, is-false}
 use Rattle.laws.specs.Refusals.{All, all-map}
 use Rattle.format.specs.Numbers.{kind-INIT, kind-P, kind-V, none, D-GET, R-GET, last-round}
 use Rattle.format.specs.Group.{quorum, backing, proposed-0, proposed-1}
 use Rattle.format.specs.Statement.{Statement, well-formed, step}
 use Rattle.format.specs.Shape.{Shape, init, proposal, vote, Formed, formed-out}
-use Rattle.certificate.specs.declared.Group.{Group}
 use Rattle.certificate.specs.declared.Which.the-variants.{Any, Only}
 use Rattle.certificate.specs.Rules.{which, matches, Rising, Holds, some, some-D-GET, some-value, inits, proposals, none-votes, Backed, rule-2, rule-3, rule-4, rule-5, rule-6, rule-7}
 use Rattle.certificate.specs.Check.{every}
-use Rattle.certificate.specs.Valid.{every-out}
+use Rattle.certificate.specs.Exact.{every-out}
 use Rattle.station.specs.declared.Stage.{Stage}
 use Rattle.station.specs.declared.Stage.the-variants.{Gathering, Proposing, Voting}
 use Rattle.station.specs.Machine.{State, kind-in, round-in, stage-step, supplies-first, supplies-second, number-of, has-value, first-value, those, vote-value, carried, Next, after-inits, after-proposals, after-votes, conflict}
-use Rattle.station.specs.Words.{kept-first, kept-second, first-of-round, leading, no-group}
+use Rattle.station.specs.Words.{kept-first, kept-second, first-of-round, leading}
 use Rattle.format.specs.ReadBack.{Proper}
 use Rattle.station.specs.Slots.{all-two}
 use Rattle.station.specs.Sane.{Kept, InRounds, FlagOf}
 use Rattle.station.specs.Keep.{same-step, all-take}
-use Rattle.station.specs.Pieces.{asked-for, those-length, those-all, those-rising, take-rising, zeros-ones, some-other, none-some, Found, find-some, some-weaker, leading-is}
+use Rattle.station.specs.Pieces.{asked-for, those-length, those-all, those-rising, take-rising, zeros-ones, some-other, none-some, some-weaker, leading-is}
 
 -- q statements of the step, and the groups kept with them
 pub record Full (n : ℕ) (k : State) : Type 0 where

@@ -1,23 +1,21 @@
 -- "A station fits if, unless closed, it holds fewer than q well-formed statements of its question and step, its own among them, and the set names
 -- exactly their stations; docs/ lists what its other kept words need": docs/STATION.md.
-use Prim.Native.Nat.{ℕ, zero, suc, _+_, _-_, _*_, _/_, _%_, _^_}
-use mathlib.Core.Bool.{Bool, true, false, _&&_, _||_}
-use mathlib.Core.List.{List, [], _∷_}
+use Prim.Native.Nat.{ℕ, zero, suc, _+_, _-_, _*_, _/_, _^_}
+use mathlib.Core.Bool.{Bool, true, _&&_, _||_}
+use mathlib.Core.List.{List}
 use lib.Count.{ones}
 use lib.Dec.{eqb, leb, ltb}
-use lib.ListN.{length, getD, take, drop}
+use lib.ListN.{getD}
 use Rattle.laws.specs.Pick.{pick}
 use Rattle.laws.specs.Sets.{bit}
 use Rattle.format.specs.Numbers.{none, last-round}
 use Rattle.format.specs.Group.{quorum}
 use Rattle.format.specs.Words.{flag-of, formed, fields-of, step-of, kind-of, round-of, station-of}
-use Rattle.format.specs.Statement.{Statement, statements}
+use Rattle.format.specs.Statement.{statements}
 use Rattle.format.specs.Bundle.{all-formed}
 use Rattle.certificate.specs.declared.Group.{Group}
 use Rattle.certificate.specs.Rules.{holds}
 use Rattle.certificate.specs.Check.{every}
-use Rattle.sealed.specs.declared.Module.{Module}
-use Rattle.sealed.specs.Sealed.{module-fits}
 use Rattle.station.specs.declared.Stage.{Stage}
 use Rattle.station.specs.declared.Stage.the-variants.{Gathering, Proposing, Voting}
 use Rattle.station.specs.declared.Station.{Station}

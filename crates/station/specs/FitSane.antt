@@ -1,7 +1,7 @@
 -- A station that fits, and is not closed, is sane.
 use Prim.Native.Nat.{ℕ, zero, suc, _+_, _-_, _*_, _/_, _%_, _^_, _≤_, _<_}
-use mathlib.Core.Bool.{Bool, true, false, not, _&&_, _||_}
-use mathlib.Core.List.{List, [], _∷_, _++_}
+use mathlib.Core.Bool.{Bool, true, false, not, _&&_}
+use mathlib.Core.List.{List, [], _∷_}
 use mathlib.Core.Path.{_≡_, refl, sym, ap, _∙_, subst}
 use native.Mathlib.Nat.{div-eq-of-lt, div-div-eq-div-mul, pow-suc, div-one, add-zero}
 use native.Mathlib.Omega.{arith}
@@ -16,19 +16,19 @@ use Rattle.laws.specs.Refusals.{All, all-map}
 use Rattle.laws.specs.Sets.{bit}
 use Rattle.format.specs.Numbers.{none, last-round}
 use Rattle.format.specs.Group.{quorum}
-use Rattle.format.specs.Words.{fields-of, formed, kind-of, flag-of, station-of, round-of, step-of}
+use Rattle.format.specs.Words.{fields-of, formed, flag-of, station-of}
 use Rattle.format.specs.Statement.{Statement, statement, statements, well-formed, step}
 use Rattle.format.specs.Bundle.{all-formed}
 use Rattle.format.specs.Layout.{formed-well, all-well}
 use Rattle.certificate.specs.declared.Group.{Group}
-use Rattle.certificate.specs.Rules.{Rising, Holds, holds, some, none-votes}
+use Rattle.certificate.specs.Rules.{Rising, holds, some, none-votes}
 use Rattle.certificate.specs.Backed.{holds-out}
 use Rattle.certificate.specs.Check.{every}
-use Rattle.certificate.specs.Valid.{every-out}
+use Rattle.certificate.specs.Exact.{every-out}
 use Rattle.station.specs.declared.Stage.{Stage}
 use Rattle.station.specs.declared.Stage.the-variants.{Gathering, Proposing, Voting}
 use Rattle.station.specs.declared.Station.{Station}
-use Rattle.station.specs.Machine.{State, stage-step, held-of, supplies-first, supplies-second, round-in}
+use Rattle.station.specs.Machine.{stage-step, held-of, supplies-first, supplies-second, round-in}
 use Rattle.station.specs.Words.{held-in, sites, kept-first, kept-second, first-of-round, leading, no-group, held-by, state-of, Lengths}
 use Rattle.station.specs.Fit.{zeros, slot-fits, slots-fit, stage-fits, group-fits, held-fits, rest-fits, fits}
 use Rattle.format.specs.ReadBack.{Proper}

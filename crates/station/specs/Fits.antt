@@ -1,38 +1,34 @@
 -- Fit: each station that an unrefused opening or giving returns fits, whatever station was handed in. A refusal returns what it was given.
-use Prim.Native.Nat.{ℕ, zero, suc, _+_, _-_, _*_, _≤_, _<_}
-use mathlib.Core.Bool.{Bool, true, false, not, _&&_, _||_}
+use Prim.Native.Nat.{ℕ, _+_, _-_, _≤_, _<_}
+use mathlib.Core.Bool.{Bool, true, false, _&&_, _||_}
 use mathlib.Core.List.{List, [], _∷_, _++_}
-use mathlib.Core.Path.{_≡_, refl, sym, ap, _∙_, subst}
+use mathlib.Core.Path.{_≡_, refl, subst}
 use native.Mathlib.Omega.{arith}
-use lib.Dec.{eqb, ltb, leb}
-use lib.ListN.{length, replicate, length-append, length-replicate}
-use borrow.Author.Tests.{eqb-true, eqb-false, eq-eqb, ltb-true, ltb-false}
+use lib.Dec.{eqb, ltb}
+use lib.ListN.{length}
+use borrow.Author.Tests.{eqb-false, eq-eqb}
 use Rattle.laws.specs.Pick.{pick}
-use Rattle.laws.specs.Bools.{never, both, join, left}
-use Rattle.laws.specs.Refusals.{All, all-map}
-use Rattle.format.specs.Numbers.{kind-INIT, kind-P, kind-V, none, D-GET, R-GET, last-round, kept, sent, sent-decided, closed-now}
+use Rattle.laws.specs.Bools.{never, join, left}
+use Rattle.laws.specs.Refusals.{All}
+use Rattle.format.specs.Numbers.{kind-INIT, none, D-GET, last-round, sent}
 use Rattle.format.specs.Group.{quorum}
 use Rattle.format.specs.Words.{step-of}
-use Rattle.format.specs.Statement.{Statement, well-formed, step}
+use Rattle.format.specs.Statement.{Statement, step}
 use Rattle.format.specs.Bundle.{main-of, certificate-of}
-use Rattle.format.specs.Shape.{Shape, init, proposal, vote, formed-in}
-use Rattle.certificate.specs.declared.Group.{Group}
-use Rattle.certificate.specs.Rules.{Rising, Holds, some, none-votes, Backed}
+use Rattle.format.specs.Shape.{Shape, init, proposal, formed-in}
+use Rattle.certificate.specs.Rules.{Holds, some, none-votes, Backed}
 use Rattle.sealed.specs.declared.Module.{Module}
 use Rattle.sealed.specs.Sealed.{last-for}
 use Rattle.station.specs.declared.Stage.{Stage}
 use Rattle.station.specs.declared.Stage.the-variants.{Gathering, Proposing, Voting}
 use Rattle.station.specs.declared.Station.{Station}
-use Rattle.station.specs.Machine.{State, Outcome, refused, keeps, sends, Next, own, began, shut, keeping, kind-in, round-in, stage-step, supplies-first, supplies-second, closes, decision-at, decision-after, decided, vote-value, follows, after-inits, after-votes, carried, has-value}
+use Rattle.station.specs.Machine.{State, Outcome, own, began, shut, round-in, stage-step, supplies-first, supplies-second, closes, decision-at, decided, vote-value, follows, after-votes, carried, has-value}
 use Rattle.station.specs.Words as W
-use Rattle.station.specs.Words.{kept-first, kept-second, first-of-round, leading, no-group, state-of, group-words, slots-of, all-written, sites, Lengths}
+use Rattle.station.specs.Words.{kept-first, kept-second, first-of-round, leading, no-group, state-of, Lengths}
 use Rattle.station.specs.Fit.{fits}
-use Rattle.station.specs.Calls.{Returned, returned, opening, giving, opening-outcome, giving-outcome, no-station}
-use Rattle.station.specs.ReadBack.{length-all}
+use Rattle.station.specs.Calls.{returned, opening, giving, opening-outcome, giving-outcome, no-station}
 use Rattle.format.specs.ReadBack.{Proper}
-use Rattle.station.specs.Slots.{slots-length}
 use Rattle.station.specs.Sane.{Kept, InRounds, FlagOf, Sane, sane-fits}
-use Rattle.station.specs.FitSane.{first-size, second-size}
 use Rattle.station.specs.Keep.{keep-sane}
 use Rattle.station.specs.End.{Full, Given, Ready, inits-ready, inits-backed, votes-ready, votes-backed, proposals-ready, proposals-backed}
 use Rattle.station.specs.Views.{InRange, Accepted, after, decision-then, sent-statement, Gives, refuses, holds-on, shuts, goes-on, gives-view, sane-before, full-after, init-statement, Opens, no-opening, begins, opens-view}

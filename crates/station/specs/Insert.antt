@@ -1,24 +1,23 @@
 -- A statement among those held: what a list has with it.
-use Prim.Native.Nat.{ℕ, zero, suc, _+_, _-_, _*_, _≤_, _<_}
-use mathlib.Core.Bool.{Bool, true, false, not, _&&_, _||_}
-use mathlib.Core.List.{List, [], _∷_, _++_}
-use mathlib.Core.Path.{_≡_, refl, sym, ap, _∙_, subst}
+use Prim.Native.Nat.{ℕ, suc, _-_, _≤_, _<_}
+use mathlib.Core.Bool.{Bool, true, false, _&&_, _||_}
+use mathlib.Core.List.{List, [], _∷_}
+use mathlib.Core.Path.{_≡_, refl, ap, _∙_}
 use native.Mathlib.Omega.{arith}
 use lib.Dec.{eqb, ltb}
 use lib.ListN.{length}
-use borrow.Author.Tests.{eqb-true, eqb-false, eq-eqb, ne-eqb, ltb-true, ltb-false, lt-ltb, le-ltb}
+use borrow.Author.Tests.{eqb-false, ltb-true, ltb-false, le-ltb}
 use Rattle.laws.specs.Pick.{pick}
-use Rattle.laws.specs.Bools.{never, both, join, is-false}
-use Rattle.laws.specs.Refusals.{All, all-map}
+use Rattle.laws.specs.Bools.{never}
+use Rattle.laws.specs.Refusals.{All}
 use Rattle.format.specs.Statement.{Statement}
 use Rattle.certificate.specs.Rules.{Rising, some}
 use Rattle.certificate.specs.Check.{every}
 use Rattle.format.specs.Numbers.{D-GET}
 use Rattle.station.specs.declared.Stage.{Stage}
 use Rattle.station.specs.declared.Stage.the-variants.{Gathering, Proposing, Voting}
-use Rattle.station.specs.Machine.{insert, held-of, takes, has-value, conflict}
+use Rattle.station.specs.Machine.{insert, held-of, has-value, conflict}
 use Rattle.station.specs.Words.{leading}
-use Rattle.station.specs.Slots.{rising-above}
 
 pub insert-all : (P : Statement → Type 0) (m : Statement) (h : List Statement) → P m → All P h → All P (insert m h)
 unfolding insert pick

@@ -1,21 +1,21 @@
 -- A station that takes a valid bundle of its step, and does not end the step with it, stays sane.
-use Prim.Native.Nat.{ℕ, zero, suc, _+_, _-_, _*_, _≤_, _<_}
+use Prim.Native.Nat.{ℕ, zero, suc, _+_, _-_, _*_, _<_}
 use mathlib.Core.Bool.{Bool, true, false, not, _&&_, _||_}
 use mathlib.Core.List.{List, [], _∷_, _++_}
 use mathlib.Core.Path.{_≡_, refl, sym, ap, _∙_, subst}
 use native.Mathlib.Omega.{arith}
-use lib.Dec.{eqb, ltb, leb}
-use lib.ListN.{length, take, drop}
+use lib.Dec.{eqb, ltb}
+use lib.ListN.{length, take}
 use lib.Seq.{take-at, take-all}
-use borrow.Author.Tests.{eqb-true, eqb-false, eq-eqb, ne-eqb, ltb-true, ltb-false, lt-ltb, le-ltb, not-true}
+use borrow.Author.Tests.{eqb-true, eq-eqb, ne-eqb, ltb-true}
 use Rattle.laws.specs.Pick.{pick}
-use Rattle.laws.specs.Bools.{never, both, join, is-false}
-use Rattle.laws.specs.Refusals.{All, all-map}
-use Rattle.format.specs.Numbers.{kind-INIT, kind-P, kind-V, none, D-GET, R-GET, last-round}
-use Rattle.format.specs.Group.{quorum, backing}
+use Rattle.laws.specs.Bools.{never, both}
+use Rattle.laws.specs.Refusals.{All}
+use Rattle.format.specs.Numbers.{kind-INIT, kind-P, kind-V, none, D-GET, R-GET}
+use Rattle.format.specs.Group.{quorum}
 use Rattle.format.specs.Words.{step-of}
-use Rattle.format.specs.Statement.{Statement, well-formed, step}
-use Rattle.format.specs.Shape.{Shape, init, proposal, vote, Formed, formed-out}
+use Rattle.format.specs.Statement.{Statement, step}
+use Rattle.format.specs.Shape.{Shape, init, proposal, vote, formed-out}
 use Rattle.certificate.specs.declared.Group.{Group}
 use Rattle.certificate.specs.declared.Which.the-variants.{Any, Only}
 use Rattle.certificate.specs.Rules.{Rising, Holds, some, proposals, none-votes, Backed, rule-1, rule-2, rule-3, rule-4, rule-5, rule-6, rule-7}
@@ -24,7 +24,7 @@ use Rattle.station.specs.declared.Stage.the-variants.{Gathering, Proposi
 use Rattle.station.specs.Machine.{State, kind-in, round-in, stage-step, held-of, supplies-first, supplies-second, takes, insert, keeping}
 use Rattle.station.specs.Words.{kept-first, kept-second, first-of-round, leading, no-group}
 use Rattle.format.specs.ReadBack.{Proper}
-use Rattle.station.specs.Insert.{insert-all, insert-length, insert-rising, some-insert, leading-new, leading-other, leading-old, lower-some}
+use Rattle.station.specs.Insert.{insert-all, insert-rising, some-insert, leading-new, leading-other, leading-old, lower-some}
 use Rattle.station.specs.Sane.{Kept, InRounds, FlagOf, Sane}
 
 -- what the tests of giving say of a bundle with main statement m and certificate c

@@ -1,18 +1,16 @@
 -- What a station does with statements that are read already (document 01, "The station"). No word is looked into here.
-use Prim.Native.Nat.{ℕ, zero, suc, _+_, _-_, _*_, _≤_, _<_}
+use Prim.Native.Nat.{ℕ, suc, _+_, _-_, _*_}
 use mathlib.Core.Bool.{Bool, true, false, not, _&&_, _||_}
 use mathlib.Core.List.{List, [], _∷_, _++_}
 use lib.Dec.{eqb, ltb, leb}
-use lib.ListN.{length, take, drop}
+use lib.ListN.{length, take}
 use Rattle.laws.specs.Pick.{pick}
-use Rattle.laws.specs.Refusals.{Test, test, first-failed}
+use Rattle.laws.specs.Refusals.{Test, test}
 use Rattle.format.specs.Numbers.{kind-INIT, kind-P, kind-V, none, D-GET, R-GET, last-round, kept, sent, sent-decided, closed-now, too-early, too-late, already-held, conflicting, not-above}
 use Rattle.format.specs.Group.{quorum, backing}
 use Rattle.format.specs.Words.{step-of}
 use Rattle.format.specs.Statement.{Statement, step}
-use Rattle.certificate.specs.declared.Which.the-variants.{Any, Only}
-use Rattle.certificate.specs.declared.Group.{Group}
-use Rattle.certificate.specs.Rules.{group, proposals, none-votes, some, some-D-GET, some-value}
+use Rattle.certificate.specs.Rules.{group, proposals, some, some-D-GET, some-value}
 use Rattle.certificate.specs.Check.{every}
 use Rattle.sealed.specs.declared.Last.{Last}
 use Rattle.sealed.specs.Sealed.{above, signed}

@@ -1,7 +1,7 @@
 -- The station that is none, which a refused opening returns: it names no decision, fits no module, and every giving on it is refused by 1 or 2.
-use Prim.Native.Nat.{ℕ, _≤_}
+use Prim.Native.Nat.{ℕ}
 use mathlib.Core.Bool.{Bool, true, false, _&&_}
-use mathlib.Core.List.{List, [], _∷_, _++_}
+use mathlib.Core.List.{List}
 use mathlib.Core.Logic.{_⊎_, inl, inr}
 use mathlib.Core.Path.{_≡_, refl, ap, _∙_}
 use native.Mathlib.Omega.{arith}
@@ -10,13 +10,13 @@ use lib.ListN.{length}
 use borrow.Author.Tests.{eqb-true}
 use Rattle.laws.specs.Pick.{pick}
 use Rattle.laws.specs.Bools.{never, both, is-false}
-use Rattle.laws.specs.Refusals.{Test, test, first-failed}
+use Rattle.laws.specs.Refusals.{first-failed}
 use Rattle.format.specs.Numbers.{none, output-words, short-output, out-of-range}
 use Rattle.sealed.specs.declared.Module.{Module}
 use Rattle.sealed.specs.Sealed.{module-fits}
 use Rattle.station.specs.Fit.{fits}
 use Rattle.station.specs.Returns.{unrefused}
-use Rattle.station.specs.Calls.{Returned, returned, opening, giving, give-tests, no-station}
+use Rattle.station.specs.Calls.{Returned, returned, opening, giving, no-station}
 use Rattle.station.specs.Views.{in-range}
 use Rattle.station.specs.Refused.{opening-refused}
 

@@ -1,20 +1,18 @@
 -- Lists of statements at the end of a step: counts, parts, and what all or some of them have.
-use Prim.Native.Nat.{ℕ, zero, suc, _+_, _-_, _*_, _≤_, _<_}
+use Prim.Native.Nat.{ℕ, zero, suc, _+_, _-_, _<_}
 use mathlib.Core.Bool.{Bool, true, false, not, _&&_, _||_}
-use mathlib.Core.List.{List, [], _∷_, _++_}
-use mathlib.Core.Path.{_≡_, refl, sym, ap, _∙_, subst}
+use mathlib.Core.List.{List, [], _∷_}
+use mathlib.Core.Path.{_≡_, refl, ap}
 use native.Mathlib.Omega.{arith}
-use lib.Dec.{eqb, ltb, leb}
+use lib.Dec.{eqb}
 use lib.ListN.{length, take}
-use borrow.Author.Tests.{eqb-true, eqb-false, eq-eqb, ne-eqb, ltb-true, ltb-false, lt-ltb, le-ltb}
+use borrow.Author.Tests.{eqb-true, eqb-false, eq-eqb}
 use Rattle.laws.specs.Pick.{pick}
-use Rattle.laws.specs.Bools.{never, both, join, left, right, is-false}
-use Rattle.laws.specs.Refusals.{All, all-map}
+use Rattle.laws.specs.Bools.{never, join, left, right}
+use Rattle.laws.specs.Refusals.{All}
 use Rattle.format.specs.Numbers.{none}
 use Rattle.format.specs.Statement.{Statement}
-use Rattle.certificate.specs.declared.Group.{Group}
 use Rattle.certificate.specs.declared.Which.{Which}
-use Rattle.certificate.specs.declared.Which.the-variants.{Any, Only}
 use Rattle.certificate.specs.Rules.{which, wanted, matches, Rising, some}
 use Rattle.certificate.specs.Check.{every}
 use Rattle.station.specs.Machine.{number-of, has-value, those}

@@ -1,26 +1,14 @@
 -- What is written is read back: a statement, a list of statements, a station's slots and groups.
-use Prim.Native.Nat.{ℕ, zero, suc, _+_, _-_, _*_, _^_, _≤_, _<_}
-use mathlib.Core.Bool.{Bool, true, false, not, _&&_, _||_}
-use mathlib.Core.Logic.{_⊎_, inl, inr}
-use mathlib.Core.List.{List, [], _∷_, _++_, append-assoc, append-nil}
-use mathlib.Core.Path.{_≡_, refl, sym, ap, _∙_, subst}
-use native.Mathlib.Nat.{zero-add, add-zero}
+use Prim.Native.Nat.{ℕ, zero, suc, _+_, _-_, _*_, _≤_}
+use mathlib.Core.List.{List, [], _∷_, _++_, append-assoc}
+use mathlib.Core.Path.{_≡_, refl, sym, ap, _∙_}
 use native.Mathlib.Omega.{arith}
-use lib.Count.{ones, ones-ones}
-use lib.Dec.{eqb, ltb}
-use lib.ListN.{length, getD, take, drop, replicate, length-append, length-replicate}
-use lib.Seq.{take-at, drop-at, drop-drop, getD-drop, drop-append-le}
-use borrow.Author.Tests.{eqb-true, eqb-false, eq-eqb, ne-eqb}
-use Rattle.laws.specs.Pick.{pick}
-use Rattle.laws.specs.Bools.{never, is-false}
-use Rattle.laws.specs.Refusals.{All, all-map}
-use Rattle.laws.specs.Sets.{bit, set-same, set-other, ones-bit-set, bit-fits}
-use Rattle.format.specs.Words.{InBits, fields-of, word-of, read-written, kind-of, value-of, flag-of, station-of, round-of, formed, spare-of}
-use Rattle.format.specs.Statement.{Statement, statement, statements, word-0, written, well-formed}
+use lib.ListN.{length, drop, length-append}
+use lib.Seq.{drop-at, drop-drop}
+use Rattle.laws.specs.Refusals.{All}
+use Rattle.format.specs.Statement.{Statement, statement, statements, written}
 use Rattle.format.specs.ReadBack.{Proper, length-written, statement-drop, statement-back}
-use Rattle.certificate.specs.Rules.{Rising, some}
-use Rattle.station.specs.Machine.{held-of}
-use Rattle.station.specs.Words.{held-in, set-of, slot-of, slots-of, all-written, group-words, sites}
+use Rattle.station.specs.Words.{all-written}
 
 -- a list of statements
 pub length-all : (n : ℕ) (c : List Statement) → All (Proper n) c → length (all-written c) ≡ length c * 10

@@ -11,7 +11,7 @@ use Rattle.sealed.specs.declared.Module.{Module}
 use Rattle.station.specs.declared.Station.{Station}
 use Rattle.station.specs.Machine.{Outcome}
 use Rattle.station.specs.Demand.{as-given}
-use Rattle.station.specs.Calls.{Returned, returned, opening, opening-outcome, giving, giving-outcome, no-station}
+use Rattle.station.specs.Calls.{returned, opening, opening-outcome, giving, giving-outcome, no-station}
 use Rattle.station.specs.Words.{Lengths}
 use Rattle.station.specs.Views.{decision-then, Gives, refuses, holds-on, shuts, goes-on, gives-view, Opens, no-opening, begins, opens-view}
 use Rattle.station.specs.Returns.{unrefused}

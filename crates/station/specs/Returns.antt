@@ -4,7 +4,6 @@ use mathlib.Core.Bool.{Bool, true, false, _&&_, _||_}
 use mathlib.Core.List.{List, [], _∷_}
 use mathlib.Core.Path.{_≡_, refl}
 use lib.Dec.{eqb}
-use Rattle.laws.specs.Bools.{never}
 use Rattle.format.specs.Numbers.{kept, sent, sent-decided, closed-now}
 
 -- a number that is no refusal, and whether a bundle was written with it

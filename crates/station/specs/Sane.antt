@@ -1,40 +1,39 @@
 -- What an open station knows where it fits: `Sane`, and that the words of such a state fit and are read back as it.
-use Prim.Native.Nat.{ℕ, zero, suc, _+_, _-_, _*_, _/_, _%_, _^_, _≤_, _<_}
+use Prim.Native.Nat.{ℕ, zero, suc, _+_, _-_, _*_, _^_, _≤_, _<_}
 use mathlib.Core.Bool.{Bool, true, false, not, _&&_, _||_}
 use mathlib.Core.List.{List, [], _∷_, _++_, append-assoc, append-nil}
 use mathlib.Core.Path.{_≡_, refl, sym, ap, _∙_, subst}
-use native.Mathlib.Nat.{zero-add, add-zero}
+use native.Mathlib.Nat.{add-zero}
 use native.Mathlib.Omega.{arith}
 use lib.Count.{ones}
 use lib.Dec.{eqb, ltb, leb}
-use lib.ListN.{length, getD, take, drop, replicate, length-append, length-replicate}
-use lib.Seq.{take-at, drop-at, drop-drop, getD-drop}
-use borrow.Author.Tests.{eqb-true, eqb-false, eq-eqb, ne-eqb, lt-ltb, le-leb}
+use lib.ListN.{length, getD, drop, replicate}
+use lib.Seq.{drop-at, drop-drop, getD-drop}
+use borrow.Author.Tests.{eqb-true, eq-eqb, lt-ltb, le-leb}
 use Rattle.laws.specs.Pick.{pick}
-use Rattle.laws.specs.Bools.{never, both, join, right}
+use Rattle.laws.specs.Bools.{never, join, right}
 use Rattle.laws.specs.Refusals.{All, all-map}
 use Rattle.laws.specs.Sets.{bit}
 use Rattle.format.specs.Numbers.{none, last-round}
 use Rattle.format.specs.Group.{quorum}
-use Rattle.format.specs.Words.{InBits, fields-of, word-of, formed, kind-of, value-of, flag-of, station-of, round-of, of-group, shaped, step-of}
-use Rattle.format.specs.Statement.{Statement, statement, statements, word-0, written, well-formed, step}
+use Rattle.format.specs.Words.{fields-of, formed, kind-of, flag-of, station-of, round-of, step-of}
+use Rattle.format.specs.Statement.{Statement, statement, statements, word-0, written, step}
 use Rattle.format.specs.Bundle.{all-formed}
 use Rattle.format.specs.Shape.{formed-out}
 use Rattle.certificate.specs.declared.Group.{Group}
 use Rattle.certificate.specs.Rules.{Rising, Holds, holds, some}
 use Rattle.certificate.specs.Backed.{holds-in}
 use Rattle.certificate.specs.Check.{every}
-use Rattle.certificate.specs.Valid.{every-in}
+use Rattle.certificate.specs.Exact.{every-in}
 use Rattle.station.specs.declared.Stage.{Stage}
 use Rattle.station.specs.declared.Stage.the-variants.{Gathering, Proposing, Voting}
-use Rattle.station.specs.declared.Station.{Station}
 use Rattle.station.specs.Machine.{State, stage-step, held-of}
 use Rattle.station.specs.Words as W
-use Rattle.station.specs.Words.{held-in, set-of, slot-of, slots-of, all-written, group-words, sites, kept-first, kept-second, held-by, state-of}
-use Rattle.station.specs.Fit.{zeros, slot-fits, slots-fit, stage-fits, group-fits, held-fits, rest-fits, fits}
+use Rattle.station.specs.Words.{set-of, slot-of, slots-of, all-written, group-words, sites, kept-first, kept-second, held-by, state-of}
+use Rattle.station.specs.Fit.{zeros, slot-fits, slots-fit, stage-fits, group-fits, fits}
 use Rattle.station.specs.ReadBack.{length-all, statements-back}
-use Rattle.format.specs.ReadBack.{Proper, formed-back, Back, word-back, length-written, statement-drop}
-use Rattle.station.specs.Slots.{all-two, bit-set, ones-set, set-low, slot-at, slot-held, held-back, rising-above}
+use Rattle.format.specs.ReadBack.{Proper, formed-back, word-back, length-written}
+use Rattle.station.specs.Slots.{all-two, bit-set, ones-set, set-low, slot-at, slot-held, held-back}
 
 -- a kept group: as it is asked for, of the question
 pub record Kept (n question : ℕ) (g : Group) (c : List Statement) : Type 0 where

@@ -1,35 +1,35 @@
 -- A station codes by the module's two ways: the main statement of what it writes is what coding plain, or for an R-GET coding with the coin, codes and
 -- leaves behind. And the word count of what is written is its length.
-use Prim.Native.Nat.{ℕ, zero, suc, _+_, _*_, _≤_, _<_}
-use mathlib.Core.Bool.{Bool, true, false, _&&_, _||_}
-use mathlib.Core.List.{List, [], _∷_, _++_, append-assoc}
+use Prim.Native.Nat.{ℕ, suc, _+_, _≤_, _<_}
+use mathlib.Core.Bool.{Bool, true, false, _&&_}
+use mathlib.Core.List.{List, [], _++_, append-assoc}
 use mathlib.Core.Path.{_≡_, refl, sym, ap, _∙_}
 use native.Mathlib.Omega.{arith}
 use lib.Dec.{eqb, ltb, leb}
 use lib.ListN.{length, take, drop, length-append}
 use lib.Seq.{take-at}
-use borrow.Author.Tests.{eqb-true, le-leb}
+use borrow.Author.Tests.{le-leb}
 use Rattle.laws.specs.Pick.{pick}
-use Rattle.laws.specs.Bools.{never, both, join}
+use Rattle.laws.specs.Bools.{never, join}
 use Rattle.laws.specs.Refusals.{All}
-use Rattle.format.specs.Numbers.{kind-INIT, kind-P, kind-V, none, D-GET, R-GET, bundle-words}
-use Rattle.format.specs.Group.{size-fits, quorum}
+use Rattle.format.specs.Numbers.{kind-INIT, kind-P, none, D-GET, R-GET, bundle-words}
+use Rattle.format.specs.Group.{size-fits}
 use Rattle.format.specs.Statement.{Statement, statement, covered, written, well-formed, step}
-use Rattle.format.specs.Shape.{Shape, init, proposal, vote, formed-out}
+use Rattle.format.specs.Shape.{init}
 use Rattle.format.specs.ReadBack.{Proper, length-written, statement-drop, statement-back}
 use Rattle.sealed.specs.declared.Module.{Module}
-use Rattle.sealed.specs.Sealed.{above, last-for, advanced, module-fits, Coded, is-toss, signed, coding-plain, coding-coin}
+use Rattle.sealed.specs.Sealed.{above, last-for, advanced, module-fits, is-toss, signed, coding-plain, coding-coin}
 use Rattle.sealed.specs.Ways.{with-code, coded-as, own-plain, own-coin}
 use Rattle.station.specs.declared.Stage.{Stage}
 use Rattle.station.specs.declared.Stage.the-variants.{Gathering, Proposing, Voting}
 use Rattle.station.specs.declared.Station.{Station}
-use Rattle.station.specs.Machine.{State, Outcome, Next, next, proposing, carried, follows, closes}
+use Rattle.station.specs.Machine.{State, Outcome, Next, next, proposing, carried, follows}
 use Rattle.station.specs.Words.{Lengths, all-written, bundle-of, over}
 use Rattle.station.specs.Returns.{unrefused, wrote, wrote-unrefused}
-use Rattle.station.specs.Calls.{Returned, returned, opening, giving, opening-outcome, giving-outcome, no-station}
+use Rattle.station.specs.Calls.{returned, opening, giving, opening-outcome, giving-outcome, no-station}
 use Rattle.station.specs.Demand.{message, BySeal}
 use Rattle.station.specs.ReadBack.{length-all}
-use Rattle.station.specs.Views.{InRange, Accepted, after, sent-statement, Gives, refuses, holds-on, shuts, goes-on, gives-view, init-statement, Opens, no-opening, begins, opens-view}
+use Rattle.station.specs.Views.{InRange, after, sent-statement, Gives, refuses, holds-on, shuts, goes-on, gives-view, init-statement, Opens, no-opening, begins, opens-view}
 use Rattle.station.specs.Fits.{own-proper, next-ready, sent-proper}
 use Rattle.station.specs.Written.{all-append}
 

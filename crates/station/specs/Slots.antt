@@ -1,15 +1,15 @@
 -- A station's set and slots, written from the statements held, are read back as these.
-use Prim.Native.Nat.{ℕ, zero, suc, _+_, _-_, _*_, _/_, _%_, _^_, _≤_, _<_}
-use mathlib.Core.Bool.{Bool, true, false, not, _&&_, _||_}
-use mathlib.Core.List.{List, [], _∷_, _++_, append-assoc, append-nil}
+use Prim.Native.Nat.{ℕ, zero, suc, _+_, _-_, _*_, _^_, _≤_, _<_}
+use mathlib.Core.Bool.{Bool, true, false, not}
+use mathlib.Core.List.{List, [], _∷_, _++_}
 use mathlib.Core.Path.{_≡_, refl, sym, ap, _∙_, subst}
-use native.Mathlib.Nat.{zero-add, add-zero, zero-div, sub-zero}
+use native.Mathlib.Nat.{zero-add, add-zero, zero-div}
 use native.Mathlib.Omega.{arith}
 use lib.Count.{ones, ones-ones}
-use lib.Dec.{eqb, ltb}
-use lib.ListN.{length, getD, take, drop, replicate, length-append, length-replicate}
+use lib.Dec.{eqb}
+use lib.ListN.{length, drop, length-append}
 use lib.Pow.{pow-pos}
-use lib.Seq.{take-at, drop-at, drop-drop}
+use lib.Seq.{drop-at, drop-drop}
 use borrow.Author.Tests.{eqb-true, eqb-false, eq-eqb, ne-eqb}
 use Rattle.laws.specs.Pick.{pick}
 use Rattle.laws.specs.Refusals.{All, all-map}

@@ -1,15 +1,15 @@
 -- Demand 2, proved of opening and giving: for any code of eight words, and so of HMAC.
 use Prim.Native.Nat.{ℕ, _≤_, _<_}
 use mathlib.Core.Bool.{Bool, true, false, not, _&&_}
-use mathlib.Core.List.{List, [], _∷_, _++_}
+use mathlib.Core.List.{List, _++_}
 use mathlib.Core.Path.{_≡_, refl, sym, ap, _∙_, subst}
 use native.Mathlib.Omega.{arith}
-use lib.Dec.{eqb, ltb, leb}
+use lib.Dec.{eqb, ltb}
 use lib.ListN.{length}
 use borrow.Author.Tests.{eqb-false, eq-eqb, lt-ltb, le-leb}
 use Rattle.laws.specs.Pick.{pick}
 use Rattle.laws.specs.Bools.{both, join}
-use Rattle.laws.specs.Refusals.{All, Test, first-failed, all-passed}
+use Rattle.laws.specs.Refusals.{All, first-failed, all-passed}
 use Rattle.format.specs.Numbers.{output-words}
 use Rattle.format.specs.Statement.{hmac-code}
 use Rattle.format.specs.Bundle.{main-of, certificate-of}

@@ -1,43 +1,42 @@
 -- What opening and giving come to, case by case: refused, kept, closed or sent, each with the facts that its tests have shown.
-use Prim.Native.Nat.{ℕ, zero, suc, _+_, _-_, _*_, _≤_, _<_}
+use Prim.Native.Nat.{ℕ, suc, _+_, _-_, _≤_, _<_}
 use mathlib.Core.Bool.{Bool, true, false, not, _&&_, _||_}
 use mathlib.Core.List.{List, [], _∷_, _++_}
-use mathlib.Core.Path.{_≡_, refl, sym, ap, _∙_, subst}
+use mathlib.Core.Path.{_≡_, refl, sym, _∙_}
 use native.Mathlib.Omega.{arith}
 use lib.Dec.{eqb, ltb, leb}
-use lib.ListN.{length, getD, take, drop}
-use borrow.Author.Tests.{eqb-true, eqb-false, eq-eqb, ne-eqb, ltb-true, ltb-false, lt-ltb, leb-true, not-true, not-false}
+use lib.ListN.{length}
+use borrow.Author.Tests.{eqb-true, eqb-false, ltb-true, ltb-false, leb-true, not-true, not-false}
 use Rattle.laws.specs.Pick.{pick}
-use Rattle.laws.specs.Bools.{never, both, join, is-false}
+use Rattle.laws.specs.Bools.{both}
 use Rattle.laws.specs.Refusals.{All, all-map, Test, test, first-failed, all-passed}
-use Rattle.format.specs.Numbers.{kind-INIT, kind-P, none, D-GET, kept, sent, sent-decided, closed-now, short-output, output-words, out-of-range, malformed, other-question, wrong-code, no-certificate, station-closed, too-late, too-early, already-held, conflicting, not-above, bundle-words}
+use Rattle.format.specs.Numbers.{kind-INIT, none, D-GET, kept, sent, sent-decided, closed-now, output-words, conflicting, not-above}
 use Rattle.format.specs.Group.{size-fits, quorum}
-use Rattle.format.specs.Words.{of-group}
 use Rattle.format.specs.Statement.{Statement, statement, statements, well-formed, verifies, step}
-use Rattle.format.specs.Bundle.{count-in, main-of, certificate-of, bundle-fits, all-formed}
+use Rattle.format.specs.Bundle.{count-in, main-of, certificate-of}
 use Rattle.format.specs.Layout.{all-well}
 use Rattle.format.specs.Shape.{formed-out}
-use Rattle.certificate.specs.Rules.{Backed, rule, some}
+use Rattle.certificate.specs.Rules.{rule}
 use Rattle.certificate.specs.declared.Which.the-variants.{Only}
-use Rattle.certificate.specs.Check.{every, one-question, all-verify, bundle-tests}
+use Rattle.certificate.specs.Check.{one-question, bundle-tests}
 use Rattle.certificate.specs.Backed.{rule-backed}
-use Rattle.certificate.specs.Valid.{Bundle, bundle-out, every-out}
+use Rattle.certificate.specs.Valid.{Bundle}
+use Rattle.certificate.specs.Exact.{bundle-out, every-out}
 use Rattle.sealed.specs.declared.Module.{Module}
 use Rattle.sealed.specs.Sealed.{above, module-fits, last-for}
-use Rattle.station.specs.declared.Stage.{Stage}
-use Rattle.station.specs.declared.Stage.the-variants.{Gathering, Proposing, Voting}
+use Rattle.station.specs.declared.Stage.the-variants.{Gathering}
 use Rattle.station.specs.declared.Station.{Station}
-use Rattle.station.specs.Machine.{State, Outcome, refused, keeps, sends, Next, own, began, opened, keeping, insert, closes, decision-at, shut, follows, moved, ended, taken, held-of, conflict, place-tests, step-tests, stage-step}
+use Rattle.station.specs.Machine.{State, Outcome, refused, keeps, sends, Next, own, began, opened, keeping, closes, decision-at, shut, follows, moved, ended, taken, held-of, conflict, place-tests, stage-step}
 use Rattle.station.specs.Words.{state-of, Lengths}
 use Rattle.station.specs.Fit.{fits}
 use Rattle.station.specs.Returns.{unrefused}
-use Rattle.station.specs.Calls.{Returned, returned, giving, open-tests, opening-outcome, station-tests, give-tests, giving-outcome}
+use Rattle.station.specs.Calls.{returned, giving, open-tests, opening-outcome, station-tests, give-tests, giving-outcome}
 use Rattle.format.specs.ReadBack.{Proper}
 use Rattle.station.specs.Slots.{all-two}
 use Rattle.station.specs.Insert.{insert-length, conflict-insert}
-use Rattle.station.specs.Sane.{Kept, InRounds, Sane}
+use Rattle.station.specs.Sane.{Sane}
 use Rattle.station.specs.FitSane.{fits-sane, eights}
-use Rattle.station.specs.Keep.{Fitting, kept-first-on, kept-second-on, grown, keep-sane}
+use Rattle.station.specs.Keep.{Fitting, kept-first-on, kept-second-on, grown}
 use Rattle.station.specs.End.{Full}
 
 -- a failed test's number is one of the table's

@@ -1,13 +1,12 @@
 -- A station's words: read as a state, and written from one. A bundle's words, written.
-use Prim.Native.Nat.{ℕ, zero, suc, _+_, _-_, _*_, _/_, _%_, _^_}
-use mathlib.Core.Bool.{Bool, true, false, _&&_}
+use Prim.Native.Nat.{ℕ, zero, suc, _+_, _-_, _*_, _^_}
+use mathlib.Core.Bool.{Bool}
 use mathlib.Core.List.{List, [], _∷_, _++_}
 use mathlib.Core.Path.{_≡_}
 use lib.Dec.{eqb}
-use lib.ListN.{length, getD, take, drop, replicate}
+use lib.ListN.{length, drop, replicate}
 use Rattle.laws.specs.Pick.{pick}
 use Rattle.laws.specs.Sets.{bit}
-use Rattle.format.specs.Group.{quorum}
 use Rattle.format.specs.Statement.{Statement, statement, statements, written}
 use Rattle.certificate.specs.declared.Group.{Group}
 use Rattle.certificate.specs.declared.Which.the-variants.{Any, Only}

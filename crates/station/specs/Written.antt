@@ -1,51 +1,51 @@
 -- Demand 2: "every message that a station writes is valid to every station of its group". For a station made by opening and changed only by these
 -- calls, with modules of one key and one n, each bundle that is written is answered 0 by the check under that key and n, and its word count is its
 -- length.
-use Prim.Native.Nat.{ℕ, zero, suc, _+_, _-_, _*_, _≤_, _<_}
-use mathlib.Core.Bool.{Bool, true, false, not, _&&_, _||_}
-use mathlib.Core.List.{List, [], _∷_, _++_, append-nil}
+use Prim.Native.Nat.{ℕ, _+_, _-_, _*_, _≤_}
+use mathlib.Core.Bool.{Bool, true, false}
+use mathlib.Core.List.{List, [], _∷_, _++_}
 use mathlib.Core.Path.{_≡_, refl, sym, ap, _∙_, subst}
 use native.Mathlib.Omega.{arith}
-use lib.Dec.{eqb, ltb, leb}
+use lib.Dec.{eqb, ltb}
 use lib.ListN.{length, take, drop, replicate, length-append, length-replicate}
 use lib.Seq.{take-at}
-use borrow.Author.Tests.{eqb-true, eqb-false, eq-eqb, ltb-true, ltb-false}
+use borrow.Author.Tests.{eq-eqb}
 use Rattle.laws.specs.Pick.{pick}
-use Rattle.laws.specs.Bools.{never, both, join}
+use Rattle.laws.specs.Bools.{never, join}
 use Rattle.laws.specs.Refusals.{All, all-map}
-use Rattle.format.specs.Numbers.{kind-INIT, kind-P, none, D-GET, R-GET, sent, sent-decided, bundle-words, output-words, most-statements}
+use Rattle.format.specs.Numbers.{kind-INIT, kind-P, none, D-GET, R-GET, sent, bundle-words, most-statements}
 use Rattle.format.specs.Group.{quorum, backing}
 use Rattle.format.specs.Statement.{Statement, statements, covered, same-words, verifies, hmac-code}
-use Rattle.format.specs.Bundle.{count-in, main-of, certificate-of}
+use Rattle.format.specs.Bundle.{main-of, certificate-of}
 use Rattle.format.specs.Shape.{init}
 use Rattle.format.specs.Codes.{hmac-eight}
 use Rattle.certificate.specs.declared.Which.the-variants.{Any}
 use Rattle.certificate.specs.Rules.{Backed, rule-1, rule-2, rule-3, rule-4, rule-5, rule-6, rule-7, some-D-GET}
 use Rattle.certificate.specs.Check.{check-by, judged, checked}
-use Rattle.certificate.specs.Valid.{Valid, valid-found}
+use Rattle.certificate.specs.Valid.{Valid}
+use Rattle.certificate.specs.Exact.{valid-found}
 use Rattle.sealed.specs.declared.Module.{Module}
 use Rattle.sealed.specs.Sealed.{last-for}
 use Rattle.station.specs.declared.Stage.{Stage}
 use Rattle.station.specs.declared.Stage.the-variants.{Gathering, Proposing, Voting}
 use Rattle.station.specs.declared.Station.{Station}
-use Rattle.station.specs.Machine.{State, Outcome, refused, keeps, sends, Next, own, began, shut, keeping, insert, supplies-first, supplies-second, takes, closes, those, has-value, first-value, vote-value, carried, follows, after-votes}
+use Rattle.station.specs.Machine.{State, Outcome, Next, own, began, shut, supplies-first, supplies-second, takes, closes, those, has-value, first-value, vote-value, carried, follows}
 use Rattle.station.specs.Words as W
-use Rattle.station.specs.Words.{state-of, slots-of, all-written, group-words, sites, bundle-of, over, kept-first, kept-second, Lengths}
-use Rattle.station.specs.Fit.{fits}
-use Rattle.station.specs.Calls.{Returned, returned, opening, giving, opening-outcome, giving-outcome, no-station}
+use Rattle.station.specs.Words.{state-of, all-written, group-words, sites, bundle-of, over, Lengths}
+use Rattle.station.specs.Calls.{returned, opening, giving, opening-outcome, giving-outcome, no-station}
 use Rattle.station.specs.ReadBack.{length-all}
 use Rattle.format.specs.ReadBack.{Proper}
 use Rattle.station.specs.Slots.{slots-length}
 use Rattle.station.specs.Insert.{insert-all}
-use Rattle.station.specs.Sane.{Kept, Sane, sane-fits, state-back}
+use Rattle.station.specs.Sane.{Sane, state-back}
 use Rattle.station.specs.FitSane.{first-size, second-size}
-use Rattle.station.specs.Keep.{Fitting, all-take}
+use Rattle.station.specs.Keep.{all-take}
 use Rattle.station.specs.Pieces.{those-all}
-use Rattle.station.specs.End.{Full, Given, Ready}
-use Rattle.station.specs.Views.{InRange, Accepted, after, decision-then, sent-statement, Gives, refuses, holds-on, shuts, goes-on, gives-view, sane-before, full-after, init-statement, Opens, no-opening, begins, opens-view}
+use Rattle.station.specs.End.{Given}
+use Rattle.station.specs.Views.{Accepted, after, decision-then, sent-statement, Gives, refuses, holds-on, shuts, goes-on, gives-view, full-after, init-statement, Opens, no-opening, begins, opens-view}
 use Rattle.station.specs.Returns.{unrefused, wrote, wrote-unrefused}
 use Rattle.station.specs.Demand.{message, OfGroup, Reached, by-opening, by-giving}
-use Rattle.station.specs.Fits.{backed, own-proper, init-sane, next-ready, sent-proper, sent-sane, kept-sane, giving-fits, opening-fits}
+use Rattle.station.specs.Fits.{backed, own-proper, init-sane, next-ready, sent-proper, sent-sane, kept-sane}
 use Rattle.station.specs.Bundles.{bundle-valid, backed-few, ws-length}
 
 pub all-append : (P : Statement → Type 0) (c d : List Statement) → All P c → All P d → All P (c ++ d)
