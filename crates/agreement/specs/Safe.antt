@@ -2,12 +2,12 @@
 use mathlib.Core.Path.{_≡_, refl, sym, _∙_}
 use mathlib.Core.Bool.{Bool, true, false, not}
 use mathlib.Core.List.{List}
-use Prim.Native.Nat.{ℕ, zero, suc, _+_, _-_, _/_, _≤_, _<_}
+use Prim.Native.Nat.{ℕ, zero, suc, _+_, _-_, _≤_, _<_}
 use native.Mathlib.Omega.{arith}
 use lib.Dec.{eqb, ltb}
 use borrow.Author.Tests.{eqb-true, eqb-false, ltb-true, ltb-false}
-use Rattle.laws.specs.Count.{count, count-not, meet}
-use Rattle.format.specs.Group.{quorum, backing}
+use Rattle.laws.specs.Count.{count}
+use Rattle.format.specs.Group.{quorum, backing, most-faulty, quorums-meet, quorum-sound}
 use Rattle.format.specs.Statement.{Statement}
 use Rattle.agreement.specs.Log.{In, has, Has, has-out, has-one, Supp, Rising}
 
@@ -52,16 +52,20 @@ pub record SoundHas (sound : ℕ → Bool) (l : List Statement) (kd q r v : ℕ)
   pub ok : sound at ≡ true
   pub it : Has l kd q r v at
 
-module _ (n : ℕ) (sound : ℕ → Bool) (l : List Statement) (few : count (λ i. not (sound i)) n ≤ (n - 1) / 2) (big : 2 ≤ n) (L : LogOk n sound l) where
+twice-not : (b : Bool) → not (not b) ≡ true → b ≡ true
+twice-not true h = refl
+twice-not false h = h
+
+module _ (n : ℕ) (sound : ℕ → Bool) (l : List Statement) (few : count (λ i. not (sound i)) n ≤ most-faulty n) (big : 2 ≤ n) (L : LogOk n sound l) where
   pub same : (kd q r v w : ℕ) → Supp n l kd q r v (quorum n) → Supp n l kd q r w (quorum n) → v ≡ w
   same kd q r v w a b =
-      let m = meet (has l kd q r v) (has l kd q r w) n (omega arith) in
+      let m = quorums-meet n (has l kd q r v) (has l kd q r w) a b in
       has-one l (L .rising) kd q r v w (m .at) (has-out l kd q r v (m .at) (m .in-first)) (has-out l kd q r w (m .at) (m .in-second))
 
   pub a-sound : (kd q r v : ℕ) → Supp n l kd q r v (quorum n) → SoundHas sound l kd q r v
   a-sound kd q r v a =
-      let m = meet (has l kd q r v) sound n (omega (arith, count-not sound n)) in
-      record { at = m .at; ok = m .in-second; it = has-out l kd q r v (m .at) (m .in-first) }
+      let m = quorum-sound n (has l kd q r v) (λ i. not (sound i)) (omega arith) a few in
+      record { at = m .at; ok = twice-not (sound (m .at)) (m .in-second); it = has-out l kd q r v (m .at) (m .in-first) }
 
   abbrev pub Locked : ℕ → ℕ → ℕ → Type 0
   Locked q r v = (m : Statement) → In m l → m .kind ≡ 1 → m .question ≡ q → m .round ≡ r → Just n l m → m .value ≡ v
