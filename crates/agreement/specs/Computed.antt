@@ -207,8 +207,8 @@ module _ (mac : List ℕ → List ℕ → List ℕ) (key : List ℕ) (n : ℕ) w
   given-sound : (j i : ℕ) (u p : Bool) → (not (eqb j i && u) || p) ≡ true → j ≡ i → u ≡ true → p ≡ true
   given-sound j i u p h e f = implied (eqb j i && u) p h (join (eqb j i) u (eq-eqb j i e) f)
 
-  coded-sound : (j i k : ℕ) → not (eqb j i && eqb k 0) ≡ true → j ≡ i → k ≡ 0 → ⊥
-  coded-sound j i k h e f = denied (eqb j i && eqb k 0) h (join (eqb j i) _ (eq-eqb j i e) (eq-eqb k 0 f))
+  coded-sound : (j i k c : ℕ) → not (eqb j i && eqb k c) ≡ true → j ≡ i → k ≡ c → ⊥
+  coded-sound j i k c h e f = denied (eqb j i && eqb k c) h (join (eqb j i) _ (eq-eqb j i e) (eq-eqb k c f))
 
   pub sound-out : (cs : List Call) (i : ℕ) → sound cs i ≡ true → Sound mac key n i cs
   unfolding sound Sound
@@ -217,20 +217,23 @@ module _ (mac : List ℕ → List ℕ → List ℕ) (key : List ℕ) (n : ℕ) w
   sound-out (gives j k t ws coin out ∷ cs) i e =
       let h = both (sound cs i) _ e in
       ((λ p u. presents-out cs i k t _ refl (given-sound j i _ _ (h .1) p u)), sound-out cs i (h .0))
-  sound-out (codes j ws ∷ cs) i e = let h = both (sound cs i) _ e in (coded-sound j i _ (h .1), sound-out cs i (h .0))
-  sound-out (tosses j ws coin ∷ cs) i e = let h = both (sound cs i) _ e in (coded-sound j i _ (h .1), sound-out cs i (h .0))
+  sound-out (codes j ws ∷ cs) i e = let h = both (sound cs i) _ e in (coded-sound j i _ _ (h .1), sound-out cs i (h .0))
+  sound-out (tosses j ws coin ∷ cs) i e = let h = both (sound cs i) _ e in (coded-sound j i _ _ (h .1), sound-out cs i (h .0))
+
+  -- all sites are sound but those of a list that is short enough
+  abbrev but : List ℕ → List Call → ℕ → Bool
+  but faulty cs k = member (suc k) faulty || sound cs (suc k)
 
   abbrev pub few : List ℕ → List Call → Bool
-  few faulty cs = leb (length faulty) (most-faulty n) && below (λ k. member (suc k) faulty || sound cs (suc k)) n
+  few faulty cs = below (but faulty cs) n && leb (length faulty) (most-faulty n)
 
   pub others-out : (faulty : List ℕ) (cs : List Call) → few faulty cs ≡ true → (i : ℕ) → 1 ≤ i → i ≤ n → member i faulty ≡ false → Sound mac key n i cs
   others-out faulty cs e zero a b z = absurd (omega arith)
   others-out faulty cs e (suc i) a b z =
-      let h = both (leb (length faulty) (most-faulty n)) _ e in
-      sound-out cs (suc i) (rw z at (below-out (λ k. member (suc k) faulty || sound cs (suc k)) n i (h .1) (omega arith)))
+      sound-out cs (suc i) (rw z at (below-out (but faulty cs) n i (both (below (but faulty cs) n) _ e .0) (omega arith)))
 
   pub few-out : (faulty : List ℕ) (cs : List Call) → few faulty cs ≡ true → FewFaulty mac key n cs
-  few-out faulty cs e = record { faulty = faulty; few = leb-true _ _ (both (leb (length faulty) (most-faulty n)) _ e .0); others = others-out faulty cs e }
+  few-out faulty cs e = record { faulty = faulty; few = leb-true _ _ (both (below (but faulty cs) n) _ e .1); others = others-out faulty cs e }
 
   -- ---- a decision, in a round
   abbrev pub decides : List Call → ℕ → ℕ → ℕ → ℕ → ℕ → Bool
