@@ -1,10 +1,10 @@
-//! Times whole votes without loss: the proved small host (`target/bin/small_host`, its path is the argument) beside the second implementation,
+//! Times whole votes without loss: the proved group simulation (`target/bin/group_simulation`, its path is the argument) beside the second implementation,
 //! which votes on the same questions in the same order and has to print the same.
 
 use std::io::Write;
 use std::process::{Command, Stdio};
 
-use second::small_host::{votes, Given};
+use second::group_simulation::{votes, Given};
 
 const ROUNDS: usize = 7;
 

@@ -6,13 +6,14 @@ use std::path::Path;
 use crate::author::Author;
 use crate::bundle_cases::bundles;
 use crate::call_cases::calls;
+use crate::group_simulation;
 use crate::hmac::{bytes_of, hmac};
 use crate::sha256::sha256;
 use crate::small_host;
 use crate::valley_cases::valleys;
 
-/// What the small host is run on in the gate: all three groups, and questions of each kind.
-const SMALL_HOST: &[u8] = b"a01mmm0m1m";
+/// What the group simulation is run on in the gate: all three groups, and questions of each kind.
+const GROUP_SIMULATION: &[u8] = b"a01mmm0m1m";
 
 /// The script of calls, and what it prints: the checks, then all other calls on the same registers.
 pub fn script() -> (String, String) {
@@ -26,10 +27,11 @@ pub fn files() -> Vec<(&'static str, Vec<u8>)> {
     let (valley_inputs, valley_outputs) = valleys();
     vec![
         ("crates/hash_vectors/stdout", hashes().into_bytes()),
-        ("crates/small_host/stdin", SMALL_HOST.to_vec()),
+        ("crates/small_host/stdout", small_host::run().into_bytes()),
+        ("crates/group_simulation/stdin", GROUP_SIMULATION.to_vec()),
         (
-            "crates/small_host/stdout",
-            small_host::run(SMALL_HOST).into_bytes(),
+            "crates/group_simulation/stdout",
+            group_simulation::run(GROUP_SIMULATION).into_bytes(),
         ),
         ("crates/call_cases/stdin", script.into_bytes()),
         ("crates/call_cases/stdout", results.into_bytes()),

@@ -2,7 +2,7 @@
 //!
 //! It is written from document 01 (and the paper, 004) alone, to be held against 01 sentence by
 //! sentence. Sentences of 01 stand in quotes at the code that renders them. One file follows the
-//! proved code: the loop of `small_host.rs`, which holds no rule of 01.
+//! proved code: the loop of `group_simulation.rs`, which holds no rule of 01.
 
 pub mod check;
 pub mod group;
@@ -11,6 +11,7 @@ pub mod returns;
 pub mod sealed;
 pub mod sha256;
 pub mod station;
+pub mod status;
 pub mod valley;
 pub mod words;
 
@@ -28,6 +29,7 @@ pub mod bundle_cases;
 pub mod call_cases;
 pub mod fit_cases;
 pub mod generate;
+pub mod group_simulation;
 pub mod samples;
 pub mod small_host;
 pub mod valley_cases;

@@ -1,134 +1,79 @@
-//! What the small host prints (crates/small_host): all sites of a group in one program, with a radio
-//! that loses nothing. It is the whole vote that the benchmark times.
-//!
-//! The loop is a port of that program's, so that both make the same deliveries in the same order and
-//! print the same: the one file here that was made to follow the proved code. What a delivery does it
-//! takes from `station.rs`.
+//! What the small host prints (crates/small_host), from the description at its head: three sites
+//! vote on question 1, with n 3 and then with n 1, which refuses every call.
 
 use crate::group::BUNDLE_WORDS;
 use crate::hmac::Key;
-use crate::returns::{is_refusal, SENT};
+use crate::returns::{DECIDED, KEPT, SENT};
 use crate::sealed::{make, Module};
-use crate::station::{give, open, refused_station, step_and_decision, StationWords};
+use crate::station::{give, open, StationWords};
+use crate::status::status;
 use crate::words::NONE;
 
 const KEY: Key = [0x0707_0707; 8];
-const MOST_TURNS: usize = 1_000_000;
+const QUESTION: u32 = 1;
+/// What sites 1, 2 and 3 propose.
+const PROPOSALS: [u32; 3] = [1, 1, 0];
+const EXCHANGES: usize = 5;
 
-/// What a host keeps of its site, and the bundles that it wrote on this question, one a step.
 struct Site {
     own: Module,
     station: StationWords,
-    question: u32,
-    written: Vec<Vec<u32>>,
+    last: Vec<u32>,
+}
+
+/// Makes a site's module and opens its station: the site, and what the two calls returned.
+fn start(n: u32, number: u32, proposal: u32) -> (Site, u32, u32) {
+    let (made, mut own) = make(&KEY, n, number);
+    let mut lent = [0; BUNDLE_WORDS];
+    let (answer, station) = open(&mut own, QUESTION, proposal, &mut lent);
+    let last = lent[..answer.count].to_vec();
+    (Site { own, station, last }, made, answer.number)
 }
 
 impl Site {
-    fn fresh(n: u32, number: u32) -> Site {
-        Site {
-            own: make(&KEY, n, number).1,
-            station: refused_station(),
-            question: 0,
-            written: Vec::new(),
-        }
-    }
-
-    fn open(&mut self, question: u32, value: u32) {
-        let mut lent = [0; BUNDLE_WORDS];
-        let (answer, station) = open(&mut self.own, question, value, &mut lent);
-        if answer.number == SENT {
-            self.station = station;
-            self.question = question;
-            self.written = vec![lent[..answer.count].to_vec()];
-        }
-    }
-
-    /// Gives a bundle; whether it was refused.
-    fn hear(&mut self, words: &[u32], coin: u32) -> bool {
+    /// Gives the station a bundle: the number that this returned.
+    fn hear(&mut self, words: &[u32], coin: u32) -> u32 {
         let mut lent = [0; BUNDLE_WORDS];
         let answer = give(&mut self.own, &mut self.station, words, coin, &mut lent);
-        if answer.count > 0 {
-            self.written.push(lent[..answer.count].to_vec());
+        if [SENT, DECIDED].contains(&answer.number) {
+            self.last = lent[..answer.count].to_vec();
         }
-        is_refusal(answer.number)
-    }
-
-    fn decision(&self) -> u32 {
-        step_and_decision(&self.station).1
+        answer.number
     }
 }
 
-fn proposal(kind: u8, number: u32) -> u32 {
-    match kind {
-        b'0' => 0,
-        b'1' => 1,
-        _ => (number + 1) % 2,
+/// What the vote with this n prints.
+fn vote(n: u32) -> String {
+    let mut text = format!("n {n}\n");
+    let mut sites = Vec::new();
+    for (number, proposal) in (1..).zip(PROPOSALS) {
+        let (site, made, opened) = start(n, number, proposal);
+        text += &format!("site {number}: made {made}, opened {opened}\n");
+        sites.push(site);
     }
-}
-
-/// The group's bundles given so far, and how many of them were refused.
-#[derive(Default)]
-pub struct Given {
-    pub all: u64,
-    pub refused: u64,
-}
-
-/// A site gives its station the other sites' bundles of its own step, until the step ends.
-fn listen(sites: &mut [Site], place: usize, given: &mut Given) {
-    let step = sites[place].written.len();
-    for other in 0..sites.len() {
-        if sites[place].written.len() != step {
-            return;
+    for _ in 0..EXCHANGES {
+        let air: Vec<Vec<u32>> = sites.iter().map(|site| site.last.clone()).collect();
+        text += "given";
+        for (place, site) in sites.iter_mut().enumerate() {
+            let others = air.iter().enumerate().filter(|(other, _)| *other != place);
+            for (coin, (_, words)) in (0..).zip(others) {
+                text += &format!(" {}", site.hear(words, coin));
+            }
         }
-        if other == place {
-            continue;
-        }
-        let Some(words) = sites[other].written.get(step - 1).cloned() else {
-            given.all += 1;
-            given.refused += 1;
-            continue;
-        };
-        given.all += 1;
-        given.refused += u64::from(sites[place].hear(&words, other as u32 % 2));
+        text += "\n";
     }
-}
-
-/// Votes of one group on the questions that the bytes stand for.
-pub fn votes(n: u32, kinds: &[u8], given: &mut Given) -> String {
-    let mut sites: Vec<Site> = (1..=n).map(|number| Site::fresh(n, number)).collect();
-    let mut lines = String::new();
-    let mut question = 1;
-    for turn in 0..MOST_TURNS {
-        let Some(kind) = kinds.get(question - 1) else {
-            break;
-        };
-        let place = turn % n as usize;
-        if sites[place].question < question as u32 {
-            sites[place].open(question as u32, proposal(*kind, place as u32 + 1));
-        } else {
-            listen(&mut sites, place, given);
+    for (number, site) in (1..).zip(&sites) {
+        let told = status(&site.own, &site.station, QUESTION);
+        text += &format!("site {number}: read {}", told.number);
+        if told.number == KEPT && told.decision != NONE {
+            text += &format!(", decided {}", told.decision);
         }
-        if place as u32 != n - 1 {
-            continue;
-        }
-        let decisions: Vec<u32> = sites.iter().map(Site::decision).collect();
-        if decisions.iter().all(|decision| *decision != NONE) {
-            let digits: String = decisions.iter().map(u32::to_string).collect();
-            lines += &format!("{n} {question} {digits} {} {}\n", given.all, given.refused);
-            question += 1;
-        }
+        text += "\n";
     }
-    lines
+    text
 }
 
-/// The whole output for an input: the first byte says which groups vote.
-pub fn run(input: &[u8]) -> String {
-    let Some((which, kinds)) = input.split_first() else {
-        return String::new();
-    };
-    [(b'4', 4), (b'7', 7), (b'3', 31)]
-        .iter()
-        .filter(|(own, _)| which == own || *which == b'a')
-        .map(|(_, n)| votes(*n, kinds, &mut Given::default()))
-        .collect()
+/// The whole output.
+pub fn run() -> String {
+    vote(3) + &vote(1)
 }

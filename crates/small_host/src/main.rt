@@ -1,345 +1,106 @@
-// A small host: what a relay site's program does around the library (README, "How a host uses the library"). A real host runs one site and hears
-// the others by radio. This one runs all sites of a group in one program, with a radio that loses nothing, so that the gate can run it.
+// A small host: what a relay site's program does around the library (README, "How a host uses the library"). A real host runs one site and hears the
+// others by radio. This one runs three in one program, with a radio that loses nothing. They vote on question 1: sites 1 and 2 propose yes (1), site 3
+// no (0). Five times each site is given the last bundles of the two others, the lower-numbered one's first with coin 0, then the other's with coin 1.
+// They vote with n 3, and once more with n 1, which is set up wrongly: then nothing may be decided.
 //
-// The first byte of its input, of at most 4,096, says which groups vote: `4` one of 4 sites, `7` one of 7, `3` one of 31, `a` all three. Each byte behind it is a
-// question: at `0` all sites propose 0, at `1` all propose 1, at any other byte sites of even number propose 1 and the others 0; a zero byte ends the
-// input. A line is printed for each question: n, the question, the sites' decisions, how many bundles were given in all so far, and how many of these
-// were refused.
-use libc::STDIN_FILENO;
+// Printed are n; for each site what making its module and opening its station returned; each time what the givings returned, site by site; and for
+// each site what reading its station returned, and its decision on question 1, if it has one.
 use libc::STDOUT_FILENO;
 use sealed::Module;
 use station::Station;
-ghost use mathlib.Core.Path.{_≡_};
-ghost use Prim.Native.Nat.{_+_, _*_, _≤_, _<_};
-ghost use lib.ListN.{length};
 
-// What a host keeps of its site: the module and the station as the last call returned them, the last bundle that was written, and how many were
-// written on this question, one for each step.
+// What a host keeps of its site: module and station as the last call returned them, and the last bundle that was written, with its word count.
 struct Site {
     own: Module,
     station: Station,
     bundle: [u32; 331],
     count: usize,
-    written: u32,
 }
 
-// What was given to a site in one turn, and how much of it was refused.
-struct Heard {
-    site: Site,
-    given: u64,
-    refused: u64,
+fn print(text: &[u8], number: u32) {
+    io::write_all(STDOUT_FILENO, text);
+    io::print_decimal(STDOUT_FILENO, number as u64);
 }
 
-// Before the first question: a module that has coded nothing, and no station.
-fn fresh(n: u32, number: u32) -> Site {
+// Makes the site's module and opens a station on question 1. A site where one of the two is refused has no bundle to send.
+fn start(n: u32, number: u32, proposal: u32) -> Site {
     let made = sealed::make([7; 32], n, number);
-    let own = made.made;
-    let station = opening::none();
-    Site {
-        own,
-        station,
-        bundle: [0; 331],
-        count: 0,
-        written: 0,
-    }
-}
-
-// What the site of a number proposes on a question of this kind.
-fn proposal(kind: u8, number: u32) -> u32 {
-    if kind == b'0' {
-        return 0;
-    }
-    if (kind == b'1') | (number % 2 == 0) {
-        return 1;
-    }
-    0
-}
-
-// Opens a station on a question. The station before, decided or not, is discarded: the module codes nothing more for it.
-fn open(s: Site, question: u32, value: u32) -> Site {
-    let own = s.own;
     let mut bundle = [0u32; 331];
-    let o = opening::open(own, question, value, &mut bundle);
-    if o.number != 20 {
-        return s;
-    }
-    let after = o.after;
-    let station = o.station;
+    let opened = opening::open(made.made, 1, proposal, &mut bundle);
+    print(b"\nsite ", number);
+    print(b": made ", made.number);
+    print(b", opened ", opened.number);
+    let ready = (made.number == 0) & (opened.number == 20);
+    let after = opened.after;
+    let station = opened.station;
     Site {
         own: after,
         station,
         bundle,
-        count: o.count,
-        written: 1,
+        count: if ready { opened.count } else { 0 },
     }
 }
 
-// Gives a bundle to the station. At a refusal the call returned all as it was; if it wrote a bundle, that is sent from now on, else the one before is.
-fn hear(h: Heard, words: &[u32], coin: u32) -> Heard {
-    let s = h.site;
-    let own = s.own;
-    let station = s.station;
+// Gives the site what another sends. Module and station that come back are kept, always: at a refusal they are what they were. At 20 and 21 there is a
+// new bundle to send (a real host stores the module durably before it does); else the last one is sent again.
+fn hear(s: Site, from: Site, coin: u32) -> Site {
+    let sent = from.bundle;
+    let words = &sent[..];
+    let count = from.count;
+    if words.len() < count {
+        return s;
+    }
     let mut bundle = [0u32; 331];
-    let g = giving::give(own, station, words, coin, &mut bundle);
-    let after = g.after;
-    let next = g.station;
-    let given = std::num::wrapping_add_u64(h.given, 1);
-    if 0 < g.count {
-        let site = Site {
-            own: after,
-            station: next,
-            bundle,
-            count: g.count,
-            written: std::num::wrapping_add_u32(s.written, 1),
-        };
-        return Heard {
-            site,
-            given,
-            refused: h.refused,
-        };
+    let given = giving::give(s.own, s.station, &words[0..count], coin, &mut bundle);
+    print(b" ", given.number);
+    let after = given.after;
+    let then = given.station;
+    let mut next = s;
+    next.own = after;
+    next.station = then;
+    if (given.number == 20) | (given.number == 21) {
+        next.bundle = bundle;
+        next.count = given.count;
     }
-    let last = s.bundle;
-    let site = Site {
-        own: after,
-        station: next,
-        bundle: last,
-        count: s.count,
-        written: s.written,
-    };
-    let kept = (g.number == 0) | (g.number == 22);
-    let more = if kept { 0 } else { 1 };
-    Heard {
-        site,
-        given,
-        refused: std::num::wrapping_add_u64(h.refused, more),
-    }
+    next
 }
 
-// Where a site's bundle of a step is in the air. Sites resend their bundles of the question, since others may be a step behind; the last four are
-// enough here, 331 words for each site.
-fn spot(written: u32, place: usize) -> usize
-    requires { ⌜ place < 31 ⌝ }
-    ensures { λ r. ⌜ r < 124 ⌝ }
-{
-    (written % 4) as usize * 31 + place
+// Each site hears the two others, whose bundles are those from before the exchange.
+fn exchange(sites: [Site; 3]) -> [Site; 3] {
+    io::write_all(STDOUT_FILENO, b"\ngiven");
+    [
+        hear(hear(sites[0], sites[1], 0), sites[2], 1),
+        hear(hear(sites[1], sites[0], 0), sites[2], 1),
+        hear(hear(sites[2], sites[0], 0), sites[1], 1),
+    ]
 }
 
-// Puts a bundle in the air.
-fn send(bundle: [u32; 331], spot: usize, air: &mut [u32; 41044])
-    requires { ⌜ spot < 124 ⌝ }
-{
-    let at = spot * 331;
-    let mut i = 0;
-    while i < 331 {
-        air[at + i] = bundle[i];
-        i += 1;
+// Reads the decision on question 1. At any number but 0 there is none.
+fn tell(number: u32, s: Site) {
+    let told = status::read(s.own, s.station, 1);
+    print(b"\nsite ", number);
+    print(b": read ", told.number);
+    if (told.number == 0) & (told.decision < 2) {
+        print(b", decided ", told.decision);
     }
 }
 
-// Gives the bundle in one spot.
-fn hear_spot(h: Heard, spot: usize, air: &[u32; 41044], lengths: [usize; 124], coin: u32) -> Heard
-    requires { ⌜ spot < 124 ⌝ }
-{
-    let words = &air[..];
-    let at = spot * 331;
-    let l = lengths[spot];
-    if l <= 331 {
-        let end = at + l;
-        return hear(h, &words[at..end], coin);
-    }
-    h
-}
-
-// Gives the site the other sites' bundles of its own step. One of another step would be refused, by 8 if it is early: the host gives it again after
-// the step. When the step has ended the station has written its next bundle.
-fn listen(s: Site, place: usize, n: usize, air: &[u32; 41044], lengths: [usize; 124]) -> Heard
-    requires { ⌜ n ≤ 31 ⌝ }
-{
-    let mut h = Heard {
-        site: s,
-        given: 0,
-        refused: 0,
-    };
-    let mut i = 0;
-    while i < n {
-        let now_at = h.site;
-        if now_at.written != s.written {
-            return h;
-        }
-        if i != place {
-            let next = hear_spot(h, spot(s.written, i), air, lengths, (i % 2) as u32);
-            h = next;
-        }
-        i += 1;
-    }
-    h
-}
-
-// A site's turn: it opens a station on the question if it has none there, else it listens.
-fn turn(
-    s: Site,
-    place: usize,
-    n: usize,
-    question: u32,
-    value: u32,
-    air: &[u32; 41044],
-    lengths: [usize; 124],
-) -> Heard
-    requires { ⌜ n ≤ 31 ⌝ }
-{
-    let station = s.station;
-    let identity = station.identity;
-    if identity.question < question {
-        return Heard {
-            site: open(s, question, value),
-            given: 0,
-            refused: 0,
-        };
-    }
-    listen(s, place, n, air, lengths)
-}
-
-// Prints the decisions one behind the other.
-fn print_decisions(decisions: [u32; 31], n: usize) {
-    let mut i = 0;
-    while i < 31 {
-        if i == n {
-            return;
-        }
-        io::print_decimal(STDOUT_FILENO, decisions[i] as u64);
-        i += 1;
-    }
-}
-
-fn print_line(n: usize, question: u32, decisions: [u32; 31], given: u64, refused: u64) {
-    io::print_decimal(STDOUT_FILENO, n as u64);
-    io::write_all(STDOUT_FILENO, b" ");
-    io::print_decimal(STDOUT_FILENO, question as u64);
-    io::write_all(STDOUT_FILENO, b" ");
-    print_decisions(decisions, n);
-    io::write_all(STDOUT_FILENO, b" ");
-    io::print_decimal(STDOUT_FILENO, given);
-    io::write_all(STDOUT_FILENO, b" ");
-    io::print_decimal(STDOUT_FILENO, refused);
+fn vote(n: u32) {
+    print(b"n ", n);
+    let begun = [start(n, 1, 1), start(n, 2, 1), start(n, 3, 0)];
+    let proposed = exchange(begun);
+    let voted = exchange(proposed);
+    // here sites 1 and 2 decide, and go on: site 3 needs their next bundles
+    let later = exchange(voted);
+    let again = exchange(later);
+    let ended = exchange(again);
+    tell(1, ended[0]);
+    tell(2, ended[1]);
+    tell(3, ended[2]);
     io::write_all(STDOUT_FILENO, b"\n");
 }
 
-// The sites of a group before the first question.
-fn group(n: usize) -> [Site; 31]
-    requires { ⌜ n ≤ 31 ⌝ }
-{
-    let none = fresh(n as u32, 1);
-    let mut sites = [none; 31];
-    let mut i = 1;
-    while i < n {
-        let s = fresh(n as u32, i as u32 + 1);
-        sites[i] = s;
-        i += 1;
-    }
-    sites
-}
-
-// Whether all sites have decided.
-fn all_decided(decisions: [u32; 31], n: usize) -> bool
-    requires { ⌜ n ≤ 31 ⌝ }
-{
-    let mut i = 0;
-    while i < n {
-        if decisions[i] == 2 {
-            return false;
-        }
-        i += 1;
-    }
-    true
-}
-
-// The place of the site whose turn is next.
-fn next_place(k: usize, n: usize) -> usize
-    requires { ⌜ (k < n) × (n ≤ 31) ⌝ }
-    ensures { λ r. ⌜ r < n ⌝ }
-{
-    if k + 1 < n {
-        return k + 1;
-    }
-    0
-}
-
-// The byte that stands for a question, or 0 behind the last.
-fn kind_of(kinds: &[u8], question: u32) -> u8 {
-    let q = question as usize;
-    if q == 0 {
-        return 0;
-    }
-    if q <= kinds.len() { kinds[q - 1] } else { 0 }
-}
-
-// Puts the questions to a group one after the other. The sites take turns, and behind each round of turns in which all have decided the next question
-// follows. A proved loop has to end, and that a vote does is not proved: so the turns are counted down, from a number that no run here uses up.
-fn votes(n: usize, kinds: &[u8])
-    requires { ⌜ (1 ≤ n) × (n ≤ 31) ⌝ }
-{
-    let mut sites = group(n);
-    let mut air = [0u32; 41044];
-    let mut lengths = [0usize; 124];
-    let mut decisions = [2u32; 31];
-    let mut given: u64 = 0;
-    let mut refused: u64 = 0;
-    let mut question: u32 = 1;
-    let mut k = 0;
-    let mut turns: u64 = 1000000;
-    while turns > 0 {
-        let kind = kind_of(kinds, question);
-        if kind == 0 {
-            return;
-        }
-        let s = sites[k];
-        let h = turn(
-            s,
-            k,
-            n,
-            question,
-            proposal(kind, k as u32 + 1),
-            &air,
-            lengths,
-        );
-        let site = h.site;
-        let bundle = site.bundle;
-        let station = site.station;
-        sites[k] = site;
-        let to = spot(site.written, k);
-        send(bundle, to, &mut air);
-        lengths[to] = site.count;
-        decisions[k] = station.decision;
-        given = std::num::wrapping_add_u64(given, h.given);
-        refused = std::num::wrapping_add_u64(refused, h.refused);
-        k = next_place(k, n);
-        if (k == 0) & all_decided(decisions, n) {
-            print_line(n, question, decisions, given, refused);
-            question = std::num::wrapping_add_u32(question, 1);
-        }
-        turns -= 1;
-    }
-}
-
-// Whether the input asks for a group: by its own byte, or by `a` for all groups.
-fn asked(which: u8, own: u8) -> bool {
-    (which == own) | (which == b'a')
-}
-
 fn main() {
-    let mut space = io::buffer();
-    let count = io::read_full(STDIN_FILENO, &mut space);
-    if count == 0 {
-        return;
-    }
-    let which = space[0];
-    if asked(which, b'4') {
-        votes(4, &space[1..count]);
-    }
-    if asked(which, b'7') {
-        votes(7, &space[1..count]);
-    }
-    if asked(which, b'3') {
-        votes(31, &space[1..count]);
-    }
+    vote(3);
+    vote(1);
 }

@@ -1,8 +1,8 @@
 -- Every read and store is inside its array, and the loop ends.
 use Prim.Native.Nat.{_≤_, _-_}
 use borrow.Author.Needs.{needs}
-use Rattle.small_host.proofs.send.Statement.{statement}
-use Rattle.small_host.proofs.send.Tie as tie
+use Rattle.group_simulation.proofs.send.Statement.{statement}
+use Rattle.group_simulation.proofs.send.Tie as tie
 
 abbrev Inv-loop : tie.InvT-loop
 Inv-loop spot air₀ bundle at i₀ air i = i ≤ 331

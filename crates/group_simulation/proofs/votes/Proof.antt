@@ -1,8 +1,8 @@
 -- Every read and store is inside its array, and the loop ends.
 use Prim.Native.Nat.{_≤_, _<_}
 use borrow.Author.Needs.{needs}
-use Rattle.small_host.proofs.votes.Statement.{statement}
-use Rattle.small_host.proofs.votes.Tie as tie
+use Rattle.group_simulation.proofs.votes.Statement.{statement}
+use Rattle.group_simulation.proofs.votes.Tie as tie
 
 abbrev Inv-loop : tie.InvT-loop
 Inv-loop n kinds sites₀ air₀ lengths₀ decisions₀ given₀ refused₀ question₀ k₀ turns₀ sites air lengths decisions given refused question k turns = (k < n) × (n ≤ 31)
@@ -57,6 +57,9 @@ mul-lengths c = search needs
 
 array-write-lengths : tie.Need-array-write-lengths Inv-loop μ-loop
 array-write-lengths c = search needs
+
+decision-of-requires : tie.Need-decision-of-requires Inv-loop μ-loop
+decision-of-requires c κs = search needs
 
 mul-decisions : tie.Need-mul-decisions Inv-loop μ-loop
 mul-decisions c = search needs
@@ -116,6 +119,7 @@ votes-spec =
     send-requires
     mul-lengths
     array-write-lengths
+    decision-of-requires
     mul-decisions
     array-write-decisions
     wrapping-add-u64-requires

@@ -1,8 +1,8 @@
 -- Every read and store is inside its array, and the loop ends.
 use Prim.Native.Nat.{_≤_, _-_}
 use borrow.Author.Needs.{needs}
-use Rattle.small_host.proofs.print_decisions.Statement.{statement}
-use Rattle.small_host.proofs.print_decisions.Tie as tie
+use Rattle.group_simulation.proofs.print_decisions.Statement.{statement}
+use Rattle.group_simulation.proofs.print_decisions.Tie as tie
 
 abbrev Inv-loop : tie.InvT-loop
 Inv-loop n decisions i₀ i = i ≤ 31

@@ -1,8 +1,8 @@
 -- Every read and store is inside its array, and the loop ends.
 use Prim.Native.Nat.{_≤_, _-_}
 use borrow.Author.Needs.{needs}
-use Rattle.small_host.proofs.group.Statement.{statement}
-use Rattle.small_host.proofs.group.Tie as tie
+use Rattle.group_simulation.proofs.group.Statement.{statement}
+use Rattle.group_simulation.proofs.group.Tie as tie
 
 abbrev Inv-loop : tie.InvT-loop
 Inv-loop n sites₀ i₀ sites i = 1 ≤ i
