@@ -1,22 +1,21 @@
 -- What a host may conclude from what reading answers, and what must not be read: no decision of another question, none of a station that does not fit.
 use Prim.Native.Nat.{ℕ, _<_}
-use mathlib.Core.Bool.{Bool, true, false, not, _&&_}
+use mathlib.Core.Bool.{Bool, true, false, not}
 use mathlib.Core.Path.{_≡_, refl, sym, ap, _∙_}
 use native.Mathlib.Omega.{arith}
-use lib.Dec.{eqb, leb}
-use borrow.Author.Tests.{eqb-true, ne-eqb, leb-true, not-true, not-false}
+use lib.Dec.{eqb}
+use borrow.Author.Tests.{eqb-true, ne-eqb, not-true, not-false}
 use Rattle.laws.specs.Pick.{pick}
-use Rattle.laws.specs.Bools.{both, is-false}
+use Rattle.laws.specs.Bools.{never, both, is-false}
 use Rattle.format.specs.Numbers.{none, out-of-range}
 use Rattle.format.specs.declared.Round.{Round}
-use Rattle.format.specs.Group.{size-fits}
-use Rattle.format.specs.Words.{of-group}
 use Rattle.sealed.specs.declared.Module.{Module}
 use Rattle.sealed.specs.Sealed.{module-fits}
 use Rattle.station.specs.declared.Station.{Station}
 use Rattle.station.specs.Machine.{round-in}
 use Rattle.station.specs.Fit.{fits}
 use Rattle.station.specs.Calls.{no-station}
+use Rattle.station.specs.NoStation.{no-station-fits}
 use Rattle.status.specs.declared.Status.{Status}
 use Rattle.status.specs.Status.{decision-on, readable, told, nothing, status}
 
@@ -81,17 +80,11 @@ module _ (m : Module) (t : Station) (question : ℕ) where
           (ap (λ (x : Status). x .number) r, e, rw p (named-on t question (rw (← p) h)))
       go (refuses e r) = absurd (omega (arith, h, ap (λ (x : Status). x .decision) r))
 
--- the station that is none can be read by no module: its n is 0, and no module's is
+-- the station that is none can be read by no module
 pub no-station-unread : (m : Module) (question : ℕ) → status m no-station question ≡ nothing
-unfolding no-station fits
-no-station-unread m question = read-2 m no-station question (is-false (readable m no-station) unfit)
-  where
-    unfit : readable m no-station ≡ true → ⊥
-    unfit h =
-        let a = both (module-fits m) (fits (m .n) (m .number) no-station) h in
-        let size = both (leb 2 (m .n)) (leb (m .n) 31) (both (size-fits (m .n)) (of-group (m .n) (m .number)) (a .0) .0) in
-        let same = both (eqb 0 (m .n)) (eqb 0 (m .number)) (both (eqb 0 (m .n) && eqb 0 (m .number)) true (a .1) .0) in
-        omega (arith, leb-true 2 (m .n) (size .0), eqb-true 0 (m .n) (same .0))
+no-station-unread m question =
+    read-2 m no-station question
+    (is-false (readable m no-station) (λ h. let a = both (module-fits m) _ h in never _ (no-station-fits m (a .0)) (a .1)))
 
 -- ---- for the code: the fitness test's answer, and the parts that were read
 module _ (m : Module) (t : Station) (question : ℕ) (found : Bool) (found-is : found ≡ readable m t) where
