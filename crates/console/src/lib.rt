@@ -1,4 +1,5 @@
 // The run of the program valley (document 01, "The program valley"): its input comes in pieces of any size. The contracts cite specs/.
+use format::Step;
 use lines::Line;
 use sealed::Module;
 use station::Station;
@@ -326,17 +327,16 @@ fn bad(w: World, number: u64, out: &mut [u8; 64]) -> Done
 }
 
 // The step that an event on station s prints.
-fn shown_step(w: World, s: u32) -> u64
-    ensures { λ r. ⌜ r ≡ shown-step w s ⌝ }
+fn shown_step(w: World, s: u32) -> Step
+    ensures { λ r. ⌜ r .0 ≡ shown-step w s ⌝ }
 {
     if !is_open(w, s) {
-        return 0;
+        return Step(0);
     }
     let stations = w.stations;
     let t = station_at(stations, s);
     let stage = t.stage;
-    let step = fitness::step_in(stage);
-    step.0
+    fitness::step_in(stage)
 }
 
 // The decision that an event on station s prints.

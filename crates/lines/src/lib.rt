@@ -1,5 +1,6 @@
 // The lines of the program valley, as bytes: what a line of its input says, and the lines that it prints (document 01, "The program valley").
 // The contracts cite specs/.
+use format::Step;
 ghost use mathlib.Core.Path.{_≡_};
 ghost use mathlib.Core.Bool.{true};
 ghost use mathlib.Core.List.{[], _∷_, _++_};
@@ -194,12 +195,12 @@ fn put_spaced(n: u64, out: &mut [u8], at: usize) -> usize
 }
 
 // The line of an event at the front of out; answers how many bytes it has. Its numbers have at most 20, 10, 20 and 10 digits, so it always fits.
-pub fn event_line(event: u64, number: u32, step: u64, decision: u32, out: &mut [u8; 64]) -> usize
-    ensures { λ r. ⌜ (r ≡ length (event-line event number step decision)) × (now (out .exit) ≡ event-line event number step decision ++ drop (length (event-line event number step decision)) (now (out .entry))) ⌝ }
+pub fn event_line(event: u64, number: u32, step: Step, decision: u32, out: &mut [u8; 64]) -> usize
+    ensures { λ r. ⌜ (r ≡ length (event-line event number (step .0) decision)) × (now (out .exit) ≡ event-line event number (step .0) decision ++ drop (length (event-line event number (step .0) decision)) (now (out .entry))) ⌝ }
 {
     let a = put_number(event, out, 0);
     let b = put_spaced(number as u64, out, a);
-    let c = put_spaced(step, out, b);
+    let c = put_spaced(step.0, out, b);
     let d = put_spaced(decision as u64, out, c);
     out[d] = b'\n';
     d + 1

@@ -1,22 +1,27 @@
 -- The numbers one behind the other, and the line's end.
-use Prim.Native.Nat.{_≤_}
+use Prim.Native.Nat.{_^_, _≤_, _<_}
 use native.Mathlib.Omega.{arith}
 use lib.ListN.{length}
+use borrow.Author.Needs.{needs}
 use Rattle.lines.specs.Print.{decimal}
 use Rattle.lines.specs.Width.{decimal-64, decimal-32}
 use Rattle.lines.specs.Put.{event-line-put}
 use Rattle.lines.proofs.event_line.Statement.{statement}
 use Rattle.lines.proofs.event_line.Tie as tie
 
+-- the step is a number of 64 bits
+step-fits : (c : tie.Start) → c .args .step .0 < 2 ^ 64
+step-fits c = search needs
+
 -- how many digits the numbers have at most
 widths : (c : tie.Start) → (length (decimal (c .args .event)) ≤ 20)
     × (length (decimal (c .args .number)) ≤ 10)
-    × (length (decimal (c .args .step)) ≤ 20)
+    × (length (decimal (c .args .step .0)) ≤ 20)
     × (length (decimal (c .args .decision)) ≤ 10)
 widths c = (
   decimal-64 (c .args .event) (c .fits .event .fits),
   decimal-32 (c .args .number) (c .fits .number .fits),
-  decimal-64 (c .args .step) (c .fits .step .fits),
+  decimal-64 (c .args .step .0) (step-fits c),
   decimal-32 (c .args .decision) (c .fits .decision .fits),
 )
 
@@ -46,7 +51,7 @@ returns c =
     event-line-put
     (args .event)
     (args .number)
-    (args .step)
+    (args .step .0)
     (args .decision)
     (c .before .before .before .before .before .before .put-number .result)
     (c .before .before .before .before .put-spaced .result)
@@ -60,7 +65,7 @@ returns c =
     (omega (arith, start))
     (fits .event .fits)
     (fits .number .fits)
-    (fits .step .fits)
+    (step-fits start)
     (fits .decision .fits)
     (omega (arith, c .before .before .before .before .before .before .put-number .ensures .0))
     (c .before .before .before .before .before .before .put-number .ensures .1)
