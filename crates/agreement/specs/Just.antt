@@ -66,19 +66,25 @@ all-left : (P : Statement → Type 0) (c d : List Statement) → All P (c ++ d) 
 all-left P [] d a = tt
 all-left P (s ∷ c) d a = (a .0, all-left P c d (a .1))
 
+all-right : (P : Statement → Type 0) (c d : List Statement) → All P (c ++ d) → All P d
+all-right P [] d a = a
+all-right P (s ∷ c) d a = all-right P c d (a .1)
+
 module _ (n : ℕ) (l : List Statement) (m : Statement) where
-  no-proposal : m .kind ≡ kind-V → (m .value < none → Supp n l kind-P (m .question) (m .round) (m .value) (quorum n)) → Just n l m
-  no-proposal k v = record { first = λ a. absurd (omega arith); taken = λ a. absurd (omega arith); tossed = λ a. absurd (omega arith); voted = λ a b. v b }
+  no-proposal : m .kind ≡ kind-V → (m .value < none → Supp n l kind-P (m .question) (m .round) (m .value) (quorum n))
+      → (m .value ≡ none → 1 < m .round → Supp n l kind-V (m .question) (m .round - 1) none (quorum n)) → Just n l m
+  no-proposal k v w = record { first = λ a. absurd (omega arith); taken = λ a. absurd (omega arith); tossed = λ a. absurd (omega arith); voted = λ a b. v b; noned = λ a b c. w b c }
 
   pub backed-just : (c : List Statement) → All (Coded n l) c → All (λ s. s .question ≡ m .question) c → Backed n m c → Just n l m
   backed-just c a q (rule-1 k) =
-      record { first = λ a. absurd (omega arith); taken = λ a. absurd (omega arith); tossed = λ a. absurd (omega arith); voted = λ a. absurd (omega arith) }
+      record { first = λ a. absurd (omega arith); taken = λ a. absurd (omega arith); tossed = λ a. absurd (omega arith); voted = λ a. absurd (omega arith); noned = λ a. absurd (omega arith) }
   backed-just c a q (rule-2 k r f h) =
       record {
         first = λ x y. group-supp n l (m .question) (backing n (m .value)) kind-INIT 0 (m .value) Any c a q h;
         taken = λ x y. absurd (omega arith);
         tossed = λ x y. absurd (omega arith);
         voted = λ x. absurd (omega arith);
+        noned = λ x. absurd (omega arith);
       }
   backed-just c a q (rule-3 k r f h) =
       record {
@@ -86,6 +92,7 @@ module _ (n : ℕ) (l : List Statement) (m : Statement) where
         taken = λ x y z. group-supp n l (m .question) (quorum n) kind-P (m .round - 1) (m .value) Any c a q h;
         tossed = λ x y z. absurd (z f);
         voted = λ x. absurd (omega arith);
+        noned = λ x. absurd (omega arith);
       }
   backed-just c a q (rule-4 k r f h) =
       record {
@@ -93,13 +100,19 @@ module _ (n : ℕ) (l : List Statement) (m : Statement) where
         taken = λ x y z. absurd (omega arith);
         tossed = λ x y z. group-supp n l (m .question) (quorum n) kind-V (m .round - 1) none Any c a q h;
         voted = λ x. absurd (omega arith);
+        noned = λ x. absurd (omega arith);
       }
-  backed-just _ a q (rule-5 {c} {d} k v h s o) = no-proposal k (λ b. group-supp n l (m .question) (quorum n) kind-P (m .round) (m .value) Any c (all-left (Coded n l) c d a) (all-left (λ s. s .question ≡ m .question) c d q) h)
-  backed-just c a q (rule-6 k v r h s) = no-proposal k (λ b. absurd (omega arith))
-  backed-just _ a q (rule-7 k v r h s o) = no-proposal k (λ b. absurd (omega arith))
+  backed-just _ a q (rule-5 {c} {d} k v h s o) =
+      no-proposal k
+      (λ b. group-supp n l (m .question) (quorum n) kind-P (m .round) (m .value) Any c (all-left (Coded n l) c d a) (all-left (λ s. s .question ≡ m .question) c d q) h)
+      (λ b w. absurd (omega arith))
+  backed-just c a q (rule-6 k v r h s) = no-proposal k (λ b. absurd (omega arith)) (λ b w. absurd (omega arith))
+  backed-just _ a q (rule-7 {c} {d} k v r h s o) =
+      no-proposal k (λ b. absurd (omega arith))
+      (λ b w. group-supp n l (m .question) (quorum n) kind-V (m .round - 1) none Any d (all-right (Coded n l) c d a) (all-right (λ s. s .question ≡ m .question) c d q) o)
 
 pub bare-just : (n : ℕ) (l : List Statement) (s : Statement) → Just n l s → Just n l (bare s)
-bare-just n l s j = record { first = j .first; taken = j .taken; tossed = j .tossed; voted = j .voted }
+bare-just n l s j = record { first = j .first; taken = j .taken; tossed = j .tossed; voted = j .voted; noned = j .noned }
 
 -- ---- a longer log
 has-more : (u : Statement) (l : List Statement) (kd q r v i : ℕ) → has l kd q r v i ≡ true → has (u ∷ l) kd q r v i ≡ true
@@ -118,6 +131,7 @@ module _ (n : ℕ) (u : Statement) (l : List Statement) where
         taken = λ a b c. supp-more 1 (s .question) (s .round - 1) (s .value) (quorum n) (j .taken a b c);
         tossed = λ a b c. supp-more 2 (s .question) (s .round - 1) 2 (quorum n) (j .tossed a b c);
         voted = λ a b. supp-more 1 (s .question) (s .round) (s .value) (quorum n) (j .voted a b);
+        noned = λ a b c. supp-more 2 (s .question) (s .round - 1) 2 (quorum n) (j .noned a b c);
       }
 
   pub split-more : {q r : ℕ} → Split n l q r → Split n (u ∷ l) q r

@@ -11,12 +11,13 @@ use Rattle.format.specs.Group.{quorum, backing, most-faulty, quorums-meet, quor
 use Rattle.format.specs.Statement.{Statement}
 use Rattle.agreement.specs.Log.{In, has, Has, has-out, has-one, Supp, Rising}
 
--- what a verified certificate gives: rules 2 to 5
+-- what a verified certificate gives: rules 2 to 5, and rule 7's second group
 pub record Just (n : ℕ) (l : List Statement) (s : Statement) : Type 0 where
   pub first : s .kind ≡ 1 → s .round ≡ 1 → Supp n l 0 (s .question) 0 (s .value) (backing n (s .value))
   pub taken : s .kind ≡ 1 → 1 < s .round → s .flag ≡ 0 → Supp n l 1 (s .question) (s .round - 1) (s .value) (quorum n)
   pub tossed : s .kind ≡ 1 → 1 < s .round → (s .flag ≡ 0 → ⊥) → Supp n l 2 (s .question) (s .round - 1) 2 (quorum n)
   pub voted : s .kind ≡ 2 → s .value < 2 → Supp n l 1 (s .question) (s .round) (s .value) (quorum n)
+  pub noned : s .kind ≡ 2 → s .value ≡ 2 → 1 < s .round → Supp n l 2 (s .question) (s .round - 1) 2 (quorum n)
 
 -- two justified proposals of one round with two values
 pub record Split (n : ℕ) (l : List Statement) (q r : ℕ) : Type 0 where
@@ -38,7 +39,8 @@ pub record LogOk (n : ℕ) (sound : ℕ → Bool) (l : List Statement) : Type 0 
   pub rising : Rising l
   pub small : (s : Statement) → In s l → s .kind ≡ 1 → s .value < 2
   pub just : (s : Statement) → In s l → sound (s .station) ≡ true → Just n l s
-  pub split : (s : Statement) → In s l → sound (s .station) ≡ true → s .kind ≡ 2 → s .value ≡ 2 → Split n l (s .question) (s .round)
+  -- a none vote of round 1 has two values before it; this is for the backing alone
+  pub split : (s : Statement) → In s l → sound (s .station) ≡ true → s .kind ≡ 2 → s .value ≡ 2 → s .round ≡ 1 → Split n l (s .question) (s .round)
 
 -- q votes for v were coded in one round
 pub record Decided (n : ℕ) (l : List Statement) (q v : ℕ) : Type 0 where
@@ -67,29 +69,27 @@ module _ (n : ℕ) (sound : ℕ → Bool) (l : List Statement) (few : count (λ 
       let m = quorum-sound n (has l kd q r v) (λ i. not (sound i)) (omega arith) a few in
       record { at = m .at; ok = twice-not (sound (m .at)) (m .in-second); it = has-out l kd q r v (m .at) (m .in-first) }
 
-  abbrev pub Locked : ℕ → ℕ → ℕ → Type 0
-  Locked q r v = (m : Statement) → In m l → m .kind ≡ 1 → m .question ≡ q → m .round ≡ r → Just n l m → m .value ≡ v
+  -- each justified proposal of a round has one value
+  abbrev pub AllFor : ℕ → ℕ → ℕ → Type 0
+  AllFor q r v = (m : Statement) → In m l → m .kind ≡ 1 → m .question ≡ q → m .round ≡ r → Just n l m → m .value ≡ v
 
-  -- a quorum of proposals in a locked round has the locked value
-  pub locked-value : (q r v w : ℕ) → Locked q r v → Supp n l 1 q r w (quorum n) → w ≡ v
-  locked-value q r v w k a =
+  -- there are not q none votes of a round
+  abbrev pub NoNone : ℕ → ℕ → Type 0
+  NoNone q r = Supp n l 2 q r 2 (quorum n) → ⊥
+
+  abbrev pub Locked : ℕ → ℕ → ℕ → Type 0
+  Locked q r v = AllFor q r v × NoNone q r
+
+  -- then a quorum of proposals of the round has that value: one of them is a sound site's
+  pub all-for-value : (q r v w : ℕ) → AllFor q r v → Supp n l 1 q r w (quorum n) → w ≡ v
+  all-for-value q r v w k a =
       let h = a-sound 1 q r w a in
       let s = h .it .one in
       let e : s .value ≡ v = k s (h .it .mem) (h .it .kind≡) (h .it .question≡) (h .it .round≡) (L .just s (h .it .mem) (rw (h .it .station≡) (h .ok))) in
       sym (h .it .value≡) ∙ e
 
-  -- no quorum of none votes in a locked round
-  pub no-none : (q r v : ℕ) → Locked q r v → Supp n l 2 q r 2 (quorum n) → ⊥
-  no-none q r v k a =
-      let h = a-sound 2 q r 2 a in
-      let s = h .it .one in
-      go (L .split s (h .it .mem) (rw (h .it .station≡) (h .ok)) (h .it .kind≡) (h .it .value≡)) (h .it .question≡) (h .it .round≡)
-    where
-      go : {q′ r′ : ℕ} → Split n l q′ r′ → q′ ≡ q → r′ ≡ r → ⊥
-      go p x y = p .apart (k (p .a) (p .a-in) (p .a-kind) (p .a-qn ∙ x) (p .a-rnd ∙ y) (p .a-just) ∙ sym (k (p .b) (p .b-in) (p .b-kind) (p .b-qn ∙ x) (p .b-rnd ∙ y) (p .b-just)))
-
   -- a justified proposal of the next round: by its flag
-  pub next : (q r v : ℕ) → 1 ≤ r → ((w : ℕ) → Supp n l 1 q r w (quorum n) → w ≡ v) → (Supp n l 2 q r 2 (quorum n) → ⊥) → Locked q (suc r) v
+  pub next : (q r v : ℕ) → 1 ≤ r → ((w : ℕ) → Supp n l 1 q r w (quorum n) → w ≡ v) → NoNone q r → AllFor q (suc r) v
   next q r v h f g m i k x y j = go (eqb (m .flag) 0) refl
     where
       p : m .round - 1 ≡ r
@@ -99,8 +99,17 @@ module _ (n : ℕ) (sound : ℕ → Bool) (l : List Statement) (few : count (λ 
       go true e = f (m .value) (rw (x, p) at (j .taken k (omega arith) (eqb-true _ _ e)))
       go false e = absurd (g (rw (x, p) at (j .tossed k (omega arith) (eqb-false _ _ e))))
 
+  -- none votes die out: a sound site's of the next round would have q of this one behind it
+  pub none-step : (q r : ℕ) → 1 ≤ r → NoNone q r → NoNone q (suc r)
+  none-step q r from g a =
+      let h = a-sound 2 q (suc r) 2 a in
+      let s = h .it .one in
+      let e : s .round - 1 ≡ r = omega (arith, h .it .round≡) in
+      let j : Just n l s = L .just s (h .it .mem) (rw (h .it .station≡) (h .ok)) in
+      g (rw (h .it .question≡, e) at (j .noned (h .it .kind≡) (h .it .value≡) (omega (arith, h .it .round≡))))
+
   pub lock-step : (q r v : ℕ) → 1 ≤ r → Locked q r v → Locked q (suc r) v
-  lock-step q r v h k = next q r v h (λ w a. locked-value q r v w k a) (no-none q r v k)
+  lock-step q r v h k = (next q r v h (λ w a. all-for-value q r v w (k .0) a) (k .1), none-step q r h (k .1))
 
   pub lock-on : (q r v d : ℕ) → 1 ≤ r → Locked q r v → Locked q (d + r) v
   lock-on q r v zero h k = rw (← e) at k
@@ -124,13 +133,19 @@ module _ (n : ℕ) (sound : ℕ → Bool) (l : List Statement) (few : count (λ 
       let s = w .it .one in
       rw (w .it .question≡, w .it .round≡, w .it .value≡) at (L .just s (w .it .mem) (rw (w .it .station≡) (w .ok)) .voted (w .it .kind≡) (rw (w .it .value≡) h))
 
+  decided-no-none : (q v : ℕ) (d : Decided n l q v) → NoNone q (d .round)
+  decided-no-none q v d a = let e : v ≡ 2 = same 2 q (d .round) v 2 (d .votes) a in omega (arith, d .small)
+
   pub decided-locks : (q v : ℕ) (d : Decided n l q v) → Locked q (suc (d .round)) v
-  decided-locks q v d =
-      next q (d .round) v (d .from1) (λ w a. same 1 q (d .round) w v a (voted-for q (d .round) v (d .small) (d .votes)))
-      (λ a. let e : v ≡ 2 = same 2 q (d .round) v 2 (d .votes) a in omega (arith, d .small))
+  decided-locks q v d = (
+    next q (d .round) v (d .from1) (λ w a. same 1 q (d .round) w v a (voted-for q (d .round) v (d .small) (d .votes))) (decided-no-none q v d),
+    none-step q (d .round) (d .from1) (decided-no-none q v d),
+  )
 
   later : (q v w : ℕ) (d : Decided n l q v) (e : Decided n l q w) → d .round < e .round → w ≡ v
-  later q v w d e h = locked-value q (e .round) v w (lock-to q (suc (d .round)) (e .round) v (omega arith) h (decided-locks q v d)) (voted-for q (e .round) w (e .small) (e .votes))
+  later q v w d e h =
+      all-for-value q (e .round) v w (lock-to q (suc (d .round)) (e .round) v (omega arith) h (decided-locks q v d) .0)
+      (voted-for q (e .round) w (e .small) (e .votes))
 
   pub agreement : (q v w : ℕ) → Decided n l q v → Decided n l q w → v ≡ w
   agreement q v w d e = go (ltb (d .round) (e .round)) (ltb (e .round) (d .round)) refl refl
@@ -142,11 +157,21 @@ module _ (n : ℕ) (sound : ℕ → Bool) (l : List Statement) (few : count (λ 
           let t : e .round ≡ d .round = omega (arith, ltb-false (d .round) (e .round) a, ltb-false (e .round) (d .round) b) in
           same 2 q (d .round) v w (d .votes) (rw t at (e .votes))
 
+  -- where all proposals of round 1 have one value there are not q none votes of it: a sound site's is split
+  no-none-1 : (q v : ℕ) → AllFor q 1 v → NoNone q 1
+  no-none-1 q v k a =
+      let h = a-sound 2 q 1 2 a in
+      let s = h .it .one in
+      go (L .split s (h .it .mem) (rw (h .it .station≡) (h .ok)) (h .it .kind≡) (h .it .value≡) (h .it .round≡)) (h .it .question≡) (h .it .round≡)
+    where
+      go : {q′ r′ : ℕ} → Split n l q′ r′ → q′ ≡ q → r′ ≡ 1 → ⊥
+      go p x y = p .apart (k (p .a) (p .a-in) (p .a-kind) (p .a-qn ∙ x) (p .a-rnd ∙ y) (p .a-just) ∙ sym (k (p .b) (p .b-in) (p .b-kind) (p .b-qn ∙ x) (p .b-rnd ∙ y) (p .b-just)))
+
   -- a value that too few proposed is never decided
   pub backed : (q v : ℕ) → Decided n l q v → Supp n l 0 q 0 v (backing n v)
   backed q v d = go (ltb (count (has l 0 q 0 v) n) (backing n v)) refl
     where
-      other : count (has l 0 q 0 v) n < backing n v → Locked q 1 (1 - v)
+      other : count (has l 0 q 0 v) n < backing n v → AllFor q 1 (1 - v)
       other h m i k x y j = sm (eqb (m .value) v) refl
         where
           sm : (b : Bool) → eqb (m .value) v ≡ b → m .value ≡ 1 - v
@@ -155,6 +180,8 @@ module _ (n : ℕ) (sound : ℕ → Bool) (l : List Statement) (few : count (λ 
 
       go : (b : Bool) → ltb (count (has l 0 q 0 v) n) (backing n v) ≡ b → Supp n l 0 q 0 v (backing n v)
       go true e =
-          let t : v ≡ 1 - v = locked-value q (d .round) (1 - v) v (lock-to q 1 (d .round) (1 - v) (omega arith) (d .from1) (other (ltb-true _ _ e))) (voted-for q (d .round) v (d .small) (d .votes)) in
+          let k : AllFor q 1 (1 - v) = other (ltb-true _ _ e) in
+          let locked : Locked q (d .round) (1 - v) = lock-to q 1 (d .round) (1 - v) (omega arith) (d .from1) (k, no-none-1 q (1 - v) k) in
+          let t : v ≡ 1 - v = all-for-value q (d .round) (1 - v) v (locked .0) (voted-for q (d .round) v (d .small) (d .votes)) in
           absurd (omega (arith, d .small))
       go false e = ltb-false _ _ e
