@@ -1,52 +1,31 @@
--- The log under the modules of a group: each entry is a well-formed statement of its site, pairs rise, and what a sound site's module coded is justified.
+-- The log under the modules of a group: each entry is a well-formed statement of its site, no pair of a site is there twice, since none is above its module's last, and
+-- what a sound site's module coded is justified.
 use mathlib.Core.Path.{_≡_, refl, sym, _∙_, ap, subst}
 use mathlib.Core.Bool.{Bool, true, false}
 use mathlib.Core.List.{List, [], _∷_}
-use Prim.Native.Nat.{ℕ, suc, _+_, _-_, _*_, _≤_, _<_}
-use native.Mathlib.Omega.{arith}
+use Prim.Native.Nat.{ℕ, _≤_}
 use lib.Dec.{eqb}
 use borrow.Author.Tests.{eqb-true, eqb-false, le-leb}
 use Rattle.laws.specs.Pick.{pick}
 use Rattle.laws.specs.Bools.{never}
 use Rattle.laws.specs.Refusals.{All, all-map}
 use Rattle.format.specs.Numbers.{kind-V, none}
-use Rattle.format.specs.Statement.{Statement, statement, covered, step, well-formed}
+use Rattle.format.specs.Statement.{Statement, statement, covered, step}
 use Rattle.format.specs.Shape.{Shape, init, proposal, vote, Formed, formed-out}
-use Rattle.sealed.specs.declared.Last.{Last}
 use Rattle.sealed.specs.declared.Module.{Module}
-use Rattle.sealed.specs.Sealed.{above, pair, advanced, making}
-use Rattle.sealed.specs.Rises.{Above, first, later-question, later-step, above-out}
+use Rattle.sealed.specs.Sealed.{above, last-for, advanced, making}
+use Rattle.sealed.specs.Rises.{stays-below, coded-below}
 use Rattle.format.specs.ReadBack.{Proper, word-back}
-use Rattle.station.specs.Keep.{steps-P, steps-V, steps-0}
-use Rattle.agreement.specs.Log.{Lower, Rising}
+use Rattle.agreement.specs.Log.{OtherPair, Distinct}
 use Rattle.agreement.specs.Safe.{Just, Split}
 use Rattle.agreement.specs.Just.{bare, just-more, split-more, bare-just}
 use Rattle.agreement.specs.Effect.{entry}
 use Rattle.agreement.specs.Line.{reads}
 use Rattle.agreement.specs.Demand.{Entry, member}
 
--- a pair as one number, which rises with it
-abbrev pub rank-of : Statement → ℕ
-rank-of s = suc (131072 * s .question + step s)
-
-unfoldable pub rank : Last → ℕ
-rank l = pick (l .coded) (suc (131072 * l .question + l .step .0)) 0
-
-pub rank-up : (l : Last) (q s : ℕ) → l .step .0 < 131072 → above l q s ≡ true → rank l < suc (131072 * q + s)
-unfolding rank pick
-rank-up l q s low h = go (above-out l q s h) (l .coded) refl
-  where
-    go : Above l q s → (b : Bool) → l .coded ≡ b → pick b (suc (131072 * l .question + l .step .0)) 0 < suc (131072 * q + s)
-    go a false e = omega arith
-    go (first x) true e = never (l .coded) x e
-    go (later-question x) true e = omega arith
-    go (later-step x y) true e = omega arith
-
-pub step-low : (s : Statement) → Shape s → step s < 131072
-unfolding step
-step-low s (init k r v f) = omega (arith, steps-0 (s .kind) (s .round) k)
-step-low s (proposal k a b v f) = omega (arith, steps-P (s .kind) (s .round) k)
-step-low s (vote k a b v f) = omega (arith, steps-V (s .kind) (s .round) k)
+-- a statement whose pair is not above a module's last: the module codes nothing more of that question and step
+abbrev pub Below : Module → Statement → Type 0
+Below m s = above (last-for m (s .question)) (s .question) (step s) ≡ false
 
 -- the covered words of a statement, read again
 pub covered-back : (n : ℕ) (s : Statement) → n ≤ 31 → Proper n s → statement (covered s) 0 ≡ bare s
@@ -68,46 +47,42 @@ module _ (key : List ℕ) (n : ℕ) (faulty : List ℕ) where
     pub same-key : m .key ≡ key
     pub same-n : m .n ≡ n
     pub same-number : m .number ≡ i
-    pub steps : m .last .step .0 < 131072
 
   pub record LogInv (f : ℕ → Module) (l : List Entry) : Type 0 where
     pub mods : (i : ℕ) → 1 ≤ i → i ≤ n → Mine i (f i)
-    pub bound : All (λ s. rank-of s ≤ rank (f (s .station) .last)) (reads l)
+    pub bound : All (λ s. Below (f (s .station)) s) (reads l)
     pub formed : All (Formed n) (reads l)
     pub sites : All (λ e. e .at ≡ statement (e .words) 0 .station) l
-    pub rising : Rising (reads l)
+    pub distinct : Distinct (reads l)
     pub just : All (λ s. member (s .station) faulty ≡ false → Just n (reads l) s) (reads l)
     pub split : All (λ s. member (s .station) faulty ≡ false → s .kind ≡ kind-V → s .value ≡ none → Split n (reads l) (s .question) (s .round)) (reads l)
 
   pub start : 2 ≤ n → n ≤ 31 → LogInv (λ i. making key n i .made) []
   unfolding reads making pick
   start low top =
-      record { mods = λ i lo hi. made i lo hi; bound = tt; formed = tt; sites = tt; rising = tt; just = tt; split = tt }
+      record { mods = λ i lo hi. made i lo hi; bound = tt; formed = tt; sites = tt; distinct = tt; just = tt; split = tt }
     where
       made : (i : ℕ) → 1 ≤ i → i ≤ n → Mine i (making key n i .made)
       made i lo hi =
           rw (le-leb 2 n low, le-leb n 31 top, le-leb 1 i lo, le-leb i n hi)
-          (record { same-key = refl; same-n = refl; same-number = refl; steps = omega arith })
+          (record { same-key = refl; same-n = refl; same-number = refl })
 
   pub unchanged : (f g : ℕ → Module) (l : List Entry) → ((i : ℕ) → f i ≡ g i) → LogInv f l → LogInv g l
   unchanged f g l e I =
       record {
         mods = λ i lo hi. subst (λ (m : Module). Mine i m) (e i) (I .mods i lo hi);
-        bound = all-map (λ s b. subst (λ (m : Module). rank-of s ≤ rank (m .last)) (e (s .station)) b) (reads l) (I .bound);
+        bound = all-map (λ s b. subst (λ (m : Module). Below m s) (e (s .station)) b) (reads l) (I .bound);
         formed = I .formed;
         sites = I .sites;
-        rising = I .rising;
+        distinct = I .distinct;
         just = I .just;
         split = I .split;
       }
 
   module _ (f g : ℕ → Module) (l : List Entry) (j : ℕ) (s : Statement) (top : n ≤ 31) (lo : 1 ≤ j) (hi : j ≤ n) (I : LogInv f l) (p : Proper n s) (mine : s .station ≡ j)
-      (high : above (f j .last) (s .question) (step s) ≡ true) (now : g j ≡ advanced (f j) (s .question) (step s)) (others : (i : ℕ) → (i ≡ j → ⊥) → g i ≡ f i)
+      (high : above (last-for (f j) (s .question)) (s .question) (step s) ≡ true) (now : g j ≡ advanced (f j) (s .question) (step s)) (others : (i : ℕ) → (i ≡ j → ⊥) → g i ≡ f i)
       (sj : member j faulty ≡ false → Just n (reads l) s)
       (ss : member j faulty ≡ false → s .kind ≡ kind-V → s .value ≡ none → Split n (reads l) (s .question) (s .round)) where
-    up : rank (f j .last) < rank-of s
-    up = rank-up (f j .last) (s .question) (step s) (I .mods j lo hi .steps) high
-
     shape-s : Formed n s
     shape-s = formed-out n s (p .formed)
 
@@ -115,22 +90,24 @@ module _ (key : List ℕ) (n : ℕ) (faulty : List ℕ) where
     unfolding step
     bare-step = refl
 
-    rank-now : rank (g j .last) ≡ rank-of s
-    unfolding rank pick
-    rank-now = ap (λ (m : Module). rank (m .last)) now
-
-    -- the bound of any site only rises
-    rank-on : (i : ℕ) → rank (f i .last) ≤ rank (g i .last)
-    rank-on i = go (eqb i j) refl
+    -- what is not above the last pair of its site's module stays so
+    below-on : (t : Statement) → Below (f (t .station)) t → Below (g (t .station)) t
+    below-on t low = go (eqb (t .station) j) refl
       where
-        go : (b : Bool) → eqb i j ≡ b → rank (f i .last) ≤ rank (g i .last)
-        go true e = let x : i ≡ j = eqb-true i j e in subst (λ (z : ℕ). rank (f z .last) ≤ rank (g z .last)) (sym x) (omega (arith, up, rank-now))
-        go false e = subst (λ (m : Module). rank (f i .last) ≤ rank (m .last)) (sym (others i (eqb-false i j e))) (omega arith)
+        go : (b : Bool) → eqb (t .station) j ≡ b → Below (g (t .station)) t
+        go true e =
+            let x : t .station ≡ j = eqb-true (t .station) j e in
+            subst (λ (m : Module). Below m t) (sym (ap g x ∙ now))
+            (stays-below (f j) (s .question) (step s) (t .question) (step t) high (subst (λ (i : ℕ). Below (f i) t) x low))
+        go false e = subst (λ (m : Module). Below m t) (sym (others (t .station) (eqb-false (t .station) j e))) low
 
-    under : (t : Statement) → rank-of t ≤ rank (f (t .station) .last) → Lower (bare s) t
+    now-below : Below (g j) (bare s)
+    now-below = subst (λ (m : Module). Below m (bare s)) (sym now) (rw bare-step (coded-below (f j) (s .question) (step s)))
+
+    under : (t : Statement) → Below (f (t .station)) t → OtherPair (bare s) t
     under t b x y z =
-        let w : rank-of t ≤ rank (f j .last) = subst (λ (i : ℕ). rank-of t ≤ rank (f i .last)) (x ∙ mine) b in
-        omega (arith, up, bare-step)
+        let w : above (last-for (f j) (s .question)) (s .question) (step s) ≡ false = sym (λ i. above (last-for (f ((x ∙ mine) i)) (y i)) (y i) ((z ∙ bare-step) i)) ∙ b in
+        never _ w high
 
     mods-on : (i : ℕ) → 1 ≤ i → i ≤ n → Mine i (g i)
     mods-on i a b = go (eqb i j) refl
@@ -140,7 +117,7 @@ module _ (key : List ℕ) (n : ℕ) (faulty : List ℕ) where
             let x : i ≡ j = eqb-true i j e in
             let M = I .mods j lo hi in
             subst (λ (z : ℕ). Mine z (g z)) (sym x) (subst (λ (m : Module). Mine j m) (sym now)
-            (record { same-key = M .same-key; same-n = M .same-n; same-number = M .same-number; steps = step-low s (shape-s .shape) }))
+            (record { same-key = M .same-key; same-n = M .same-n; same-number = M .same-number }))
         go false e = subst (λ (m : Module). Mine i m) (sym (others i (eqb-false i j e))) (I .mods i a b)
 
     abbrev l2 : List Statement
@@ -154,11 +131,11 @@ module _ (key : List ℕ) (n : ℕ) (faulty : List ℕ) where
     log-add =
         record {
           mods = mods-on;
-          bound = subst (λ (x : List Statement). All (λ t. rank-of t ≤ rank (g (t .station) .last)) x) (sym reads-on)
-              (subst (λ (i : ℕ). rank-of (bare s) ≤ rank (g i .last)) (sym mine) (omega (arith, rank-now, bare-step)), all-map (λ t b. omega (arith, rank-on (t .station))) (reads l) (I .bound));
+          bound = subst (λ (x : List Statement). All (λ t. Below (g (t .station)) t) x) (sym reads-on)
+              (subst (λ (i : ℕ). Below (g i) (bare s)) (sym mine) now-below, all-map below-on (reads l) (I .bound));
           formed = subst (λ (x : List Statement). All (Formed n) x) (sym reads-on) (bare-formed n s shape-s, I .formed);
           sites = (sym (ap (λ (x : Statement). x .station) (covered-back n s top p) ∙ mine), I .sites);
-          rising = subst Rising (sym reads-on) (all-map under (reads l) (I .bound), I .rising);
+          distinct = subst Distinct (sym reads-on) (all-map under (reads l) (I .bound), I .distinct);
           just = subst (λ (x : List Statement). All (λ t. member (t .station) faulty ≡ false → Just n x t) x) (sym reads-on) (
             (λ h. just-more n (bare s) (reads l) (bare s) (bare-just n (reads l) s (sj (ap (λ (i : ℕ). member i faulty) (sym mine) ∙ h)))),
             all-map (λ t k h. just-more n (bare s) (reads l) t (k h)) (reads l) (I .just),

@@ -80,13 +80,13 @@ has-at s l m a b c d = rw (a, b, c, d) at (has-in s l m)
 abbrev pub Supp : ℕ → List Statement → ℕ → ℕ → ℕ → ℕ → ℕ → Type 0
 Supp n l kd q r v k = k ≤ count (has l kd q r v) n
 
--- the log rises for each station, newest first
-abbrev pub Lower : Statement → Statement → Type 0
-Lower s t = t .station ≡ s .station → t .question ≡ s .question → step t ≡ step s → ⊥
+-- no two statements of one station are of one question and step
+abbrev pub OtherPair : Statement → Statement → Type 0
+OtherPair s t = t .station ≡ s .station → t .question ≡ s .question → step t ≡ step s → ⊥
 
-abbrev pub Rising : List Statement → Type 0
-Rising [] = Unit
-Rising (s ∷ l) = All (Lower s) l × Rising l
+abbrev pub Distinct : List Statement → Type 0
+Distinct [] = Unit
+Distinct (s ∷ l) = All (OtherPair s) l × Distinct l
 
 pub all-at : {A : Type 0} (P : A → Type 0) (l : List A) → All P l → (s : A) → List·Memᴰ s l → P s
 all-at P [] h s m = absurd (List·Memᴰ·not-nil m)
@@ -97,21 +97,21 @@ all-at P (t ∷ l) h s m = go (List·Memᴰ·cases-cons m) (all-at P l (h .1) s)
     go (inr k) ih = ih k
 
 -- non-equivocation
-pub one-each : (l : List Statement) → Rising l → (s t : Statement) → In s l → In t l → s .station ≡ t .station → s .question ≡ t .question → step s ≡ step t → s ≡ t
+pub one-each : (l : List Statement) → Distinct l → (s t : Statement) → In s l → In t l → s .station ≡ t .station → s .question ≡ t .question → step s ≡ step t → s ≡ t
 one-each [] h s t a b p q r = absurd (List·Memᴰ·not-nil a)
 one-each (u ∷ l) h s t a b p q r = go (List·Memᴰ·cases-cons a) (List·Memᴰ·cases-cons b) (λ x y. one-each l (h .1) s t x y p q r)
   where
     go : (s ≡ u) ⊎ In s l → (t ≡ u) ⊎ In t l → (In s l → In t l → s ≡ t) → s ≡ t
     go (inl e) (inl f) ih = cc
-    go (inl e) (inr y) ih = absurd (all-at (Lower u) l (h .0) t y (cc) (cc) (cc))
-    go (inr x) (inl f) ih = absurd (all-at (Lower u) l (h .0) s x (cc) (cc) (cc))
+    go (inl e) (inr y) ih = absurd (all-at (OtherPair u) l (h .0) t y (cc) (cc) (cc))
+    go (inr x) (inl f) ih = absurd (all-at (OtherPair u) l (h .0) s x (cc) (cc) (cc))
     go (inr x) (inr y) ih = ih x y
 
 same-pair : (s t : Statement) → s .kind ≡ t .kind → s .round ≡ t .round → step s ≡ step t
 unfolding step
 same-pair s t k r = λ i. step-of (k i) (r i)
 
-pub has-one : (l : List Statement) → Rising l → (kd q r v w i : ℕ) → Has l kd q r v i → Has l kd q r w i → v ≡ w
+pub has-one : (l : List Statement) → Distinct l → (kd q r v w i : ℕ) → Has l kd q r v i → Has l kd q r w i → v ≡ w
 has-one l h kd q r v w i x y =
     let e : x .one ≡ y .one
     = one-each l h (x .one) (y .one) (x .mem) (y .mem) (cc) (cc) (same-pair (x .one) (y .one) (x .kind≡ ∙ sym (y .kind≡)) (x .round≡ ∙ sym (y .round≡))) in

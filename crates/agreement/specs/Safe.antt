@@ -9,7 +9,7 @@ use borrow.Author.Tests.{eqb-true, eqb-false, ltb-true, ltb-false}
 use Rattle.laws.specs.Count.{count}
 use Rattle.format.specs.Group.{quorum, backing, most-faulty, quorums-meet, quorum-sound}
 use Rattle.format.specs.Statement.{Statement}
-use Rattle.agreement.specs.Log.{In, has, Has, has-out, has-one, Supp, Rising}
+use Rattle.agreement.specs.Log.{In, has, Has, has-out, has-one, Supp, Distinct}
 
 -- what a verified certificate gives: rules 2 to 5, and rule 7's second group
 pub record Just (n : ℕ) (l : List Statement) (s : Statement) : Type 0 where
@@ -36,7 +36,7 @@ pub record Split (n : ℕ) (l : List Statement) (q r : ℕ) : Type 0 where
   pub apart : a .value ≡ b .value → ⊥
 
 pub record LogOk (n : ℕ) (sound : ℕ → Bool) (l : List Statement) : Type 0 where
-  pub rising : Rising l
+  pub distinct : Distinct l
   pub small : (s : Statement) → In s l → s .kind ≡ 1 → s .value < 2
   pub just : (s : Statement) → In s l → sound (s .station) ≡ true → Just n l s
   -- a none vote of round 1 has two values before it; this is for the backing alone
@@ -62,7 +62,7 @@ module _ (n : ℕ) (sound : ℕ → Bool) (l : List Statement) (few : count (λ 
   pub same : (kd q r v w : ℕ) → Supp n l kd q r v (quorum n) → Supp n l kd q r w (quorum n) → v ≡ w
   same kd q r v w a b =
       let m = quorums-meet n (has l kd q r v) (has l kd q r w) a b in
-      has-one l (L .rising) kd q r v w (m .at) (has-out l kd q r v (m .at) (m .in-first)) (has-out l kd q r w (m .at) (m .in-second))
+      has-one l (L .distinct) kd q r v w (m .at) (has-out l kd q r v (m .at) (m .in-first)) (has-out l kd q r w (m .at) (m .in-second))
 
   pub a-sound : (kd q r v : ℕ) → Supp n l kd q r v (quorum n) → SoundHas sound l kd q r v
   a-sound kd q r v a =

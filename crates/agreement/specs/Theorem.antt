@@ -170,7 +170,7 @@ module _ (mac : List ℕ → List ℕ → List ℕ) (eight : (key ws : List ℕ)
     pub log-ok : LogOk n sound l
     log-ok =
         record {
-          rising = I .logs .rising;
+          distinct = I .logs .distinct;
           small = λ s i k. bit s k (all-at (Formed n) l (I .logs .formed) s i .shape);
           just = λ s i h. all-at (λ s. member (s .station) faulty ≡ false → Just n l s) l (I .logs .just) s i (not-sound _ h);
           split = λ s i h a b c. all-at (λ s. member (s .station) faulty ≡ false → s .kind ≡ kind-V → s .value ≡ none → Split n l (s .question) (s .round)) l (I .logs .split) s i (not-sound _ h) a b;

@@ -2,12 +2,12 @@
 use Prim.Native.Nat.{ℕ, _<_}
 use mathlib.Core.Bool.{Bool, true, false, not, _&&_, _||_}
 use mathlib.Core.List.{List, _∷_}
-use mathlib.Core.Path.{_≡_, refl}
+use mathlib.Core.Path.{_≡_, refl, _∙_}
 use native.Mathlib.Omega.{arith}
 use lib.Dec.{eqb, ltb}
-use borrow.Author.Tests.{eqb-true, eqb-false, ltb-true}
+use borrow.Author.Tests.{eqb-true, eqb-false, eq-eqb, ltb-true, lt-ltb}
 use Rattle.laws.specs.Pick.{pick}
-use Rattle.laws.specs.Bools.{both}
+use Rattle.laws.specs.Bools.{never, both, join, left, right, is-false}
 use Rattle.laws.specs.Refusals.{test, first-failed, all-passed}
 use Rattle.format.specs.Numbers.{out-of-range}
 use Rattle.format.specs.Statement.{Statement, statement, written, step}
@@ -30,6 +30,12 @@ above-out l q s h = go (l .coded) (ltb (l .question) q) refl refl h
     go true true e f h = later-question (ltb-true _ _ f)
     go true false e f h = let p = both (eqb (l .question) q) _ h in later-step (eqb-true _ _ (p .0)) (ltb-true _ _ (p .1))
 
+pub above-in : (l : Last) (q s : ℕ) → Above l q s → above l q s ≡ true
+unfolding above
+above-in l q s (first e) = rw e
+above-in l q s (later-question h) = right (not (l .coded)) _ (left (ltb (l .question) q) _ (lt-ltb _ _ h))
+above-in l q s (later-step e h) = right (not (l .coded)) _ (right (ltb (l .question) q) _ (join (eqb (l .question) q) _ (eq-eqb _ _ e) (lt-ltb _ _ h)))
+
 -- what has been coded is not above itself: the same pair is never coded twice
 pub not-again : (q s : ℕ) → above (pair q s) q s ≡ false
 unfolding above
@@ -43,6 +49,23 @@ not-again q s = go (ltb q q) (ltb s s) refl refl
         z : (c : Bool) → (c && false) ≡ false
         z true = refl
         z false = refl
+
+-- once a module has coded a pair, that pair is not above its last
+pub coded-below : (m : Module) (q s : ℕ) → above (last-for (advanced m q s) q) q s ≡ false
+coded-below m q s = not-again q s
+
+-- nor does any pair come to be above its last that was not before
+pub stays-below : (m : Module) (q s q′ s′ : ℕ) → above (last-for m q) q s ≡ true → above (last-for m q′) q′ s′ ≡ false → above (last-for (advanced m q s) q′) q′ s′ ≡ false
+stays-below m q s q′ s′ up low = is-false _ (λ e. never _ low (above-in (last-for m q′) q′ s′ (go (above-out (last-for m q) q s up) (above-out (pair q s) q′ s′ e))))
+  where
+    go : Above (last-for m q) q s → Above (pair q s) q′ s′ → Above (last-for m q′) q′ s′
+    go (first x) b = first x
+    go (later-question x) (first y) = never true y refl
+    go (later-question x) (later-question y) = later-question (omega arith)
+    go (later-question x) (later-step y z) = later-question (omega arith)
+    go (later-step x w) (first y) = never true y refl
+    go (later-step x w) (later-question y) = later-question (omega arith)
+    go (later-step x w) (later-step y z) = later-step (x ∙ y) (omega arith)
 
 -- ---- coding, by either way
 -- what a coding of a statement did: it was answered 0, the pair rose above the last, and the module's new last pair is the statement's; or it was
