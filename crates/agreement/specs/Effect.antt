@@ -16,7 +16,7 @@ use Rattle.format.specs.Statement.{Statement, statement, covered, step, well-fo
 use Rattle.format.specs.Layout.{formed-well}
 use Rattle.format.specs.Shape.{Shape, init, proposal, vote, formed-out, formed-in}
 use Rattle.sealed.specs.declared.Module.{Module}
-use Rattle.sealed.specs.Sealed.{above, advanced, module-fits, is-toss, by-plain, by-coin, with-value, signed, coding-tests, coding, coding-plain, coding-coin}
+use Rattle.sealed.specs.Sealed.{above, last-for, advanced, module-fits, is-toss, by-plain, by-coin, with-value, signed, coding-tests, coding, coding-plain, coding-coin}
 use Rattle.station.specs.declared.Station.{Station}
 use Rattle.station.specs.Machine.{Outcome, refused, keeps, sends}
 use Rattle.station.specs.Words.{bundle-of, Lengths}
@@ -44,7 +44,7 @@ answers false = refl
 module _ (mac : List ℕ → List ℕ → List ℕ) (eight : (key ws : List ℕ) → length (mac key ws) ≡ 8) (key : List ℕ) (n : ℕ) where
   pub data Effect (m : Module) (c : Call) : Type 0 where
     silent : coded-in mac key n c (act mac key n m c) ≡ [] → act mac key n m c .after ≡ m → Effect m c
-    speaks : (s : Statement) → Proper (m .n) s → s .station ≡ m .number → above (m .last) (s .question) (step s) ≡ true
+    speaks : (s : Statement) → Proper (m .n) s → s .station ≡ m .number → above (last-for m (s .question)) (s .question) (step s) ≡ true
         → coded-in mac key n c (act mac key n m c) ≡ entry (site c) s ∷ [] → act mac key n m c .after ≡ advanced m (s .question) (step s) → Effect m c
 
   -- what an outcome of opening or giving leaves in the log, and in the module
@@ -130,7 +130,7 @@ module _ (mac : List ℕ → List ℕ → List ℕ) (eight : (key ws : List ℕ)
   pub record Codable (m : Module) (ws : List ℕ) (way : Bool) : Type 0 where
     pub formed : well-formed (m .n) (statement ws 0) ≡ true
     pub mine : statement ws 0 .station ≡ m .number
-    pub later : above (m .last) (statement ws 0 .question) (step (statement ws 0)) ≡ true
+    pub later : above (last-for m (statement ws 0 .question)) (statement ws 0 .question) (step (statement ws 0)) ≡ true
     pub fitting : way ≡ true
 
   codable : (m : Module) (ws : List ℕ) (way : Bool) (first : Test) → 0 < first .number → first-failed (first ∷ coding-tests m ws way) ≡ 0 → (first .ok ≡ true) × Codable m ws way

@@ -147,7 +147,7 @@ module _ (mac : List ℕ → List ℕ → List ℕ) (eight : (key ws : List ℕ)
           (unchanged key n faulty (modules mac key n cs) (modules mac key n (c ∷ cs)) (log mac key n cs) (module-same a) I)
 
       -- one statement was coded
-      spoke : (s : Statement) → Proper (m .n) s → s .station ≡ m .number → above (m .last) (s .question) (step s) ≡ true
+      spoke : (s : Statement) → Proper (m .n) s → s .station ≡ m .number → above (last-for m (s .question)) (s .question) (step s) ≡ true
           → coded-in mac key n c (act mac key n m c) ≡ entry (site c) s ∷ [] → act mac key n m c .after ≡ advanced m (s .question) (step s)
           → (member (site c) faulty ≡ false → Just n (reads (log mac key n cs)) s)
           → (member (site c) faulty ≡ false → s .kind ≡ kind-V → s .value ≡ none → Rattle.agreement.specs.Safe.Split n (reads (log mac key n cs)) (s .question) (s .round))
@@ -258,7 +258,7 @@ module _ (mac : List ℕ → List ℕ → List ℕ) (eight : (key ws : List ℕ)
                   (λ i x line a b h f. I .lines i x line a b h (not-picked (eqb j i && unrefused k && eqb (openings mac key n cs i) x) _ _ _ (middle (eqb j i) (unrefused k) _ w) f)));
             }
 
-        begun : (r : InRange mj) (p : v < 2) → above (mj .last) q (step (init-statement mac mj q v out)) ≡ true
+        begun : (r : InRange mj) (p : v < 2) → above (last-for mj q) q (step (init-statement mac mj q v out)) ≡ true
             → opening-outcome mac mj q v out ≡ sends sent (init-statement mac mj q v out) [] (began q Gathering none (init-statement mac mj q v out) []) → Inv (c ∷ cs)
         begun r p a e =
             let s = init-statement mac mj q v out in
@@ -421,7 +421,7 @@ module _ (mac : List ℕ → List ℕ → List ℕ) (eight : (key ws : List ℕ)
         go _ e (goes-on {k} A size c a w) = sent-so k A size c a w e
           where
             sent-so : (k : ℕ) (A : Accepted mac mg t ws coin out) (size : length (after mac mg t ws coin out .held) ≡ quorum (mg .n)) (c : closes (t .stage) ≡ false)
-                → above (mg .last) (t .identity .question) (step (sent-statement mac mg t ws coin out)) ≡ true
+                → above (last-for mg (t .identity .question)) (t .identity .question) (step (sent-statement mac mg t ws coin out)) ≡ true
                 → k ≡ pick (ltb (t .decision) none || eqb (decision-then mac mg t ws coin out) none) sent sent-decided
                 → giving-outcome mac mg t ws coin out ≡ sends k (sent-statement mac mg t ws coin out)
                 (follows (mg .n) (t .stage) (after mac mg t ws coin out) coin .first ++ follows (mg .n) (t .stage) (after mac mg t ws coin out) coin .second)

@@ -12,7 +12,7 @@ use Rattle.format.specs.Numbers.{not-above, closed-now, kept}
 use Rattle.format.specs.Group.{quorum}
 use Rattle.format.specs.Words.{step-of, step-in}
 use Rattle.sealed.specs.declared.Module.{Module}
-use Rattle.sealed.specs.Sealed.{above}
+use Rattle.sealed.specs.Sealed.{above, last-for}
 use Rattle.station.specs.declared.Station.{Station}
 use Rattle.station.specs.Machine.{closes, decision-at}
 use Rattle.station.specs.Words.{held-by}
@@ -79,8 +79,8 @@ module _ (m : Module) (k : Station) (x : Following) (d : ℕ) (out : List ℕ) w
       rw (eg, e, es) at h
 
   module _ (f : Fields) (st : Step) (v : Bool) (ef : f ≡ own-fields m (x .kind) (x .value) (x .flag) (x .round .0)) (et : st ≡ step-in f)
-      (ev : v ≡ above (m .last) (k .identity .question) (st .0)) where
-    tested : v ≡ above (m .last) (k .identity .question) (step-of (x .kind) (x .round .0))
+      (ev : v ≡ above (last-for m (k .identity .question)) (k .identity .question) (st .0)) where
+    tested : v ≡ above (last-for m (k .identity .question)) (k .identity .question) (step-of (x .kind) (x .round .0))
     unfolding step-in
     tested = rw (et, ef) at ev
 

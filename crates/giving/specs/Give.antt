@@ -55,7 +55,7 @@ module _ (m : Module) (t : Station) (ws : List ℕ) (coin : ℕ) (out : List ℕ
   unfolding after-words ending-words moving sending-words answer pick
   twelve-lent k =
       go (ltb (ones (k .held .heard)) (quorum (m .n))) (closes (k .stage))
-      (above (m .last) (k .identity .question) (step-of (next-by (m .n) (k .stage) (k .held .heard) (k .held .slots) coin .kind) (next-by (m .n) (k .stage) (k .held .heard) (k .held .slots) coin .round .0)))
+      (above (last-for m (k .identity .question)) (k .identity .question) (step-of (next-by (m .n) (k .stage) (k .held .heard) (k .held .slots) coin .kind) (next-by (m .n) (k .stage) (k .held .heard) (k .held .slots) coin .round .0)))
     where
       d : ℕ
       d = decision-at (k .stage) (k .decision) (held-by k)

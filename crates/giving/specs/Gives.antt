@@ -11,7 +11,7 @@ use Rattle.format.specs.Numbers.{none, kept, sent, sent-decided, closed-now, no
 use Rattle.format.specs.Group.{quorum}
 use Rattle.format.specs.Words.{step-of}
 use Rattle.sealed.specs.declared.Module.{Module}
-use Rattle.sealed.specs.Sealed.{above}
+use Rattle.sealed.specs.Sealed.{above, last-for}
 use Rattle.station.specs.declared.Groups.{Groups}
 use Rattle.station.specs.declared.Station.{Station}
 use Rattle.station.specs.Machine.{closes, decision-at}
@@ -71,7 +71,7 @@ sending-words m k x f d out =
 -- "only where a bundle would be written, 12"
 unfoldable pub moving : Module → Station → Following → ℕ → List ℕ → Returned
 moving m k x d out =
-    pick (above (m .last) (k .identity .question) (step-of (x .kind) (x .round .0)))
+    pick (above (last-for m (k .identity .question)) (k .identity .question) (step-of (x .kind) (x .round .0)))
     (sending-words m k x (own-fields m (x .kind) (x .value) (x .flag) (x .round .0)) d out)
     (with-no-bundle not-above k m out)
 

@@ -83,8 +83,8 @@ module _ (m : Module) (t : Station) (ws : List ℕ) (coin : ℕ) (out : List ℕ
       ≡ or-as-was m t out (moving m k (next-by (m .n) (K .stage) (set-of (K .held)) (slots-of (K .held) 1 sites) coin) d out)
   unfolding returned moving state-of W.station-of step pick sending-words answer
   goes-on size goes d same-d low =
-      ap (λ (z : ℕ). returned m t out (pick (above (m .last) q z) sent-all (refused not-above))) (sym (λ i. step-of (ek i) (er i)))
-      ∙ go (above (m .last) q (step-of (X .kind) (X .round .0))) refl low
+      ap (λ (z : ℕ). returned m t out (pick (above (last-for m q) q z) sent-all (refused not-above))) (sym (λ i. step-of (ek i) (er i)))
+      ∙ go (above (last-for m q) q (step-of (X .kind) (X .round .0))) refl low
     where
       q : ℕ
       q = t .identity .question
@@ -116,14 +116,14 @@ module _ (m : Module) (t : Station) (ws : List ℕ) (coin : ℕ) (out : List ℕ
       sent-all : Outcome
       sent-all = sends (pick (ltb (t .decision) none || eqb d none) sent sent-decided) s (x .first ++ x .second) (began (t .identity .question) (x .stage) d s (x .first))
 
-      go : (a : Bool) → above (m .last) q (step-of (X .kind) (X .round .0)) ≡ a → Below (pick a (sending-words m k X (own-fields m (X .kind) (X .value) (X .flag) (X .round .0)) d out) (with-no-bundle not-above k m out) .lent)
+      go : (a : Bool) → above (last-for m q) q (step-of (X .kind) (X .round .0)) ≡ a → Below (pick a (sending-words m k X (own-fields m (X .kind) (X .value) (X .flag) (X .round .0)) d out) (with-no-bundle not-above k m out) .lent)
           → returned m t out (pick a sent-all (refused not-above))
           ≡ or-as-was m t out (pick a (sending-words m k X (own-fields m (X .kind) (X .value) (X .flag) (X .round .0)) d out) (with-no-bundle not-above k m out))
       go true later low =
           skip _ _ _ _ (not-12 (ltb (t .decision) none || eqb d none))
           (sym (sending-is m K (A .range .at-most-31) F d out (A .room) X x ek (ap (λ (y : Next). y .value) e) (ap (λ (y : Next). y .flag) e) er (ap (λ (y : Next). y .stage) e)
           (chosen (m .n) K (A .range .at-most-31) F (t .stage) refl goes coin R) (sent-proper hmac-code hmac-eight m t ws coin out L A size goes)
-          (range-fits m (A .range)) (ap (above (m .last) q) (sym (λ i. step-of (ek i) (er i))) ∙ later) low
+          (range-fits m (A .range)) (ap (above (last-for m q) q) (sym (λ i. step-of (ek i) (er i))) ∙ later) low
           (λ h. R .first s refl refl h .size ∙ first-full (m .n) (x .stage) (x .value) s h) (λ h. R .second s refl refl h .size)))
       go false later low = refl
 

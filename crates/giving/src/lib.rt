@@ -147,10 +147,9 @@ fn go_on(m: Module, k: Station, x: Following, d: u32, out: &mut [u32]) -> Given
     ensures { λ r. ⌜ Answers (moving m k x d (now (out .entry))) (r .number) (r .count) (r .station) (r .after) (now (out .exit)) ⌝ }
 {
     let identity = k.identity;
-    let last = m.last;
     let round = x.round;
     let f = own_fields(m.number, x.kind, x.value, x.flag, round);
-    if !sealed::above(last, identity.question, format::step_of(f)) {
+    if !sealed::is_above(m, identity.question, format::step_of(f)) {
         return no_bundle(12, k, m);
     }
     let s = send_next(m, k, x, f, d, out);

@@ -14,7 +14,7 @@ use Rattle.format.specs.Numbers.{output-words, short-output, out-of-range, not-
 use Rattle.format.specs.Statement.{hmac-code, step}
 use Rattle.format.specs.Words.{step-of}
 use Rattle.sealed.specs.declared.Module.{Module}
-use Rattle.sealed.specs.Sealed.{module-fits, above}
+use Rattle.sealed.specs.Sealed.{module-fits, above, last-for}
 use Rattle.station.specs.declared.Station.{Station}
 use Rattle.station.specs.Calls.{Returned, returned, opening, no-station}
 use Rattle.station.specs.Answers.{Answers}
@@ -25,10 +25,10 @@ tests room range later = test room short-output ∷ test range out-of-range ∷ 
 
 unfoldable pub open-refusal : Module → ℕ → ℕ → ℕ → ℕ
 open-refusal m question proposal lent =
-    first-failed (tests (leb output-words lent) (module-fits m && ltb proposal 2) (above (m .last) question 0))
+    first-failed (tests (leb output-words lent) (module-fits m && ltb proposal 2) (above (last-for m question) question 0))
 
 module _ (m : Module) (question proposal : ℕ) (out : List ℕ) where
-  by-tests : (a b c : Bool) → leb output-words (length out) ≡ a → (module-fits m && ltb proposal 2) ≡ b → above (m .last) question 0 ≡ c
+  by-tests : (a b c : Bool) → leb output-words (length out) ≡ a → (module-fits m && ltb proposal 2) ≡ b → above (last-for m question) question 0 ≡ c
       → (first-failed (tests a b c) ≡ 0 → ⊥)
       → opening hmac-code m question proposal out ≡ record { number = first-failed (tests a b c); count = 0; station = no-station; after = m; lent = out }
   unfolding opening returned first-failed pick step step-of
@@ -41,7 +41,7 @@ module _ (m : Module) (question proposal : ℕ) (out : List ℕ) where
       → Answers (opening hmac-code m question proposal out) k 0 t m out
   unfolding open-refusal
   refused-answers k t e no-0 et =
-      let r = by-tests (leb output-words (length out)) (module-fits m && ltb proposal 2) (above (m .last) question 0) refl refl refl (λ z. no-0 (e ∙ z)) in
+      let r = by-tests (leb output-words (length out)) (module-fits m && ltb proposal 2) (above (last-for m question) question 0) refl refl refl (λ z. no-0 (e ∙ z)) in
       record {
         number-is = e ∙ ap (λ (x : Returned). x .number) (sym r);
         count-is = ap (λ (x : Returned). x .count) (sym r);
@@ -54,17 +54,17 @@ module _ (m : Module) (question proposal : ℕ) (out : List ℕ) where
     pub room : output-words ≤ length out
     pub fit : module-fits m ≡ true
     pub bit : ltb proposal 2 ≡ true
-    pub later : above (m .last) question 0 ≡ true
+    pub later : above (last-for m question) question 0 ≡ true
 
   pub passed : open-refusal m question proposal (length out) ≡ 0 → Passed
   unfolding open-refusal
   passed e =
-      let p = all-passed (tests (leb output-words (length out)) (module-fits m && ltb proposal 2) (above (m .last) question 0)) (omega arith, (omega arith, (omega arith, tt))) e in
+      let p = all-passed (tests (leb output-words (length out)) (module-fits m && ltb proposal 2) (above (last-for m question) question 0)) (omega arith, (omega arith, (omega arith, tt))) e in
       let b = both (module-fits m) _ (p .1 .0) in
       record { room = leb-true _ _ (p .0); fit = b .0; bit = b .1; later = p .1 .1 .0 }
 
 -- the tests as the code finds them
-pub refusal-is : (m : Module) (question proposal lent k : ℕ) (range later : Bool) → range ≡ module-fits m → later ≡ above (m .last) question 0
+pub refusal-is : (m : Module) (question proposal lent k : ℕ) (range later : Bool) → range ≡ module-fits m → later ≡ above (last-for m question) question 0
     → k ≡ first-failed (tests (leb output-words lent) (range && ltb proposal 2) later) → k ≡ open-refusal m question proposal lent
 unfolding open-refusal
 refusal-is m question proposal lent k range later a b e = rw (← a, ← b) e

@@ -43,9 +43,8 @@ fn first(room: bool, range: bool, later: bool) -> u32
 fn refusal(m: Module, question: u32, proposal: u32, lent: usize) -> u32
     ensures { λ r. ⌜ r ≡ open-refusal m question proposal lent ⌝ }
 {
-    let last = m.last;
     let range = sealed::fits(m) & (proposal < 2);
-    let later = sealed::above(last, question, Step(0));
+    let later = sealed::is_above(m, question, Step(0));
     first(331 <= lent, range, later)
 }
 

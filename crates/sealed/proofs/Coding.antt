@@ -18,7 +18,7 @@ use Rattle.format.specs.Group.{size-fits}
 use Rattle.format.specs.Words.{of-group, formed, fields-of, step-in}
 use Rattle.format.specs.Statement.{Statement, statement, written, step, hmac-code}
 use Rattle.sealed.specs.declared.Module.{Module}
-use Rattle.sealed.specs.Sealed.{above, making, fresh, no-module, module-fits, advanced, Coded, by-plain, by-coin, signed, with-value, tossed, coding, coding-tests, coding-plain, coding-coin}
+use Rattle.sealed.specs.Sealed.{above, last-for, making, fresh, no-module, module-fits, advanced, Coded, by-plain, by-coin, signed, with-value, tossed, coding, coding-tests, coding-plain, coding-coin}
 use Rattle.sealed.specs.Answers.{Answered, Tested, word-with, lent-with}
 
 -- the same, by its words
@@ -48,7 +48,7 @@ module _ (code : List ℕ → List ℕ) (m : Module) (s : Statement) (ws : List 
 
 -- the refusal, from what the code computes on the way: the words 0 and 1, the fields, and the tests on them
 pub refusal-is : (m : Module) (ws : List ℕ) (range way : Bool) (w q : ℕ) (f : Fields) (shape : Bool) (s : Step) (later : Bool) (r : ℕ)
-    → w ≡ getD ws 0 0 → f ≡ fields-of w → q ≡ getD ws 1 0 → shape ≡ formed (m .n) f → s ≡ step-in f → later ≡ above (m .last) q (s .0)
+    → w ≡ getD ws 0 0 → f ≡ fields-of w → q ≡ getD ws 1 0 → shape ≡ formed (m .n) f → s ≡ step-in f → later ≡ above (last-for m q) q (s .0)
     → r ≡ first-failed
     (test range out-of-range
     ∷ test (eqb (length ws) statement-words && shape && way) malformed
@@ -61,7 +61,7 @@ refusal-is m ws range way w q f shape s later r w-is f-is q-is shape-is s-is lat
     let fe : f ≡ fields-of (getD ws 0 0) = f-is ∙ ap fields-of w-is in
     let se : s ≡ step-in (fields-of (getD ws 0 0)) = s-is ∙ ap step-in fe in
     let we : shape ≡ formed (m .n) (fields-of (getD ws 0 0)) = shape-is ∙ ap (formed (m .n)) fe in
-    let le : later ≡ above (m .last) (getD ws 1 0) (step (statement ws 0)) = later-is ∙ (λ i. above (m .last) (q-is i) (se i .0)) in
+    let le : later ≡ above (last-for m (getD ws 1 0)) (getD ws 1 0) (step (statement ws 0)) = later-is ∙ (λ i. above (last-for m (q-is i)) (q-is i) (se i .0)) in
     let re : r ≡ first-failed (test range out-of-range ∷ coding-tests m ws way) =
     r-is
     ∙ (λ i.

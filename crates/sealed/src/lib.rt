@@ -9,7 +9,7 @@ ghost use Rattle.laws.specs.Refusals.{test, first-failed};
 ghost use Rattle.hmac.specs.Hmac.{prepared, code-from};
 ghost use Rattle.format.specs.Numbers.{statement-words, out-of-range, malformed, wrong-code, not-above};
 ghost use Rattle.format.specs.Statement.{statement, hmac-code};
-ghost use Rattle.sealed.specs.Sealed.{above as Above, advanced, module-fits, making, coding, coding-plain, coding-coin, with-value, by-plain, by-coin};
+ghost use Rattle.sealed.specs.Sealed.{above, last-for, advanced, module-fits, making, coding, coding-plain, coding-coin, with-value, by-plain, by-coin};
 ghost use Rattle.sealed.specs.Answers.{Answered, Tested, word-with, lent-with};
 
 // The last pair that a module coded, or none.
@@ -46,10 +46,11 @@ pub fn fits(m: Module) -> bool
     ((2 <= m.n) & (m.n <= 31)) & ((1 <= m.number) & (m.number <= m.n))
 }
 
-// Whether a pair is above the last, question compared first.
-pub fn above(last: Last, question: u32, step: Step) -> bool
-    ensures { λ r. ⌜ r ≡ Above last question (step .0) ⌝ }
+// Whether a pair is above the last that the question is held against, question compared first.
+pub fn is_above(m: Module, question: u32, step: Step) -> bool
+    ensures { λ r. ⌜ r ≡ above (last-for m question) question (step .0) ⌝ }
 {
+    let last = m.last;
     let s = last.step;
     !last.coded | ((last.question < question) | ((last.question == question) & (s.0 < step.0)))
 }
@@ -173,10 +174,9 @@ fn refusal(m: Module, ws: &[u32], range: bool, way: bool) -> u32
 {
     let f = format::read_fields(word(ws, 0));
     let q = word(ws, 1);
-    let last = m.last;
     let shape = (ws.len() == 10) & format::well_formed(f, m.n) & way;
     let own = f.station == m.number;
-    let later = above(last, q, format::step_of(f));
+    let later = is_above(m, q, format::step_of(f));
     first(range, shape, own, later)
 }
 

@@ -19,8 +19,8 @@ well-formed-requires c κs = search needs
 step-of-requires : tie.Need-step-of-requires
 step-of-requires c κs = search needs
 
-above-requires : tie.Need-above-requires
-above-requires c κs = search needs
+is-above-requires : tie.Need-is-above-requires
+is-above-requires c κs = search needs
 
 first-requires : tie.Need-first-requires
 first-requires c κs = search needs
@@ -29,9 +29,9 @@ returns : tie.Need-returns
 returns c =
     let k = c .before in
     let b = k .before .before .before .before in
-    let r = b .before .before .before in
+    let r = b .before .before in
     let a = r .before .before .before .args in
-    refusal-is (a .m) (a .ws .now) (a .range) (a .way) _ _ _ _ _ _ _ (r .before .word .ensures) (r .read-fields .ensures) (b .before .before .word2 .ensures) (b .well-formed .ensures) (k .before .step-of .ensures) (k .above .ensures) (c .first .ensures)
+    refusal-is (a .m) (a .ws .now) (a .range) (a .way) _ _ _ _ _ _ _ (r .before .word .ensures) (r .read-fields .ensures) (b .before .word2 .ensures) (b .well-formed .ensures) (k .before .step-of .ensures) (k .is-above .ensures) (c .first .ensures)
 
 pub refusal-spec : {M : Type 1} → statement M
 refusal-spec =
@@ -42,6 +42,6 @@ refusal-spec =
     word-requires-2
     well-formed-requires
     step-of-requires
-    above-requires
+    is-above-requires
     first-requires
     returns)
