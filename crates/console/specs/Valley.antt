@@ -48,7 +48,7 @@ the-output = replicate output-words 0
 unfoldable pub no-bundle : Bundle
 no-bundle = record { count = 0; words = the-output }
 
--- the module of a station; making refuses a number over n, and its answer then is the all-zero module, which every call refuses by 2
+-- the module of a station; making refuses a number over n, and its answer then is the all-zero module, which every call refuses by 1 or 2
 abbrev pub made-for : ℕ → ℕ → Module
 made-for n s = making the-key n s .made
 

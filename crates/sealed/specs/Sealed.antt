@@ -44,7 +44,7 @@ pub record Made : Type 0 where
 abbrev pub fresh : List ℕ → ℕ → ℕ → Module
 fresh key n number = record { key = key; n = n; number = number; last = no-pair }
 
--- a refused making returns the all-zero module, which every call refuses by 2
+-- a refused making returns the all-zero module, which every call refuses by 1 or 2
 abbrev pub no-module : Module
 no-module = fresh (replicate 32 0) 0 0
 
