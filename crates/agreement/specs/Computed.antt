@@ -20,7 +20,7 @@ use Rattle.format.specs.Words.{fields-of, word-of, formed, step-of}
 use Rattle.format.specs.Statement.{statements, same-words, verifies, well-formed, step}
 use Rattle.format.specs.Bundle.{laid-out, all-formed, bundle-fits}
 use Rattle.format.specs.Layout.{same-out}
-use Rattle.certificate.specs.Rules.{wanted, some, in-order, holds, first-group, second-group, has-second, early-toss, rest-holds, spread, groups-hold, rule}
+use Rattle.rules.specs.Rules.{wanted, some, in-order, holds, first-group, second-group, has-second, early-toss, rest-holds, spread, groups-hold, rule}
 use Rattle.certificate.specs.Check.{every}
 use Rattle.sealed.specs.Sealed.{above, making, coding-plain, coding-coin}
 use Rattle.station.specs.declared.Stage.{Stage}

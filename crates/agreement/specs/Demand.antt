@@ -13,7 +13,7 @@ use Rattle.format.specs.Group.{quorum, backing, most-faulty}
 use Rattle.format.specs.Words.{kind-of, value-of, station-of}
 use Rattle.format.specs.Statement.{Statement, statement, same-words}
 use Rattle.format.specs.Bundle.{main-of}
-use Rattle.certificate.specs.Rules.{some}
+use Rattle.rules.specs.Rules.{some}
 use Rattle.sealed.specs.declared.Module.{Module}
 use Rattle.sealed.specs.Sealed.{making, Coded, coding-plain, coding-coin}
 use Rattle.station.specs.declared.Station.{Station}

@@ -18,8 +18,8 @@ use Rattle.format.specs.Group.{quorum}
 use Rattle.format.specs.Statement.{Statement, statement, statements, step}
 use Rattle.format.specs.Bundle.{count-in, main-of, certificate-of}
 use Rattle.format.specs.Layout.{all-well}
-use Rattle.certificate.specs.Rules.{some, some-value, which}
-use Rattle.certificate.specs.declared.Which.the-variants.{Any, Only}
+use Rattle.rules.specs.Rules.{some, some-value, which}
+use Rattle.rules.specs.declared.Which.the-variants.{Any, Only}
 use Rattle.certificate.specs.Check.{every}
 use Rattle.sealed.specs.declared.Module.{Module}
 use Rattle.sealed.specs.Sealed.{last-for}

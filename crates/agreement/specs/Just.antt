@@ -13,10 +13,10 @@ use Rattle.laws.specs.Count.{count}
 use Rattle.format.specs.Numbers.{kind-INIT, kind-P, kind-V, none}
 use Rattle.format.specs.Group.{quorum, backing}
 use Rattle.format.specs.Statement.{Statement}
-use Rattle.certificate.specs.declared.Which.{Which}
-use Rattle.certificate.specs.declared.Which.the-variants.{Any, Only}
-use Rattle.certificate.specs.Rules.{wanted, matches, group, Holds, Backed, rule-1, rule-2, rule-3, rule-4, rule-5, rule-6, rule-7}
-use Rattle.certificate.specs.Rules as R
+use Rattle.rules.specs.declared.Which.{Which}
+use Rattle.rules.specs.declared.Which.the-variants.{Any, Only}
+use Rattle.rules.specs.Rules.{wanted, matches, group, Holds, Backed, rule-1, rule-2, rule-3, rule-4, rule-5, rule-6, rule-7}
+use Rattle.rules.specs.Rules as R
 use Rattle.station.specs.Slots.{all-two}
 use Rattle.agreement.specs.Counting.{Rise, rise-dist, dist-count, count-mono}
 use Rattle.agreement.specs.Log.{In, has, has-out, has-at, Supp}

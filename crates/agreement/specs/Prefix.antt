@@ -12,7 +12,7 @@ use Rattle.laws.specs.Bools.{right}
 use Rattle.laws.specs.Count.{count}
 use Rattle.format.specs.Statement.{Statement}
 use Rattle.format.specs.Bundle.{main-of}
-use Rattle.certificate.specs.Rules.{some}
+use Rattle.rules.specs.Rules.{some}
 use Rattle.station.specs.Calls.{Returned}
 use Rattle.agreement.specs.Counting.{count-mono}
 use Rattle.agreement.specs.Demand.{Call, opens, gives, codes, tosses, Lineage, Found, nothing, found, own, gave, votes, answer, openings, lineage, Sound, FewFaulty, Given, Decides}

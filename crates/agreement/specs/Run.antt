@@ -15,7 +15,7 @@ use Rattle.format.specs.Group.{quorum}
 use Rattle.format.specs.Statement.{Statement, statement, written, step}
 use Rattle.format.specs.Bundle.{main-of}
 use Rattle.format.specs.Shape.{init}
-use Rattle.certificate.specs.Rules.{rule-1, some}
+use Rattle.rules.specs.Rules.{rule-1, some}
 use Rattle.sealed.specs.declared.Module.{Module}
 use Rattle.sealed.specs.Sealed.{above, advanced, last-for}
 use Rattle.station.specs.declared.Stage.the-variants.{Gathering}

@@ -13,8 +13,8 @@ use Rattle.laws.specs.Refusals.{All, all-map}
 use Rattle.laws.specs.Count.{count, one-if}
 use Rattle.format.specs.Numbers.{kind-V, none}
 use Rattle.format.specs.Statement.{Statement, step}
-use Rattle.certificate.specs.Rules.{some}
-use Rattle.certificate.specs.Rules as R
+use Rattle.rules.specs.Rules.{some}
+use Rattle.rules.specs.Rules as R
 use Rattle.certificate.specs.Check.{every}
 use Rattle.station.specs.Machine.{has-value, vote-value, decided, number-of}
 use Rattle.certificate.specs.Exact.{every-out}

@@ -8,8 +8,8 @@ use Rattle.laws.specs.Refusals.{first-failed}
 use Rattle.format.specs.Group.{size-fits}
 use Rattle.format.specs.Statement.{statements, hmac-code}
 use Rattle.format.specs.Bundle.{laid-out, all-formed, count-in, main-of, certificate-of, bundle-fits}
-use Rattle.certificate.specs.declared.Which.{Which}
-use Rattle.certificate.specs.Rules.{rule}
+use Rattle.rules.specs.declared.Which.{Which}
+use Rattle.rules.specs.Rules.{rule}
 use Rattle.certificate.specs.Check.{question-fits, all-verify, check-by, judged}
 
 module _ (key : List ℕ) (n : ℕ) (asked : Which) (ws : List ℕ) where

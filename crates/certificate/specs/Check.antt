@@ -8,9 +8,9 @@ use Rattle.format.specs.Numbers.{out-of-range, malformed, other-question, wrong
 use Rattle.format.specs.Group.{size-fits}
 use Rattle.format.specs.Statement.{Statement, statements, hmac-code, verifies}
 use Rattle.format.specs.Bundle.{count-in, main-of, certificate-of, bundle-fits}
-use Rattle.certificate.specs.declared.Which.{Which}
-use Rattle.certificate.specs.declared.Which.the-variants.{Any}
-use Rattle.certificate.specs.Rules.{which, rule}
+use Rattle.rules.specs.declared.Which.{Which}
+use Rattle.rules.specs.declared.Which.the-variants.{Any}
+use Rattle.rules.specs.Rules.{which, rule}
 
 unfoldable pub every : (Statement → Bool) → List Statement → Bool
 every p [] = true

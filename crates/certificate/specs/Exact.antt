@@ -14,10 +14,10 @@ use Rattle.format.specs.Words.{formed, fields-of}
 use Rattle.format.specs.Statement.{Statement, statements, hmac-code, verifies, well-formed}
 use Rattle.format.specs.Bundle.{head-fits, count-in, laid-out, main-of, certificate-of, all-formed, bundle-fits}
 use Rattle.format.specs.Layout.{formed-well}
-use Rattle.certificate.specs.declared.Which.the-variants.{Any}
+use Rattle.rules.specs.declared.Which.the-variants.{Any}
 use Rattle.certificate.specs.Check.{every, one-question, check-tests, check-by, judged, checked}
 use Rattle.format.specs.Shape.{formed-out}
-use Rattle.certificate.specs.Backed.{rule-backed, backed-rule}
+use Rattle.rules.specs.Backed.{rule-backed, backed-rule}
 use Rattle.certificate.specs.Valid.{Bundle, Valid, Exact}
 
 pub every-out : (p : Statement → Bool) (c : List Statement) → every p c ≡ true → All (λ s. p s ≡ true) c

@@ -2,38 +2,19 @@
 use Prim.Native.Nat.{ℕ, _+_, _-_, _*_}
 use mathlib.Core.Bool.{Bool, true, false, not, _&&_, _||_}
 use mathlib.Core.List.{List}
-use mathlib.Core.Path.{_≡_, refl, sym, _∙_}
-use lib.Dec.{eqb, ltb}
+use mathlib.Core.Path.{_≡_, sym, _∙_}
+use lib.Dec.{eqb}
 use lib.ListN.{getD, length}
 use borrow.Author.Tests.{eq-eqb, ne-eqb}
-use Rattle.laws.specs.Pick.{pick, here, skip}
-use Rattle.format.specs.Numbers.{kind-INIT, kind-P, kind-V, none, D-GET}
+use Rattle.laws.specs.Pick.{here, skip}
+use Rattle.format.specs.Numbers.{kind-INIT, kind-V, none}
 use Rattle.format.specs.declared.Fields.{Fields}
 use Rattle.format.specs.Words.{fields-of}
 use Rattle.format.specs.Statement.{Statement, statements}
 use Rattle.format.specs.Bundle.{main-of}
-use Rattle.certificate.specs.declared.Which.the-variants.{Any, Only}
-use Rattle.certificate.specs.declared.Group.{Group}
-use Rattle.certificate.specs.Rules.{inits, proposals, none-votes, holds, some-D-GET, some-value, first-group, second-group, has-second, early-toss, rest-holds, spread, groups-hold, rule}
+use Rattle.rules.specs.declared.Group.{Group}
+use Rattle.rules.specs.Rules.{holds, some-D-GET, some-value, first-group, second-group, has-second, early-toss, rest-holds, spread, groups-hold, rule}
 use Rattle.certificate.specs.Parts.{least, parts-length, parts-take, parts-drop}
-
--- `first-group` for a P, and for a V
-unfoldable pub proposal-group : ℕ → ℕ → ℕ → ℕ → Group
-proposal-group n value flag round =
-    pick (eqb round 1) (inits n value)
-    (pick (eqb flag D-GET) (proposals n (round - 1) (Only value) Any)
-    (none-votes n (round - 1)))
-
-unfoldable pub vote-group : ℕ → ℕ → ℕ → Group
-vote-group n value round =
-    pick (ltb value none) (proposals n round (Only value) Any)
-    (pick (eqb round 1) (proposals n 1 Any (Only D-GET))
-    (proposals n round Any Any))
-
-pub first-is : (n kind value flag round : ℕ)
-    → first-group n kind value flag round ≡ pick (eqb kind kind-P) (proposal-group n value flag round) (vote-group n value round)
-unfolding proposal-group vote-group first-group
-first-is n kind value flag round = refl
 
 module _ (ws : List ℕ) (m : Fields) (main : m ≡ fields-of (getD ws 1 0)) where
   pub spread-is : (c : List Statement) (zero one : Bool) → zero ≡ some-value 0 c → one ≡ some-value 1 c

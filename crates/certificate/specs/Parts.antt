@@ -15,9 +15,9 @@ use Rattle.format.specs.Words.{fields-of, formed, spare-of}
 use Rattle.format.specs.Statement.{Statement, statement, statements}
 use Rattle.format.specs.Bundle.{head-fits, count-in, laid-out, all-formed}
 use Rattle.format.specs.Numbers.{bundle-words}
-use Rattle.certificate.specs.declared.Which.{Which}
-use Rattle.certificate.specs.declared.Group.{Group}
-use Rattle.certificate.specs.Rules.{which, wanted, in-order, holds, some}
+use Rattle.rules.specs.declared.Which.{Which}
+use Rattle.rules.specs.declared.Group.{Group}
+use Rattle.rules.specs.Rules.{which, wanted, in-order, holds, some}
 use Rattle.certificate.specs.Check.{every}
 
 -- the smaller of two numbers

@@ -8,7 +8,7 @@ use Rattle.laws.specs.Refusals.{All}
 use Rattle.format.specs.Numbers.{most-statements, bundle-words}
 use Rattle.format.specs.Statement.{statements, verifies, hmac-code}
 use Rattle.format.specs.Bundle.{count-in, main-of, certificate-of, all-formed}
-use Rattle.certificate.specs.Rules.{Backed}
+use Rattle.rules.specs.Rules.{Backed}
 use Rattle.certificate.specs.Check.{checked}
 
 -- "A bundle is a head word (bits 31..30 are 3, bits 29..16 zero, bits 15..0 the count of certificate statements, 0 to 32), one main statement, then

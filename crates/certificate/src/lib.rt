@@ -1,7 +1,9 @@
-// The certificate rules and the validity check (document 01, "Validity"). The contracts cite specs/.
+// A certificate held against the rules, and the validity check (document 01, "Validity"). The contracts cite specs/.
 use format::Fields;
 use format::Round;
 use hmac::Prepared;
+use rules::Group;
+use rules::Which;
 ghost use mathlib.Core.Path.{_≡_};
 ghost use mathlib.Core.Bool.{_&&_};
 ghost use Prim.Native.Nat.{ℕ, _+_, _-_, _*_, _≤_, _<_};
@@ -10,45 +12,9 @@ ghost use Rattle.hmac.specs.Hmac.{code-from};
 ghost use Rattle.format.specs.Words.{fields-of, spare-of};
 ghost use Rattle.format.specs.Statement.{statement, statements, same-words, hmac-code, verifies};
 ghost use Rattle.format.specs.Bundle.{laid-out, all-formed, main-of};
-ghost use Rattle.certificate.specs.Rules.{which, wanted, some, holds, inits as Inits, proposals as Proposals, none-votes, first-group, second-group, has-second, early-toss, rest-holds, spread as Spread, groups-hold, rule};
+ghost use Rattle.rules.specs.Rules.{which, some, holds, rest-holds, spread as Spread, groups-hold, rule};
 ghost use Rattle.certificate.specs.Parts.{least};
-ghost use Rattle.certificate.specs.Groups.{proposal-group, vote-group};
 ghost use Rattle.certificate.specs.Check.{one-question, all-verify, question-fits, judged, checked};
-
-// What a group asks of a value or a flag.
-pub enum Which {
-    Any,
-    Only(u32),
-}
-
-// A certificate group: how many statements, of which kind and round, with which value and flag.
-pub struct Group {
-    pub size: u32,
-    pub kind: u32,
-    pub round: Round,
-    pub value: Which,
-    pub flag: Which,
-}
-
-pub fn allows(w: Which, x: u32) -> bool
-    ensures { λ r. ⌜ r ≡ which w x ⌝ }
-{
-    match w {
-        Which::Any => true,
-        Which::Only(v) => x == v,
-    }
-}
-
-// Whether a statement with these fields is one that the group asks for.
-pub fn is_wanted(g: Group, f: Fields) -> bool
-    ensures { λ r. ⌜ r ≡ wanted g (f .kind) (f .value) (f .flag) (f .round .0) ⌝ }
-{
-    let a = g.round;
-    let b = f.round;
-    let v = g.value;
-    let w = g.flag;
-    (f.kind == g.kind) & (b.0 == a.0) & allows(v, f.value) & allows(w, f.flag)
-}
 
 // Whether the `have` statements from word `at` on are the group.
 fn group_holds(ws: &[u32], at: usize, have: usize, g: Group) -> bool
@@ -63,7 +29,7 @@ fn group_holds(ws: &[u32], at: usize, have: usize, g: Group) -> bool
     while i < have {
         let f = format::read_fields(ws[at + i * 10]);
         let station = f.station;
-        if !(is_wanted(g, f) & (last < station)) {
+        if !(rules::is_wanted(g, f) & (last < station)) {
             return false;
         }
         last = station;
@@ -80,126 +46,12 @@ fn some_with(ws: &[u32], at: usize, have: usize, value: Which, flag: Which) -> b
     let mut i: usize = 0;
     while i < have {
         let f = format::read_fields(ws[at + i * 10]);
-        if allows(value, f.value) & allows(flag, f.flag) {
+        if rules::allows(value, f.value) & rules::allows(flag, f.flag) {
             return true;
         }
         i += 1;
     }
     false
-}
-
-// The round before, as the definitions count it: 0 before round 0.
-pub fn round_before(r: Round) -> Round
-    ensures { λ b. ⌜ b .0 ≡ r .0 - 1 ⌝ }
-{
-    if r.0 == 0 {
-        return Round(0);
-    }
-    Round(r.0 - 1)
-}
-
-// The INITs that back a first proposal of v.
-fn inits(n: u32, v: u32) -> Group
-    ensures { λ g. ⌜ g ≡ Inits n v ⌝ }
-{
-    let needed = format::backing(n, v);
-    Group {
-        size: needed,
-        kind: 0,
-        round: Round(0),
-        value: Which::Only(v),
-        flag: Which::Any,
-    }
-}
-
-// A quorum of P.
-pub fn proposals(n: u32, r: Round, value: Which, flag: Which) -> Group
-    ensures { λ g. ⌜ g ≡ Proposals n (r .0) value flag ⌝ }
-{
-    let q = format::quorum(n);
-    Group {
-        size: q,
-        kind: 1,
-        round: r,
-        value: value,
-        flag: flag,
-    }
-}
-
-// A quorum of V with none.
-pub fn votes_for_none(n: u32, r: Round) -> Group
-    ensures { λ g. ⌜ g ≡ none-votes n (r .0) ⌝ }
-{
-    let votes = format::quorum(n);
-    Group {
-        size: votes,
-        kind: 2,
-        round: r,
-        value: Which::Only(2),
-        flag: Which::Any,
-    }
-}
-
-// The group of a P by rules 2, 3 and 4.
-fn group_of_proposal(n: u32, value: u32, flag: u32, r: Round) -> Group
-    ensures { λ g. ⌜ g ≡ proposal-group n value flag (r .0) ⌝ }
-{
-    if r.0 == 1 {
-        return inits(n, value);
-    }
-    if flag == 0 {
-        return proposals(n, round_before(r), Which::Only(value), Which::Any);
-    }
-    votes_for_none(n, round_before(r))
-}
-
-// The first group of a V by rules 5, 6 and 7.
-fn group_of_vote(n: u32, value: u32, r: Round) -> Group
-    ensures { λ g. ⌜ g ≡ vote-group n value (r .0) ⌝ }
-{
-    if value < 2 {
-        return proposals(n, r, Which::Only(value), Which::Any);
-    }
-    if r.0 == 1 {
-        return proposals(n, Round(1), Which::Any, Which::Only(0));
-    }
-    proposals(n, r, Which::Any, Which::Any)
-}
-
-// The first group that the rules ask of a P or a V with these fields.
-fn first_group(n: u32, f: Fields) -> Group
-    ensures { λ g. ⌜ g ≡ first-group n (f .kind) (f .value) (f .flag) (f .round .0) ⌝ }
-{
-    let r = f.round;
-    if f.kind == 1 {
-        return group_of_proposal(n, f.value, f.flag, r);
-    }
-    group_of_vote(n, f.value, r)
-}
-
-// The second group of rules 5 and 7.
-fn second_group(n: u32, value: u32, r: Round) -> Group
-    ensures { λ g. ⌜ g ≡ second-group n value (r .0) ⌝ }
-{
-    let b = round_before(r);
-    if value < 2 {
-        return proposals(n, b, Which::Only(value), Which::Any);
-    }
-    votes_for_none(n, b)
-}
-
-// Whether rules 5 and 7 ask for a second group; dget says that one of the first group is D-GET.
-fn has_second(kind: u32, value: u32, r: Round, dget: bool) -> bool
-    ensures { λ b. ⌜ b ≡ has-second kind value (r .0) dget ⌝ }
-{
-    (kind == 2) & (1 < r.0) & ((value == 2) | dget)
-}
-
-// Whether it is an R-GET of round 1, for which there is no coin.
-fn early_toss(kind: u32, flag: u32, r: Round) -> bool
-    ensures { λ b. ⌜ b ≡ early-toss kind flag (r .0) ⌝ }
-{
-    (kind == 1) & (r.0 == 1) & (flag == 1)
 }
 
 // Whether the first `have` statements of the certificate are spread over both values, where the main statement m is a V with none.
@@ -219,8 +71,8 @@ fn rest_holds(ws: &[u32], n: u32, m: Fields, have: usize, rest: usize) -> bool
 {
     let r = m.round;
     let dget = some_with(ws, 11, have, Which::Any, Which::Only(0));
-    if has_second(m.kind, m.value, r, dget) {
-        return group_holds(ws, 11 + have * 10, rest, second_group(n, m.value, r));
+    if rules::has_second(m.kind, m.value, r, dget) {
+        return group_holds(ws, 11 + have * 10, rest, rules::second_group(n, m.value, r));
     }
     rest == 0
 }
@@ -254,10 +106,10 @@ fn rule_holds(ws: &[u32], n: u32, count: usize) -> bool
     if m.kind == 0 {
         return count == 0;
     }
-    if early_toss(m.kind, m.flag, r) {
+    if rules::early_toss(m.kind, m.flag, r) {
         return false;
     }
-    groups_hold(ws, n, m, first_group(n, m), count)
+    groups_hold(ws, n, m, rules::first_group(n, m), count)
 }
 
 // Whether the words are laid out as a bundle.
@@ -364,7 +216,7 @@ fn question_fits(ws: &[u32], count: usize, asked: Which) -> bool
     requires { ⌜ 11 + count * 10 ≤ length (now ws) ⌝ }
     ensures { λ r. ⌜ r ≡ question-fits asked (main-of (now (ws .entry))) (statements (now (ws .entry)) 11 count) ⌝ }
 {
-    same_question(ws, count) & allows(asked, ws[2])
+    same_question(ws, count) & rules::allows(asked, ws[2])
 }
 
 // The answer for the words given, under the group's key and n, where the question is to be one or may be any.

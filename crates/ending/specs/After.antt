@@ -11,7 +11,7 @@ use Rattle.laws.specs.Pick.{pick, here, skip}
 use Rattle.format.specs.Numbers.{kind-P, kind-V, none, D-GET, R-GET, last-round}
 use Rattle.format.specs.Group.{backing}
 use Rattle.format.specs.Statement.{Statement}
-use Rattle.certificate.specs.Rules.{some-D-GET}
+use Rattle.rules.specs.Rules.{some-D-GET}
 use Rattle.station.specs.declared.Stage.{Stage}
 use Rattle.station.specs.declared.Stage.the-variants.{Gathering, Proposing, Voting}
 use Rattle.station.specs.Machine.{State, Next, next, proposing, voting, round-in, has-value, first-value, vote-value, carried, follows, closes}

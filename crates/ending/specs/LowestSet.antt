@@ -15,7 +15,7 @@ use Rattle.laws.specs.Sets.{bit}
 use Rattle.format.specs.Statement.{Statement, statement, written}
 use Rattle.station.specs.Machine.{those}
 use Rattle.station.specs.Words.{sites, held-in, set-of, slot-of, slots-of}
-use Rattle.certificate.specs.Rules.{Rising}
+use Rattle.rules.specs.Rules.{Rising}
 use Rattle.format.specs.ReadBack.{Proper, statement-drop, statement-back}
 use Rattle.station.specs.Slots.{all-two, bit-set, slot-held, slot-at, held-back}
 use Rattle.station.specs.Sane.{find}

@@ -13,9 +13,9 @@ use Rattle.laws.specs.Sets.{bit}
 use Rattle.format.specs.declared.Fields.{Fields}
 use Rattle.format.specs.Words.{fields-of}
 use Rattle.format.specs.Statement.{Statement, statement}
-use Rattle.certificate.specs.declared.Which.{Which}
-use Rattle.certificate.specs.declared.Which.the-variants.{Any, Only}
-use Rattle.certificate.specs.Rules.{which, some}
+use Rattle.rules.specs.declared.Which.{Which}
+use Rattle.rules.specs.declared.Which.the-variants.{Any, Only}
+use Rattle.rules.specs.Rules.{which, some}
 use Rattle.certificate.specs.Check.{every}
 use Rattle.station.specs.Machine.{number-of, has-value, first-value}
 use Rattle.station.specs.Words.{sites, held-in}

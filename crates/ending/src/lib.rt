@@ -1,7 +1,7 @@
 // What follows the end of a step, from a station's words (document 01, "The station"). The contracts cite specs/ here and of
 // crate station.
-use certificate::Which;
 use format::Round;
+use rules::Which;
 use station::Stage;
 ghost use mathlib.Core.Path.{_≡_};
 ghost use Prim.Native.Nat.{_*_, _^_, _<_};
@@ -9,7 +9,7 @@ ghost use Rattle.laws.specs.Count.{one-if};
 ghost use Rattle.laws.specs.Pick.{pick};
 ghost use Rattle.format.specs.Numbers.{none};
 ghost use Rattle.certificate.specs.Check.{every};
-ghost use Rattle.certificate.specs.Rules.{some-value, some-D-GET};
+ghost use Rattle.rules.specs.Rules.{some-value, some-D-GET};
 ghost use Rattle.station.specs.Machine.{number-of, has-value, first-value as FirstValue, vote-value as VoteValue, carried as Carried, decision-after, decision-at, closes as Closes};
 ghost use Rattle.station.specs.Words.{held-in, sites};
 ghost use Rattle.ending.specs.Number.{such};
@@ -51,7 +51,7 @@ fn number_held(slots: &[u32; 310], set: u32, value: Which, flag: Which) -> u32
     while i < 31 {
         let at = (i * 10) as usize;
         let f = format::read_fields(slots[at]);
-        let wanted = certificate::allows(value, f.value) & certificate::allows(flag, f.flag);
+        let wanted = rules::allows(value, f.value) & rules::allows(flag, f.flag);
         count += one_if(fitness::is_heard(set, i) & wanted);
         i += 1;
     }

@@ -11,8 +11,8 @@ use Rattle.format.specs.declared.Fields.{Fields}
 use Rattle.format.specs.Words.{fields-of, formed}
 use Rattle.format.specs.Statement.{Statement, statements}
 use Rattle.format.specs.Bundle.{all-formed}
-use Rattle.certificate.specs.declared.Group.{Group}
-use Rattle.certificate.specs.Rules.{wanted, in-order, holds}
+use Rattle.rules.specs.declared.Group.{Group}
+use Rattle.rules.specs.Rules.{wanted, in-order, holds}
 use Rattle.certificate.specs.Check.{every}
 use Rattle.certificate.specs.Parts.{parts-start, order-turn, holds-start, every-turn, formed-start, formed-turn}
 

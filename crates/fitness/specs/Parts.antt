@@ -17,8 +17,8 @@ use Rattle.format.specs.Group.{size-fits, quorum}
 use Rattle.format.specs.declared.Fields.{Fields}
 use Rattle.format.specs.Words.{fields-of, of-group}
 use Rattle.format.specs.Statement.{Statement, statement}
-use Rattle.certificate.specs.declared.Group.{Group}
-use Rattle.certificate.specs.Rules.{some, none-votes}
+use Rattle.rules.specs.declared.Group.{Group}
+use Rattle.rules.specs.Rules.{some, none-votes}
 use Rattle.certificate.specs.Parts.{and-pick}
 use Rattle.station.specs.declared.Stage.{Stage}
 use Rattle.station.specs.declared.Stage.the-variants.{Gathering, Proposing, Voting}

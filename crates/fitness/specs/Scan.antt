@@ -16,7 +16,7 @@ use Rattle.laws.specs.Bools.{both}
 use Rattle.laws.specs.Sets.{bit}
 use Rattle.format.specs.Words.{formed, fields-of, station-of}
 use Rattle.format.specs.Statement.{Statement, statement}
-use Rattle.certificate.specs.Rules.{some}
+use Rattle.rules.specs.Rules.{some}
 use Rattle.station.specs.Machine.{held-of}
 use Rattle.station.specs.Words.{sites, held-in, leading}
 use Rattle.station.specs.Fit.{zeros, slot-fits, slots-fit}

@@ -1,8 +1,8 @@
 // Whether a station fits its module (document 01, "A station fits if", and docs/STATION.md). The contracts cite specs/ of crate station.
-use certificate::Group;
-use certificate::Which;
 use format::Round;
 use format::Step;
+use rules::Group;
+use rules::Which;
 use sealed::Module;
 use station::Stage;
 use station::Station;
@@ -13,7 +13,7 @@ ghost use lib.Dec.{eqb};
 ghost use Rattle.laws.specs.Sets.{bit};
 ghost use Rattle.format.specs.Statement.{statements};
 ghost use Rattle.format.specs.Bundle.{all-formed};
-ghost use Rattle.certificate.specs.Rules.{holds, some};
+ghost use Rattle.rules.specs.Rules.{holds, some};
 ghost use Rattle.certificate.specs.Check.{every};
 ghost use Rattle.sealed.specs.Sealed.{module-fits};
 ghost use Rattle.station.specs.Machine.{stage-step, round-in};
@@ -154,10 +154,10 @@ fn first_of_round(n: u32, stage: Stage, v: u32) -> Group
     match stage {
         Stage::Gathering => no_group(),
         Stage::Proposing(r, _) => {
-            let before = certificate::round_before(r);
-            certificate::proposals(n, before, Which::Only(v), Which::Any)
+            let before = rules::round_before(r);
+            rules::proposals(n, before, Which::Only(v), Which::Any)
         }
-        Stage::Voting(r) => certificate::proposals(n, r, Which::Only(v), Which::Any),
+        Stage::Voting(r) => rules::proposals(n, r, Which::Only(v), Which::Any),
     }
 }
 
@@ -167,8 +167,8 @@ fn round_before_in(stage: Stage) -> Round
 {
     match stage {
         Stage::Gathering => Round(0),
-        Stage::Proposing(r, _) => certificate::round_before(r),
-        Stage::Voting(r) => certificate::round_before(r),
+        Stage::Proposing(r, _) => rules::round_before(r),
+        Stage::Voting(r) => rules::round_before(r),
     }
 }
 
@@ -189,7 +189,7 @@ fn kept_second(slots: &[u32; 310], heard: u32, n: u32, stage: Stage) -> Group
 {
     let s = lowest_supplier(slots, heard, stage, 1);
     if s.found {
-        return certificate::votes_for_none(n, round_before_in(stage));
+        return rules::votes_for_none(n, round_before_in(stage));
     }
     no_group()
 }
@@ -206,7 +206,7 @@ fn in_order(ws: &[u32; 160], g: Group) -> bool
         let at = (i * 10) as usize;
         let f = format::read_fields(ws[at]);
         let station = f.station;
-        if !(certificate::is_wanted(g, f) & (last < station)) {
+        if !(rules::is_wanted(g, f) & (last < station)) {
             return false;
         }
         last = station;

@@ -14,7 +14,7 @@ use Rattle.format.specs.Numbers.{none, bundle-words, kind-P, kind-V, D-GET, R-G
 use Rattle.format.specs.Group.{quorum, backing}
 use Rattle.format.specs.declared.Fields.{Fields}
 use Rattle.format.specs.Statement.{Statement, step}
-use Rattle.certificate.specs.Rules.{some-D-GET}
+use Rattle.rules.specs.Rules.{some-D-GET}
 use Rattle.certificate.specs.Check.{every}
 use Rattle.sealed.specs.declared.Module.{Module}
 use Rattle.sealed.specs.Sealed.{above, last-for, advanced, module-fits}

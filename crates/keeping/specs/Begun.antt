@@ -18,12 +18,12 @@ use Rattle.format.specs.Numbers.{most-statements, bundle-words}
 use Rattle.format.specs.Group.{quorum}
 use Rattle.format.specs.Statement.{Statement, statements}
 use Rattle.format.specs.Bundle.{main-of, certificate-of, all-formed}
-use Rattle.certificate.specs.declared.Group.{Group}
+use Rattle.rules.specs.declared.Group.{Group}
 use Rattle.certificate.specs.Check.{every}
 use Rattle.station.specs.declared.Stage.{Stage}
 use Rattle.station.specs.declared.Stage.the-variants.{Gathering, Proposing, Voting}
 use Rattle.station.specs.declared.Station.{Station}
-use Rattle.certificate.specs.Rules.{some, holds, in-order}
+use Rattle.rules.specs.Rules.{some, holds, in-order}
 use Rattle.station.specs.Machine.{State, stage-step, keeping, insert, held-of, takes, began, supplies-first, supplies-second}
 use Rattle.station.specs.Words.{state-of, bundle-of, held-in, held-by, kept-first, kept-second, no-group, Lengths}
 use Rattle.station.specs.Words as W

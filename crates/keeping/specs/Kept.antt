@@ -13,7 +13,7 @@ use Rattle.format.specs.declared.Fields.{Fields}
 use Rattle.format.specs.Words.{fields-of}
 use Rattle.format.specs.Statement.{Statement}
 use Rattle.certificate.specs.Parts.{least}
-use Rattle.certificate.specs.Rules.{some}
+use Rattle.rules.specs.Rules.{some}
 use Rattle.station.specs.declared.Stage.{Stage}
 use Rattle.station.specs.declared.Stage.the-variants.{Gathering, Proposing, Voting}
 use Rattle.station.specs.declared.Held.{Held}

@@ -17,9 +17,9 @@ use Rattle.format.specs.Numbers.{none}
 use Rattle.format.specs.Group.{quorum}
 use Rattle.format.specs.Statement.{Statement, statement, statements, written}
 use Rattle.format.specs.Bundle.{all-formed}
-use Rattle.certificate.specs.declared.Group.{Group}
+use Rattle.rules.specs.declared.Group.{Group}
 use Rattle.certificate.specs.Check.{every}
-use Rattle.certificate.specs.Rules.{Rising, holds, some}
+use Rattle.rules.specs.Rules.{Rising, holds, some}
 use Rattle.station.specs.declared.Station.{Station}
 use Rattle.station.specs.Machine.{held-of, stage-step}
 use Rattle.station.specs.Words.{set-of, slot-of, slots-of, group-words, sites, held-by, kept-first, kept-second, state-of, Lengths}

@@ -14,7 +14,7 @@ use Rattle.format.specs.Words.{fields-of, formed}
 use Rattle.format.specs.Statement.{Statement, statements, written}
 use Rattle.format.specs.Bundle.{all-formed}
 use Rattle.certificate.specs.Parts.{least, least-fits, parts-take, parts-length}
-use Rattle.certificate.specs.Rules.{some}
+use Rattle.rules.specs.Rules.{some}
 use Rattle.station.specs.declared.Stage.{Stage}
 use Rattle.station.specs.declared.Stage.the-variants.{Gathering, Proposing, Voting}
 use Rattle.station.specs.Machine.{insert, held-of, supplies-first, supplies-second}

@@ -19,7 +19,7 @@ use Rattle.format.specs.declared.Fields.{Fields}
 use Rattle.format.specs.Words.{fields-of}
 use Rattle.format.specs.Statement.{Statement, statement}
 use Rattle.certificate.specs.Parts.{least, least-fits}
-use Rattle.certificate.specs.Rules.{some}
+use Rattle.rules.specs.Rules.{some}
 use Rattle.station.specs.declared.Stage.{Stage}
 use Rattle.station.specs.Words.{held-in}
 use Rattle.keeping.specs.Kept.{words-kept, supplier, lower-supplier}

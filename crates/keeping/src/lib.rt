@@ -11,7 +11,7 @@ ghost use lib.Seq.{paste};
 ghost use Rattle.laws.specs.Pick.{pick};
 ghost use Rattle.laws.specs.Sets.{bit};
 ghost use Rattle.certificate.specs.Parts.{least};
-ghost use Rattle.certificate.specs.Rules.{some};
+ghost use Rattle.rules.specs.Rules.{some};
 ghost use Rattle.station.specs.Words.{held-in, sites};
 ghost use Rattle.keeping.specs.Kept.{with-station, with-slot, words-kept, group-from, supplier, lower-supplier, replacing, held-with, groups-with, kept-words};
 

@@ -17,8 +17,8 @@ use Rattle.format.specs.declared.Fields.{Fields}
 use Rattle.format.specs.Words.{fields-of, formed, of-group, spare-of, station-of}
 use Rattle.format.specs.Statement.{statements, hmac-code}
 use Rattle.format.specs.Bundle.{laid-out, all-formed, count-in, main-of, certificate-of, bundle-fits}
-use Rattle.certificate.specs.declared.Which.the-variants.{Only}
-use Rattle.certificate.specs.Rules.{rule}
+use Rattle.rules.specs.declared.Which.the-variants.{Only}
+use Rattle.rules.specs.Rules.{rule}
 use Rattle.certificate.specs.Check.{question-fits, all-verify, check-by, judged}
 use Rattle.certificate.specs.Parts.{sizes}
 use Rattle.sealed.specs.declared.Module.{Module}

@@ -1,6 +1,6 @@
 // The first refusal of a given bundle (document 01, "Table of returns"). The contracts cite specs/.
-use certificate::Which;
 use format::Fields;
+use rules::Which;
 use sealed::Module;
 use station::Stage;
 use station::Station;
@@ -8,7 +8,7 @@ ghost use mathlib.Core.Path.{_≡_};
 ghost use mathlib.Core.List.{[], _∷_};
 ghost use Prim.Native.Nat.{_-_, _≤_};
 ghost use Rattle.laws.specs.Refusals.{test, first-failed};
-ghost use Rattle.certificate.specs.Rules.{some};
+ghost use Rattle.rules.specs.Rules.{some};
 ghost use Rattle.station.specs.Words.{held-in, sites};
 ghost use Rattle.refusal.specs.Refusal.{having, both-values as BothValues, conflicting, step-refused, first-refusal};
 
@@ -20,7 +20,7 @@ fn some_held(slots: &[u32; 310], heard: u32, flag: Which, value: u32) -> bool
     while i < 31 {
         let at = (i * 10) as usize;
         let f = format::read_fields(slots[at]);
-        if fitness::is_heard(heard, i) & (certificate::allows(flag, f.flag) & (f.value == value)) {
+        if fitness::is_heard(heard, i) & (rules::allows(flag, f.flag) & (f.value == value)) {
             return true;
         }
         i += 1;
@@ -34,7 +34,7 @@ fn both_values(slots: &[u32; 310], heard: u32, wanted: Which, value: u32, flag: 
 {
     let zero = some_held(slots, heard, wanted, 0);
     let one = some_held(slots, heard, wanted, 1);
-    let such = certificate::allows(wanted, flag);
+    let such = rules::allows(wanted, flag);
     ((such & (value == 0)) | zero) & ((such & (value == 1)) | one)
 }
 

@@ -14,8 +14,8 @@ use Rattle.laws.specs.Refusals.{All, Test, test}
 use Rattle.format.specs.Numbers.{kept, output-words, no-certificate}
 use Rattle.format.specs.Statement.{statements}
 use Rattle.format.specs.Bundle.{count-in, main-of, certificate-of, bundle-fits}
-use Rattle.certificate.specs.declared.Which.the-variants.{Only}
-use Rattle.certificate.specs.Rules.{rule}
+use Rattle.rules.specs.declared.Which.the-variants.{Only}
+use Rattle.rules.specs.Rules.{rule}
 use Rattle.certificate.specs.Check.{question-fits, all-verify}
 use Rattle.sealed.specs.declared.Module.{Module}
 use Rattle.sealed.specs.Sealed.{module-fits, last-for}

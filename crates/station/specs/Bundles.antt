@@ -14,7 +14,7 @@ use Rattle.format.specs.Group.{backing}
 use Rattle.format.specs.Words.{fields-of, formed}
 use Rattle.format.specs.Statement.{Statement, statement, statements, written, verifies}
 use Rattle.format.specs.Bundle.{count-in, main-of, certificate-of, all-formed}
-use Rattle.certificate.specs.Rules.{Backed, rule-1, rule-2, rule-3, rule-4, rule-5, rule-6, rule-7, some-D-GET}
+use Rattle.rules.specs.Rules.{Backed, rule-1, rule-2, rule-3, rule-4, rule-5, rule-6, rule-7, some-D-GET}
 use Rattle.certificate.specs.Valid.{Bundle, Valid}
 use Rattle.station.specs.Words.{all-written, bundle-of}
 use Rattle.station.specs.ReadBack.{statements-drop, statements-back, length-all}

@@ -9,7 +9,7 @@ use Rattle.laws.specs.Refusals.{Test, test, first-failed}
 use Rattle.format.specs.Numbers.{none, short-output, output-words, out-of-range, station-closed, bundle-words}
 use Rattle.format.specs.Statement.{step}
 use Rattle.format.specs.Bundle.{main-of, certificate-of}
-use Rattle.certificate.specs.declared.Which.the-variants.{Only}
+use Rattle.rules.specs.declared.Which.the-variants.{Only}
 use Rattle.certificate.specs.Check.{bundle-tests}
 use Rattle.sealed.specs.declared.Module.{Module}
 use Rattle.sealed.specs.Sealed.{module-fits, last-for, advanced}

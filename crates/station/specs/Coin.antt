@@ -13,7 +13,7 @@ use Rattle.format.specs.Numbers.{kind-P, none, D-GET, R-GET, kept, sent, sent-d
 use Rattle.format.specs.Group.{quorum}
 use Rattle.format.specs.Statement.{Statement, step}
 use Rattle.format.specs.Bundle.{main-of, certificate-of}
-use Rattle.certificate.specs.Rules.{some, some-value}
+use Rattle.rules.specs.Rules.{some, some-value}
 use Rattle.certificate.specs.Check.{every}
 use Rattle.sealed.specs.declared.Last.{Last}
 use Rattle.sealed.specs.declared.Module.{Module}

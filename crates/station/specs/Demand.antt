@@ -10,7 +10,7 @@ use lib.ListN.{length, take, drop}
 use Rattle.format.specs.Numbers.{kind-P, R-GET, sent, output-words, out-of-range, malformed, other-question, wrong-code, no-certificate}
 use Rattle.format.specs.Statement.{Statement, statement}
 use Rattle.format.specs.Bundle.{main-of}
-use Rattle.certificate.specs.declared.Which.the-variants.{Any}
+use Rattle.rules.specs.declared.Which.the-variants.{Any}
 use Rattle.certificate.specs.Check.{check-by}
 use Rattle.sealed.specs.declared.Module.{Module}
 use Rattle.sealed.specs.Sealed.{module-fits, is-toss, coding-plain, coding-coin}

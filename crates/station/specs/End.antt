@@ -16,8 +16,8 @@ use Rattle.format.specs.Numbers.{kind-INIT, kind-P, kind-V, none, D-GET, R-GET,
 use Rattle.format.specs.Group.{quorum, backing, proposed-0, proposed-1}
 use Rattle.format.specs.Statement.{Statement, well-formed, step}
 use Rattle.format.specs.Shape.{Shape, init, proposal, vote, Formed, formed-out}
-use Rattle.certificate.specs.declared.Which.the-variants.{Any, Only}
-use Rattle.certificate.specs.Rules.{which, matches, Rising, Holds, some, some-D-GET, some-value, inits, proposals, none-votes, Backed, rule-2, rule-3, rule-4, rule-5, rule-6, rule-7}
+use Rattle.rules.specs.declared.Which.the-variants.{Any, Only}
+use Rattle.rules.specs.Rules.{which, matches, Rising, Holds, some, some-D-GET, some-value, inits, proposals, none-votes, Backed, rule-2, rule-3, rule-4, rule-5, rule-6, rule-7}
 use Rattle.certificate.specs.Check.{every}
 use Rattle.certificate.specs.Exact.{every-out}
 use Rattle.station.specs.declared.Stage.{Stage}

@@ -13,8 +13,8 @@ use Rattle.format.specs.Group.{quorum}
 use Rattle.format.specs.Words.{flag-of, formed, fields-of, step-of, kind-of, round-of, station-of}
 use Rattle.format.specs.Statement.{statements}
 use Rattle.format.specs.Bundle.{all-formed}
-use Rattle.certificate.specs.declared.Group.{Group}
-use Rattle.certificate.specs.Rules.{holds}
+use Rattle.rules.specs.declared.Group.{Group}
+use Rattle.rules.specs.Rules.{holds}
 use Rattle.certificate.specs.Check.{every}
 use Rattle.station.specs.declared.Stage.{Stage}
 use Rattle.station.specs.declared.Stage.the-variants.{Gathering, Proposing, Voting}

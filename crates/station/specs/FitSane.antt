@@ -20,9 +20,9 @@ use Rattle.format.specs.Words.{fields-of, formed, flag-of, station-of}
 use Rattle.format.specs.Statement.{Statement, statement, statements, well-formed, step}
 use Rattle.format.specs.Bundle.{all-formed}
 use Rattle.format.specs.Layout.{formed-well, all-well}
-use Rattle.certificate.specs.declared.Group.{Group}
-use Rattle.certificate.specs.Rules.{Rising, holds, some, none-votes}
-use Rattle.certificate.specs.Backed.{holds-out}
+use Rattle.rules.specs.declared.Group.{Group}
+use Rattle.rules.specs.Rules.{Rising, holds, some, none-votes}
+use Rattle.rules.specs.Backed.{holds-out}
 use Rattle.certificate.specs.Check.{every}
 use Rattle.certificate.specs.Exact.{every-out}
 use Rattle.station.specs.declared.Stage.{Stage}

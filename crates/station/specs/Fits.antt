@@ -16,7 +16,7 @@ use Rattle.format.specs.Words.{step-of}
 use Rattle.format.specs.Statement.{Statement, step}
 use Rattle.format.specs.Bundle.{main-of, certificate-of}
 use Rattle.format.specs.Shape.{Shape, init, proposal, formed-in}
-use Rattle.certificate.specs.Rules.{Holds, some, none-votes, Backed}
+use Rattle.rules.specs.Rules.{Holds, some, none-votes, Backed}
 use Rattle.sealed.specs.declared.Module.{Module}
 use Rattle.sealed.specs.Sealed.{last-for}
 use Rattle.station.specs.declared.Stage.{Stage}

@@ -11,7 +11,7 @@ use Rattle.laws.specs.Pick.{pick}
 use Rattle.laws.specs.Bools.{never}
 use Rattle.laws.specs.Refusals.{All}
 use Rattle.format.specs.Statement.{Statement}
-use Rattle.certificate.specs.Rules.{Rising, some}
+use Rattle.rules.specs.Rules.{Rising, some}
 use Rattle.certificate.specs.Check.{every}
 use Rattle.format.specs.Numbers.{D-GET}
 use Rattle.station.specs.declared.Stage.{Stage}

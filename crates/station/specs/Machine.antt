@@ -10,7 +10,7 @@ use Rattle.format.specs.Numbers.{kind-INIT, kind-P, kind-V, none, D-GET, R-GET,
 use Rattle.format.specs.Group.{quorum, backing}
 use Rattle.format.specs.Words.{step-of}
 use Rattle.format.specs.Statement.{Statement, step}
-use Rattle.certificate.specs.Rules.{group, proposals, some, some-D-GET, some-value}
+use Rattle.rules.specs.Rules.{group, proposals, some, some-D-GET, some-value}
 use Rattle.certificate.specs.Check.{every}
 use Rattle.sealed.specs.declared.Last.{Last}
 use Rattle.sealed.specs.Sealed.{above, signed}

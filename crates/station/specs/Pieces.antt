@@ -12,8 +12,8 @@ use Rattle.laws.specs.Bools.{never, join, left, right}
 use Rattle.laws.specs.Refusals.{All}
 use Rattle.format.specs.Numbers.{none}
 use Rattle.format.specs.Statement.{Statement}
-use Rattle.certificate.specs.declared.Which.{Which}
-use Rattle.certificate.specs.Rules.{which, wanted, matches, Rising, some}
+use Rattle.rules.specs.declared.Which.{Which}
+use Rattle.rules.specs.Rules.{which, wanted, matches, Rising, some}
 use Rattle.certificate.specs.Check.{every}
 use Rattle.station.specs.Machine.{number-of, has-value, those}
 use Rattle.station.specs.Words.{leading}

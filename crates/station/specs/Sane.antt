@@ -20,9 +20,9 @@ use Rattle.format.specs.Words.{fields-of, formed, kind-of, flag-of, station-of,
 use Rattle.format.specs.Statement.{Statement, statement, statements, word-0, written, step}
 use Rattle.format.specs.Bundle.{all-formed}
 use Rattle.format.specs.Shape.{formed-out}
-use Rattle.certificate.specs.declared.Group.{Group}
-use Rattle.certificate.specs.Rules.{Rising, Holds, holds, some}
-use Rattle.certificate.specs.Backed.{holds-in}
+use Rattle.rules.specs.declared.Group.{Group}
+use Rattle.rules.specs.Rules.{Rising, Holds, holds, some}
+use Rattle.rules.specs.Backed.{holds-in}
 use Rattle.certificate.specs.Check.{every}
 use Rattle.certificate.specs.Exact.{every-in}
 use Rattle.station.specs.declared.Stage.{Stage}

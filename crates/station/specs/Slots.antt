@@ -16,7 +16,7 @@ use Rattle.laws.specs.Refusals.{All, all-map}
 use Rattle.laws.specs.Sets.{bit, set-same, set-other, ones-bit-set, bit-fits}
 use Rattle.format.specs.Statement.{Statement, statement, written}
 use Rattle.format.specs.Shape.{formed-out}
-use Rattle.certificate.specs.Rules.{Rising, some}
+use Rattle.rules.specs.Rules.{Rising, some}
 use Rattle.station.specs.Machine.{held-of}
 use Rattle.station.specs.Words.{held-in, set-of, slot-of, slots-of, sites}
 use Rattle.format.specs.ReadBack.{Proper, statement-drop, statement-back, length-written}

@@ -14,7 +14,7 @@ use Rattle.format.specs.Numbers.{output-words}
 use Rattle.format.specs.Statement.{hmac-code}
 use Rattle.format.specs.Bundle.{main-of, certificate-of}
 use Rattle.format.specs.Codes.{hmac-eight}
-use Rattle.certificate.specs.declared.Which.the-variants.{Any, Only}
+use Rattle.rules.specs.declared.Which.the-variants.{Any, Only}
 use Rattle.certificate.specs.Check.{one-question, bundle-tests, check-tests, check-by}
 use Rattle.sealed.specs.declared.Module.{Module}
 use Rattle.sealed.specs.Sealed.{module-fits, last-for}

@@ -16,10 +16,10 @@ use Rattle.format.specs.Statement.{Statement, statement, statements, well-forme
 use Rattle.format.specs.Bundle.{count-in, main-of, certificate-of}
 use Rattle.format.specs.Layout.{all-well}
 use Rattle.format.specs.Shape.{formed-out}
-use Rattle.certificate.specs.Rules.{rule}
-use Rattle.certificate.specs.declared.Which.the-variants.{Only}
+use Rattle.rules.specs.Rules.{rule}
+use Rattle.rules.specs.declared.Which.the-variants.{Only}
 use Rattle.certificate.specs.Check.{one-question, bundle-tests}
-use Rattle.certificate.specs.Backed.{rule-backed}
+use Rattle.rules.specs.Backed.{rule-backed}
 use Rattle.certificate.specs.Valid.{Bundle}
 use Rattle.certificate.specs.Exact.{bundle-out, every-out}
 use Rattle.sealed.specs.declared.Module.{Module}

@@ -19,8 +19,8 @@ use Rattle.format.specs.Statement.{Statement, statements, covered, same-words, 
 use Rattle.format.specs.Bundle.{main-of, certificate-of}
 use Rattle.format.specs.Shape.{init}
 use Rattle.format.specs.Codes.{hmac-eight}
-use Rattle.certificate.specs.declared.Which.the-variants.{Any}
-use Rattle.certificate.specs.Rules.{Backed, rule-1, rule-2, rule-3, rule-4, rule-5, rule-6, rule-7, some-D-GET}
+use Rattle.rules.specs.declared.Which.the-variants.{Any}
+use Rattle.rules.specs.Rules.{Backed, rule-1, rule-2, rule-3, rule-4, rule-5, rule-6, rule-7, some-D-GET}
 use Rattle.certificate.specs.Check.{check-by, judged, checked}
 use Rattle.certificate.specs.Valid.{Valid}
 use Rattle.certificate.specs.Exact.{valid-found}

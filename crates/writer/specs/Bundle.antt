@@ -16,7 +16,7 @@ use Rattle.laws.specs.Sets.{bit}
 use Rattle.format.specs.Numbers.{bundle-words}
 use Rattle.format.specs.Statement.{Statement, word-0, written}
 use Rattle.format.specs.Shape.{formed-out}
-use Rattle.certificate.specs.Rules.{Rising, some}
+use Rattle.rules.specs.Rules.{Rising, some}
 use Rattle.station.specs.Machine.{held-of, those}
 use Rattle.station.specs.Words.{set-of, slot-of, slots-of, all-written, group-words, bundle-of, over, sites}
 use Rattle.station.specs.ReadBack.{length-all}

@@ -5,7 +5,7 @@ use mathlib.Core.Path.{_≡_, refl, sym, ap, _∙_}
 use lib.Dec.{ltb}
 use Rattle.laws.specs.Pick.{pick, here, skip}
 use Rattle.format.specs.Statement.{statements}
-use Rattle.certificate.specs.Rules.{wanted, in-order, holds}
+use Rattle.rules.specs.Rules.{wanted, in-order, holds}
 use Rattle.certificate.specs.Parts.{holds-start, holds-not, order-turn, order-end}
 use borrow.Author.Needs.{needs}
 use Rattle.certificate.proofs.group_holds.Statement.{statement}

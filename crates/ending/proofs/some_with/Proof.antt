@@ -1,5 +1,5 @@
 -- The number is not 0.
-use Rattle.certificate.specs.declared.Which.the-variants.{Any, Only}
+use Rattle.rules.specs.declared.Which.the-variants.{Any, Only}
 use Rattle.station.specs.Words.{held-in, sites}
 use Rattle.ending.specs.Number.{some-such}
 use borrow.Author.Needs.{needs}

@@ -4,7 +4,7 @@ use mathlib.Core.Bool.{true, _&&_}
 use mathlib.Core.Path.{_≡_, refl, sym, _∙_}
 use Rattle.laws.specs.Pick.{pick, here, skip}
 use Rattle.laws.specs.Sets.{bit}
-use Rattle.certificate.specs.Rules.{some}
+use Rattle.rules.specs.Rules.{some}
 use Rattle.station.specs.Words.{held-in, leading, sites}
 use Rattle.fitness.specs.Parts.{supplies, supplies-by, supplies-read, value-read}
 use Rattle.fitness.specs.Scan.{some-turn, some-end, leading-turn, leading-end}

@@ -5,7 +5,7 @@ use mathlib.Core.Path.{_≡_, refl, sym, _∙_}
 use lib.Dec.{ltb}
 use Rattle.laws.specs.Pick.{pick, here, skip}
 use Rattle.laws.specs.Sets.{bit}
-use Rattle.certificate.specs.Rules.{some}
+use Rattle.rules.specs.Rules.{some}
 use Rattle.station.specs.Words.{held-in, sites}
 use Rattle.keeping.specs.Kept.{supplier, lower-supplier}
 use Rattle.keeping.specs.Turns.{supplier-turn, held-end}

@@ -5,7 +5,7 @@ use mathlib.Core.Path.{_≡_, refl, sym, _∙_}
 use lib.Dec.{eqb}
 use Rattle.laws.specs.Pick.{pick, here, skip}
 use Rattle.laws.specs.Sets.{bit}
-use Rattle.certificate.specs.Rules.{which, some}
+use Rattle.rules.specs.Rules.{which, some}
 use Rattle.station.specs.Words.{held-in, sites}
 use Rattle.fitness.specs.Scan.{some-turn, some-end}
 use Rattle.refusal.specs.Refusal.{having, having-read}

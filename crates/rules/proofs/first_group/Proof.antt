@@ -1,9 +1,9 @@
 -- Each way out is a case of the definition.
 use Rattle.laws.specs.Pick.{cases}
-use Rattle.certificate.specs.Groups.{first-is}
+use Rattle.rules.specs.Groups.{first-is}
 use borrow.Author.Needs.{needs}
-use Rattle.certificate.proofs.first_group.Statement.{statement}
-use Rattle.certificate.proofs.first_group.Tie as tie
+use Rattle.rules.proofs.first_group.Statement.{statement}
+use Rattle.rules.proofs.first_group.Tie as tie
 
 group-of-proposal-requires : tie.Need-group-of-proposal-requires
 group-of-proposal-requires c κs = search needs

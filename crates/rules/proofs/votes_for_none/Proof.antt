@@ -2,11 +2,11 @@
 use Prim.Native.Nat.{ℕ}
 use mathlib.Core.Path.{ap}
 use Rattle.format.specs.Numbers.{kind-V, none}
-use Rattle.certificate.specs.declared.Which.the-variants.{Any, Only}
-use Rattle.certificate.specs.Rules.{group}
+use Rattle.rules.specs.declared.Which.the-variants.{Any, Only}
+use Rattle.rules.specs.Rules.{group}
 use borrow.Author.Needs.{needs}
-use Rattle.certificate.proofs.votes_for_none.Statement.{statement}
-use Rattle.certificate.proofs.votes_for_none.Tie as tie
+use Rattle.rules.proofs.votes_for_none.Statement.{statement}
+use Rattle.rules.proofs.votes_for_none.Tie as tie
 
 quorum-requires : tie.Need-quorum-requires
 quorum-requires c κs = search needs

@@ -2,10 +2,10 @@
 use Prim.Native.Nat.{ℕ}
 use mathlib.Core.Path.{ap}
 use Rattle.format.specs.Numbers.{kind-P}
-use Rattle.certificate.specs.Rules.{group}
+use Rattle.rules.specs.Rules.{group}
 use borrow.Author.Needs.{needs}
-use Rattle.certificate.proofs.proposals.Statement.{statement}
-use Rattle.certificate.proofs.proposals.Tie as tie
+use Rattle.rules.proofs.proposals.Statement.{statement}
+use Rattle.rules.proofs.proposals.Tie as tie
 
 quorum-requires : tie.Need-quorum-requires
 quorum-requires c κs = search needs

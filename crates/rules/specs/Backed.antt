@@ -15,9 +15,9 @@ use Rattle.laws.specs.Refusals.{All}
 use Rattle.format.specs.Numbers.{kind-INIT, kind-P, kind-V, none, D-GET, R-GET}
 use Rattle.format.specs.Statement.{Statement}
 use Rattle.format.specs.Shape.{Shape, init, proposal, vote}
-use Rattle.certificate.specs.declared.Which.the-variants.{Any, Only}
-use Rattle.certificate.specs.declared.Group.{Group}
-use Rattle.certificate.specs.Rules.{matches, Rising, Holds, in-order, holds, inits, proposals, none-votes, some-D-GET, some-value, BothValues, Backed, rule-1, rule-2, rule-3, rule-4, rule-5, rule-6, rule-7, first-group, second-group, has-second, early-toss, rest-holds, spread, groups-hold, rule}
+use Rattle.rules.specs.declared.Which.the-variants.{Any, Only}
+use Rattle.rules.specs.declared.Group.{Group}
+use Rattle.rules.specs.Rules.{matches, Rising, Holds, in-order, holds, inits, proposals, none-votes, some-D-GET, some-value, BothValues, Backed, rule-1, rule-2, rule-3, rule-4, rule-5, rule-6, rule-7, first-group, second-group, has-second, early-toss, rest-holds, spread, groups-hold, rule}
 
 -- ---- groups
 order-out : (g : Group) (above : ℕ) (c : List Statement) → in-order g above c ≡ true → Rising above c × All (λ s. matches g s ≡ true) c

@@ -1,7 +1,7 @@
 -- Each arm is a case of the definition.
 use borrow.Author.Needs.{needs}
-use Rattle.certificate.proofs.allows.Statement.{statement}
-use Rattle.certificate.proofs.allows.Tie as tie
+use Rattle.rules.proofs.allows.Statement.{statement}
+use Rattle.rules.proofs.allows.Tie as tie
 
 enum-told : tie.Need-enum-told
 enum-told c = search needs

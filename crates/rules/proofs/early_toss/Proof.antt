@@ -1,8 +1,8 @@
 -- The tests are those of the definition.
 use mathlib.Core.Path.{refl}
-use Rattle.certificate.specs.Rules.{early-toss}
-use Rattle.certificate.proofs.early_toss.Statement.{statement}
-use Rattle.certificate.proofs.early_toss.Tie as tie
+use Rattle.rules.specs.Rules.{early-toss}
+use Rattle.rules.proofs.early_toss.Statement.{statement}
+use Rattle.rules.proofs.early_toss.Tie as tie
 
 returns : tie.Need-returns
 unfolding early-toss

@@ -1,8 +1,8 @@
 -- The tests are those of the definition.
-use Rattle.certificate.specs.Rules.{wanted}
+use Rattle.rules.specs.Rules.{wanted}
 use borrow.Author.Needs.{needs}
-use Rattle.certificate.proofs.is_wanted.Statement.{statement}
-use Rattle.certificate.proofs.is_wanted.Tie as tie
+use Rattle.rules.proofs.is_wanted.Statement.{statement}
+use Rattle.rules.proofs.is_wanted.Tie as tie
 
 allows-requires : tie.Need-allows-requires
 allows-requires c κs = search needs

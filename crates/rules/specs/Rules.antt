@@ -10,9 +10,9 @@ use Rattle.laws.specs.Refusals.{All}
 use Rattle.format.specs.Numbers.{kind-INIT, kind-P, kind-V, none, D-GET, R-GET}
 use Rattle.format.specs.Group.{quorum, backing}
 use Rattle.format.specs.Statement.{Statement}
-use Rattle.certificate.specs.declared.Which.{Which}
-use Rattle.certificate.specs.declared.Which.the-variants.{Any, Only}
-use Rattle.certificate.specs.declared.Group.{Group}
+use Rattle.rules.specs.declared.Which.{Which}
+use Rattle.rules.specs.declared.Which.the-variants.{Any, Only}
+use Rattle.rules.specs.declared.Group.{Group}
 
 -- what a group asks of a value or a flag
 abbrev pub which : Which → ℕ → Bool

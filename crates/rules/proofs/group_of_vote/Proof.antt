@@ -1,9 +1,9 @@
 -- Each way out is a case of the definition.
 use Rattle.laws.specs.Pick.{cases}
-use Rattle.certificate.specs.Groups.{vote-group}
+use Rattle.rules.specs.Groups.{vote-group}
 use borrow.Author.Needs.{needs}
-use Rattle.certificate.proofs.group_of_vote.Statement.{statement}
-use Rattle.certificate.proofs.group_of_vote.Tie as tie
+use Rattle.rules.proofs.group_of_vote.Statement.{statement}
+use Rattle.rules.proofs.group_of_vote.Tie as tie
 
 proposals-requires : tie.Need-proposals-requires
 proposals-requires c κs = search needs

@@ -1,9 +1,9 @@
 -- Each way out is a case of the definition.
 use Rattle.laws.specs.Pick.{cases}
-use Rattle.certificate.specs.Groups.{proposal-group}
+use Rattle.rules.specs.Groups.{proposal-group}
 use borrow.Author.Needs.{needs}
-use Rattle.certificate.proofs.group_of_proposal.Statement.{statement}
-use Rattle.certificate.proofs.group_of_proposal.Tie as tie
+use Rattle.rules.proofs.group_of_proposal.Statement.{statement}
+use Rattle.rules.proofs.group_of_proposal.Tie as tie
 
 inits-requires : tie.Need-inits-requires
 inits-requires c κs = search needs

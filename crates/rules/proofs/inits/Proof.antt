@@ -2,11 +2,11 @@
 use Prim.Native.Nat.{ℕ}
 use mathlib.Core.Path.{ap}
 use Rattle.format.specs.Numbers.{kind-INIT}
-use Rattle.certificate.specs.declared.Which.the-variants.{Any, Only}
-use Rattle.certificate.specs.Rules.{group}
+use Rattle.rules.specs.declared.Which.the-variants.{Any, Only}
+use Rattle.rules.specs.Rules.{group}
 use borrow.Author.Needs.{needs}
-use Rattle.certificate.proofs.inits.Statement.{statement}
-use Rattle.certificate.proofs.inits.Tie as tie
+use Rattle.rules.proofs.inits.Statement.{statement}
+use Rattle.rules.proofs.inits.Tie as tie
 
 backing-requires : tie.Need-backing-requires
 backing-requires c κs = search needs

@@ -1,8 +1,8 @@
 -- The tests are those of the definition.
 use mathlib.Core.Path.{refl}
-use Rattle.certificate.specs.Rules.{has-second}
-use Rattle.certificate.proofs.has_second.Statement.{statement}
-use Rattle.certificate.proofs.has_second.Tie as tie
+use Rattle.rules.specs.Rules.{has-second}
+use Rattle.rules.proofs.has_second.Statement.{statement}
+use Rattle.rules.proofs.has_second.Tie as tie
 
 returns : tie.Need-returns
 unfolding has-second

@@ -3,11 +3,11 @@ use Prim.Native.Nat.{ℕ}
 use mathlib.Core.Path.{refl, ap, _∙_}
 use borrow.Author.Tests.{lt-ltb, le-ltb}
 use Rattle.laws.specs.Pick.{here, skip}
-use Rattle.certificate.specs.declared.Which.the-variants.{Any, Only}
-use Rattle.certificate.specs.Rules.{proposals, none-votes, second-group}
+use Rattle.rules.specs.declared.Which.the-variants.{Any, Only}
+use Rattle.rules.specs.Rules.{proposals, none-votes, second-group}
 use borrow.Author.Needs.{needs}
-use Rattle.certificate.proofs.second_group.Statement.{statement}
-use Rattle.certificate.proofs.second_group.Tie as tie
+use Rattle.rules.proofs.second_group.Statement.{statement}
+use Rattle.rules.proofs.second_group.Tie as tie
 
 round-before-requires : tie.Need-round-before-requires
 round-before-requires c κs = search needs
