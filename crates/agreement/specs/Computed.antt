@@ -1,23 +1,23 @@
 -- What demand 3 asks of a list of calls, as tests that the checker can compute: where `given`, `few` and `decides` are true, `Given`, `FewFaulty` and
 -- `Decides` hold.
-use Prim.Native.Nat.{ℕ, zero, suc, _+_, _-_, _*_, _/_, _≤_, _<_}
+use Prim.Native.Nat.{ℕ, zero, suc, _-_, _/_, _≤_, _<_}
 use mathlib.Core.Bool.{Bool, true, false, not, _&&_, _||_}
 use mathlib.Core.List.{List, [], _∷_}
 use mathlib.Core.Path.{_≡_, refl, sym, _∙_, subst}
 use native.Mathlib.Omega.{arith}
 use lib.Count.{ones}
 use lib.Dec.{eqb, leb}
-use lib.ListN.{length, getD, take, drop}
+use lib.ListN.{length, getD, take}
 use borrow.Author.Tests.{eqb-true, eqb-false, eq-eqb, leb-true}
 use Rattle.laws.specs.Pick.{pick}
 use Rattle.laws.specs.Bools.{never, both, join}
 use Rattle.laws.specs.Count.{count, one-if}
 use Rattle.laws.specs.Refusals.{first-failed}
-use Rattle.format.specs.Numbers.{none}
+use Rattle.format.specs.Numbers.{none, place-of}
 use Rattle.format.specs.Group.{quorum, backing, most-faulty}
 use Rattle.format.specs.Words as Format
 use Rattle.format.specs.Words.{fields-of, word-of, formed, step-of}
-use Rattle.format.specs.Statement.{statements, same-words, verifies, well-formed, step}
+use Rattle.format.specs.Statement.{statements, covered-at, code-at, same-words, verifies, well-formed, step}
 use Rattle.format.specs.Bundle.{laid-out, all-formed, bundle-fits}
 use Rattle.format.specs.Layout.{same-out}
 use Rattle.rules.specs.Rules.{wanted, some, in-order, holds, first-group, second-group, has-second, early-toss, rest-holds, spread, groups-hold, rule}
@@ -160,12 +160,12 @@ module _ (mac : List ℕ → List ℕ → List ℕ) (key : List ℕ) (n : ℕ) w
   -- statement k behind the head does not verify, or was coded
   abbrev came : List Entry → List ℕ → ℕ → Bool
   came l ws k =
-      not (same-words (take 8 (drop (3 + k * 10) ws)) (mac key (take 2 (drop (1 + k * 10) ws))))
-      || logged l (Format.station-of (getD ws (1 + k * 10) 0)) (take 2 (drop (1 + k * 10) ws))
+      not (same-words (code-at ws (place-of k)) (mac key (covered-at ws (place-of k))))
+      || logged l (Format.station-of (getD ws (place-of k) 0)) (covered-at ws (place-of k))
 
   came-out : (l : List Entry) (ws : List ℕ) → below (came l ws) ((length ws - 1) / 10) ≡ true → CodesCame mac key n l ws
   came-out l ws e k long verified =
-      implied (same-words (take 8 (drop (3 + k * 10) ws)) (mac key (take 2 (drop (1 + k * 10) ws)))) _
+      implied (same-words (code-at ws (place-of k)) (mac key (covered-at ws (place-of k)))) _
       (below-out (came l ws) ((length ws - 1) / 10) k e (omega arith)) verified
 
   unfoldable pub given : List Call → Bool

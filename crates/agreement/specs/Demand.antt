@@ -1,17 +1,17 @@
 -- Demand 3 of document 01, stated: the list of calls, the premises, the claim. Its steps are the definitions that the functions' promises cite
 -- (crates sealed and station). Lists of calls have the newest call first. `mac` is the code function; `demand-3` in Theorem names HMAC.
-use Prim.Native.Nat.{ℕ, suc, _+_, _*_, _≤_, _<_}
-use mathlib.Core.Bool.{Bool, true, false, not, _&&_, _||_}
+use Prim.Native.Nat.{ℕ, suc, _+_, _≤_, _<_}
+use mathlib.Core.Bool.{Bool, true, false, _&&_, _||_}
 use mathlib.Core.List.{List, [], _∷_, _++_}
 use mathlib.Core.Path.{_≡_}
 use lib.Dec.{eqb}
-use lib.ListN.{length, getD, take, drop}
+use lib.ListN.{length, getD}
 use Rattle.laws.specs.Pick.{pick}
 use Rattle.laws.specs.Count.{count}
-use Rattle.format.specs.Numbers.{kind-INIT, kind-V, none, conflicting}
+use Rattle.format.specs.Numbers.{kind-INIT, kind-V, none, statement-words, place-of, conflicting}
 use Rattle.format.specs.Group.{quorum, backing, most-faulty}
 use Rattle.format.specs.Words.{kind-of, value-of, station-of}
-use Rattle.format.specs.Statement.{Statement, statement, same-words}
+use Rattle.format.specs.Statement.{Statement, covered-at, code-at, same-words}
 use Rattle.format.specs.Bundle.{main-of}
 use Rattle.rules.specs.Rules.{some}
 use Rattle.sealed.specs.declared.Module.{Module}
@@ -55,7 +55,7 @@ pub data Found : Type 0 where
 
 -- the main statement of the bundle that a call wrote, if it did
 abbrev pub own : Returned → List Statement
-own r = pick (wrote (r .number)) (statement (r .lent) 1 ∷ []) []
+own r = pick (wrote (r .number)) (main-of (r .lent) ∷ []) []
 
 -- a giving that is not refused takes the bundle's main statement; the station is then as returned
 abbrev pub gave : Returned → List ℕ → Found → Found
@@ -102,10 +102,10 @@ module _ (mac : List ℕ → List ℕ → List ℕ) (key : List ℕ) (n : ℕ) w
 
   -- ---- what was coded: an opening answered 20, a giving answered 20 or 21 (words 1 and 2 of the bundle), a coding answered 0
   unfoldable pub coded-in : Call → Returned → List Entry
-  coded-in (opens i q v out) r = pick (wrote (r .number)) (record { at = i; words = take 2 (drop 1 (r .lent)) } ∷ []) []
-  coded-in (gives i k t ws coin out) r = pick (wrote (r .number)) (record { at = i; words = take 2 (drop 1 (r .lent)) } ∷ []) []
-  coded-in (codes i ws) r = pick (eqb (r .number) 0) (record { at = i; words = take 2 (r .lent) } ∷ []) []
-  coded-in (tosses i ws coin) r = pick (eqb (r .number) 0) (record { at = i; words = take 2 (r .lent) } ∷ []) []
+  coded-in (opens i q v out) r = pick (wrote (r .number)) (record { at = i; words = covered-at (r .lent) (place-of 0) } ∷ []) []
+  coded-in (gives i k t ws coin out) r = pick (wrote (r .number)) (record { at = i; words = covered-at (r .lent) (place-of 0) } ∷ []) []
+  coded-in (codes i ws) r = pick (eqb (r .number) 0) (record { at = i; words = covered-at (r .lent) 0 } ∷ []) []
+  coded-in (tosses i ws coin) r = pick (eqb (r .number) 0) (record { at = i; words = covered-at (r .lent) 0 } ∷ []) []
 
   unfoldable pub log : List Call → List Entry
   log [] = []
@@ -154,8 +154,8 @@ module _ (mac : List ℕ → List ℕ → List ℕ) (key : List ℕ) (n : ℕ) w
   -- "every code that verifies in words given to any call came from that site's module": each whole ten words behind the head
   abbrev pub CodesCame : List Entry → List ℕ → Type 0
   CodesCame l ws =
-      (k : ℕ) → 11 + k * 10 ≤ length ws → same-words (take 8 (drop (3 + k * 10) ws)) (mac key (take 2 (drop (1 + k * 10) ws))) ≡ true
-      → logged l (station-of (getD ws (1 + k * 10) 0)) (take 2 (drop (1 + k * 10) ws)) ≡ true
+      (k : ℕ) → place-of k + statement-words ≤ length ws → same-words (code-at ws (place-of k)) (mac key (covered-at ws (place-of k))) ≡ true
+      → logged l (station-of (getD ws (place-of k) 0)) (covered-at ws (place-of k)) ≡ true
 
   -- each call names a site of the group; a station is a value of its type, with the arrays' declared lengths
   unfoldable pub Given : List Call → Type 0

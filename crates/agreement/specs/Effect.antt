@@ -5,14 +5,14 @@ use mathlib.Core.List.{List, [], _∷_}
 use Prim.Native.Nat.{ℕ, _-_, _<_}
 use native.Mathlib.Omega.{arith}
 use lib.Dec.{eqb, ltb}
-use lib.ListN.{length, getD, take, drop}
+use lib.ListN.{length, getD}
 use borrow.Author.Tests.{eqb-true, eqb-false, ltb-true}
 use Rattle.laws.specs.Pick.{pick}
 use Rattle.laws.specs.Bools.{never, both}
 use Rattle.laws.specs.Refusals.{Test, test, first-failed, all-passed}
-use Rattle.format.specs.Numbers.{statement-words, out-of-range, sent, sent-decided}
+use Rattle.format.specs.Numbers.{statement-words, place-of, out-of-range, sent, sent-decided}
 use Rattle.format.specs.Words.{formed, fields-of}
-use Rattle.format.specs.Statement.{Statement, statement, covered, step, well-formed}
+use Rattle.format.specs.Statement.{Statement, statement, covered-at, covered, step, well-formed}
 use Rattle.format.specs.Layout.{formed-well}
 use Rattle.format.specs.Shape.{Shape, init, proposal, vote, formed-out, formed-in}
 use Rattle.sealed.specs.declared.Module.{Module}
@@ -49,7 +49,7 @@ module _ (mac : List ℕ → List ℕ → List ℕ) (eight : (key ws : List ℕ)
 
   -- what an outcome of opening or giving leaves in the log, and in the module
   abbrev logs : ℕ → Returned → List Entry
-  logs i r = pick (wrote (r .number)) (record { at = i; words = take 2 (drop 1 (r .lent)) } ∷ []) []
+  logs i r = pick (wrote (r .number)) (record { at = i; words = covered-at (r .lent) (place-of 0) } ∷ []) []
 
   abbrev pub log-of : ℕ → Outcome → List Entry
   log-of i (refused k) = []
@@ -110,7 +110,7 @@ module _ (mac : List ℕ → List ℕ → List ℕ) (eight : (key ws : List ℕ)
 
   -- ---- coding, plain and with the coin: the statement s, by the refusal found
   abbrev coding-logs : ℕ → Returned → List Entry
-  coding-logs i r = pick (eqb (r .number) 0) (record { at = i; words = take 2 (r .lent) } ∷ []) []
+  coding-logs i r = pick (eqb (r .number) 0) (record { at = i; words = covered-at (r .lent) 0 } ∷ []) []
 
   pub data Coding (m : Module) (s : Statement) (ws : List ℕ) (i refusal : ℕ) : Type 0 where
     not-coded : (refusal ≡ 0 → ⊥) → coding-logs i (as-returned (coding (mac (m .key)) m s ws refusal)) ≡ [] → coding (mac (m .key)) m s ws refusal .after ≡ m

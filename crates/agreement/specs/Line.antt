@@ -12,7 +12,7 @@ use Rattle.laws.specs.Count.{count}
 use Rattle.format.specs.Numbers.{none}
 use Rattle.format.specs.Group.{quorum}
 use Rattle.format.specs.Words.{fields-of, formed, station-of}
-use Rattle.format.specs.Statement.{Statement, statement, statements, covered, same-words, verifies, step, well-formed}
+use Rattle.format.specs.Statement.{Statement, statement, statements, covered-at, covered, same-words, verifies, step, well-formed}
 use Rattle.format.specs.Bundle.{all-formed}
 use Rattle.format.specs.Layout.{covered-read, same-out}
 use Rattle.format.specs.Shape.{formed-out, small}
@@ -56,18 +56,17 @@ gap : (at : ℕ) → at + 2 - at ≡ 2
 gap at = omega arith
 
 module _ (mac : List ℕ → List ℕ → List ℕ) (key : List ℕ) (n : ℕ) (l : List Entry) (ws : List ℕ) (came : CodesCame mac key n l ws) where
-  one-came : (k : ℕ) → 11 + k * 10 ≤ length ws → formed n (fields-of (getD ws (1 + k * 10) 0)) ≡ true → well-formed n (statement ws (1 + k * 10)) ≡ true
+  one-came : (k : ℕ) → 1 + k * 10 + 10 ≤ length ws → formed n (fields-of (getD ws (1 + k * 10) 0)) ≡ true → well-formed n (statement ws (1 + k * 10)) ≡ true
       → verifies (mac key) (statement ws (1 + k * 10)) ≡ true → Coded n (reads l) (statement ws (1 + k * 10))
   unfolding verifies
   one-came k room f w v =
       let at : ℕ = 1 + k * 10 in
       let c : covered (statement ws (1 + k * 10)) ≡ getD ws (1 + k * 10) 0 ∷ getD ws (1 + k * 10 + 1) 0 ∷ [] = covered-read n ws (1 + k * 10) (low-word n ws (1 + k * 10) w) f in
-      let two : take 2 (drop (1 + k * 10) ws) ≡ getD ws (1 + k * 10) 0 ∷ getD ws (1 + k * 10 + 1) 0 ∷ [] = ap (λ (z : ℕ). take z (drop (1 + k * 10) ws)) (sym (gap (1 + k * 10))) ∙ two-words ws (1 + k * 10) (omega arith) in
-      let place : 1 + k * 10 + 2 ≡ 3 + k * 10 = omega arith in
+      let two : covered-at ws (1 + k * 10) ≡ getD ws (1 + k * 10) 0 ∷ getD ws (1 + k * 10 + 1) 0 ∷ [] = ap (λ (z : ℕ). take z (drop (1 + k * 10) ws)) (sym (gap (1 + k * 10))) ∙ two-words ws (1 + k * 10) (omega arith) in
       let r = formed-out n (statement ws (1 + k * 10)) w in
       record {
         mem = in-reads l (station-of (getD ws (1 + k * 10) 0)) (getD ws (1 + k * 10) 0) (getD ws (1 + k * 10 + 1) 0)
-            (rw two at (came k room (rw (two, ← c, ← place) v)));
+            (rw two at (came k room (rw (two, ← c) v)));
         low = r .low;
         high = r .high;
       }

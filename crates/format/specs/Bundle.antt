@@ -4,7 +4,7 @@ use mathlib.Core.Bool.{Bool, true, _&&_}
 use mathlib.Core.List.{List}
 use lib.Dec.{eqb, leb}
 use lib.ListN.{getD, length}
-use Rattle.format.specs.Numbers.{most-statements, bundle-words}
+use Rattle.format.specs.Numbers.{most-statements, statement-words, bundle-words, place-of}
 use Rattle.format.specs.Words.{formed, fields-of}
 use Rattle.format.specs.Statement.{Statement, statement, statements}
 
@@ -21,16 +21,16 @@ laid-out ws = head-fits (getD ws 0 0) && eqb (length ws) (bundle-words (count-in
 
 -- "one main statement, then the certificate"
 abbrev pub main-of : List ℕ → Statement
-main-of ws = statement ws 1
+main-of ws = statement ws (place-of 0)
 
 abbrev pub certificate-of : List ℕ → List Statement
-certificate-of ws = statements ws 11 (count-in ws)
+certificate-of ws = statements ws (place-of 1) (count-in ws)
 
 -- k statements from a place on, each with its fields in place
 unfoldable pub all-formed : ℕ → List ℕ → ℕ → ℕ → Bool
 all-formed n ws at zero = true
-all-formed n ws at (suc k) = formed n (fields-of (getD ws at 0)) && all-formed n ws (at + 10) k
+all-formed n ws at (suc k) = formed n (fields-of (getD ws at 0)) && all-formed n ws (at + statement-words) k
 
 -- the words are a bundle, and its statements are well-formed
 unfoldable pub bundle-fits : ℕ → List ℕ → Bool
-bundle-fits n ws = laid-out ws && all-formed n ws 1 (suc (count-in ws))
+bundle-fits n ws = laid-out ws && all-formed n ws (place-of 0) (suc (count-in ws))

@@ -34,6 +34,18 @@ most-statements = 32
 abbrev pub statement-words : ℕ
 statement-words = 10
 
+-- "over the 8 bytes of words 0 and 1": the words that a code covers, the first of a statement
+abbrev pub covered-words : ℕ
+covered-words = 2
+
+-- "Words 2 to 9: the code", behind the covered words
+abbrev pub code-words : ℕ
+code-words = 8
+
+-- "A bundle is a head word …, one main statement, then the certificate": where its statement k begins, the main statement being statement 0
+abbrev pub place-of : ℕ → ℕ
+place-of k = 1 + k * statement-words
+
 -- "It has 1 + 10 × (1 + count) words"
 abbrev pub bundle-words : ℕ → ℕ
 bundle-words count = 1 + statement-words * (1 + count)

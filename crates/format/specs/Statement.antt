@@ -6,6 +6,7 @@ use lib.Dec.{eqb}
 use lib.ListN.{getD, take, drop}
 use Rattle.sha256.specs.Sha256.{words, bytes}
 use Rattle.hmac.specs.Hmac.{hmac}
+use Rattle.format.specs.Numbers.{statement-words, covered-words, code-words}
 use Rattle.format.specs.Words.{kind-of, value-of, flag-of, station-of, round-of, word-of, shaped, of-group, step-of}
 
 pub record Statement : Type 0 where
@@ -17,6 +18,16 @@ pub record Statement : Type 0 where
   pub question : ℕ
   pub code : List ℕ
 
+-- of the statement that begins at a place: its ten words, those that its code covers, and its code
+abbrev pub words-at : List ℕ → ℕ → List ℕ
+words-at ws at = take statement-words (drop at ws)
+
+abbrev pub covered-at : List ℕ → ℕ → List ℕ
+covered-at ws at = take covered-words (drop at ws)
+
+abbrev pub code-at : List ℕ → ℕ → List ℕ
+code-at ws at = take code-words (drop (at + covered-words) ws)
+
 -- "A statement has 10 words": word 0's fields, the question number, and words 2 to 9 the code. The statement that begins at a place
 abbrev pub statement : List ℕ → ℕ → Statement
 statement ws at =
@@ -27,13 +38,13 @@ statement ws at =
       station = station-of (getD ws at 0);
       round = round-of (getD ws at 0);
       question = getD ws (at + 1) 0;
-      code = take 8 (drop (at + 2) ws);
+      code = code-at ws at;
     }
 
 -- k statements, one behind the other, from a place on
 unfoldable pub statements : List ℕ → ℕ → ℕ → List Statement
 statements ws at zero = []
-statements ws at (suc k) = statement ws at ∷ statements ws (at + 10) k
+statements ws at (suc k) = statement ws at ∷ statements ws (at + statement-words) k
 
 -- word 0 of a statement: its fields, bits 26..24 zero
 abbrev pub word-0 : Statement → ℕ

@@ -24,8 +24,8 @@ pair q s = record { coded = true; question = q; step = record { 0 = s } }
 unfoldable pub above : Last → ℕ → ℕ → Bool
 above l q s = not (l .coded) || (ltb (l .question) q || (eqb (l .question) q && ltb (l .step .0) s))
 
--- the last pair that a question is held against, and the module once it has coded a pair: all else, in every crate, reads and changes the last pair
--- through these two, so that a module with several counters changes them alone
+-- the last pair that a question is held against, and the module once it has coded a pair: all other definitions and calls read and change the
+-- last pair through these two, so that a module with several counters changes them alone
 abbrev pub last-for : Module → ℕ → Last
 last-for m q = m .last
 

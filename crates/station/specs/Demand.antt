@@ -6,9 +6,9 @@ use mathlib.Core.Bool.{Bool, true, false, _||_}
 use mathlib.Core.List.{List, [], _∷_, _++_}
 use mathlib.Core.Path.{_≡_}
 use lib.Dec.{eqb}
-use lib.ListN.{length, take, drop}
-use Rattle.format.specs.Numbers.{kind-P, R-GET, sent, output-words, out-of-range, malformed, other-question, wrong-code, no-certificate}
-use Rattle.format.specs.Statement.{Statement, statement}
+use lib.ListN.{length, take}
+use Rattle.format.specs.Numbers.{kind-P, R-GET, code-words, place-of, sent, output-words, out-of-range, malformed, other-question, wrong-code, no-certificate}
+use Rattle.format.specs.Statement.{Statement, words-at, covered-at}
 use Rattle.format.specs.Bundle.{main-of}
 use Rattle.rules.specs.declared.Which.the-variants.{Any}
 use Rattle.certificate.specs.Check.{check-by}
@@ -69,10 +69,10 @@ module _ (mac : List ℕ → List ℕ → List ℕ) where
   -- the module's part: what stands in a written bundle as its main statement is what the module's plain way, or for an R-GET its coin way, codes for
   -- these words 0 and 1 with any eight words behind them, and the module is left as that coding leaves it
   pub record BySeal (m : Module) (coin : ℕ) (r : Returned) : Type 0 where
-    pub plain : is-toss (statement (r .lent) 1) ≡ false → (x : List ℕ) → length x ≡ 8
-        → coding-plain mac m (take 2 (drop 1 (r .lent)) ++ x) ≡ record { number = 0; after = r .after; lent = take 10 (drop 1 (r .lent)) }
-    pub tossed : is-toss (statement (r .lent) 1) ≡ true → (x : List ℕ) → length x ≡ 8
-        → coding-coin mac m (take 2 (drop 1 (r .lent)) ++ x) coin ≡ record { number = 0; after = r .after; lent = take 10 (drop 1 (r .lent)) }
+    pub plain : is-toss (main-of (r .lent)) ≡ false → (x : List ℕ) → length x ≡ code-words
+        → coding-plain mac m (covered-at (r .lent) (place-of 0) ++ x) ≡ record { number = 0; after = r .after; lent = words-at (r .lent) (place-of 0) }
+    pub tossed : is-toss (main-of (r .lent)) ≡ true → (x : List ℕ) → length x ≡ code-words
+        → coding-coin mac m (covered-at (r .lent) (place-of 0) ++ x) coin ≡ record { number = 0; after = r .after; lent = words-at (r .lent) (place-of 0) }
 
   -- coin 0 and coin 1: the same answer in every part, or a toss in both calls, which differ in the coin alone
   pub data CoinEffect (m : Module) (t : Station) (ws out : List ℕ) : Type 0 where
