@@ -21,10 +21,10 @@ use Rattle.format.specs.Word0.{written-read}
 use Rattle.format.specs.Statement.{statement, word-0, covered, same-words, hmac-code, verifies}
 
 -- words 0 and 1 of a statement whose bits 26..24 are zero are those that its code covers
-pub covered-words : (ws : List ℕ) (at : ℕ) → getD ws at 0 < 2 ^ 32 → spare-of (getD ws at 0) ≡ 0
+pub covered-by-two : (ws : List ℕ) (at : ℕ) → getD ws at 0 < 2 ^ 32 → spare-of (getD ws at 0) ≡ 0
     → covered (statement ws at) ≡ getD ws at 0 ∷ getD ws (at + 1) 0 ∷ []
 unfolding fields-of
-covered-words ws at low z =
+covered-by-two ws at low z =
     let w : ℕ = getD ws at 0 in
     let cut : (spare : ℕ) → Fields = λ spare.
     record { kind = kind-of w; value = value-of w; flag = flag-of w; spare = spare; station = station-of w; round = record { 0 = round-of w } } in
@@ -50,7 +50,7 @@ pub verified : (p : Prepared) (ws : List ℕ) (at : ℕ) (code : Code) → at + 
     → same-words (take 8 (drop (at + 2) ws)) (code .words) ≡ verifies (code-from p) (statement ws at)
 unfolding verifies
 verified p ws at code h low z e =
-    rw (e, two-words ws at h, two-coded p (getD ws at 0) (getD ws (at + 1) 0), covered-words ws at low z)
+    rw (e, two-words ws at h, two-coded p (getD ws at 0) (getD ws (at + 1) 0), covered-by-two ws at low z)
 
 -- a short key, prepared
 pub keyed-short : (k : List ℕ) → length k < limit → keyed k ≡ record { number = 0; key = prepared k }
