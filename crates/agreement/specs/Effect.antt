@@ -10,7 +10,7 @@ use borrow.Author.Tests.{eqb-true, eqb-false, ltb-true}
 use Rattle.laws.specs.Pick.{pick}
 use Rattle.laws.specs.Bools.{never, both}
 use Rattle.laws.specs.Refusals.{Test, test, first-failed, all-passed}
-use Rattle.format.specs.Numbers.{statement-words, place-of, out-of-range, sent, sent-decided}
+use Rattle.format.specs.Numbers.{statement-words, place-of, out-of-range}
 use Rattle.format.specs.Words.{formed, fields-of}
 use Rattle.format.specs.Statement.{Statement, statement, covered-at, covered, step, well-formed}
 use Rattle.format.specs.Layout.{formed-well}
@@ -23,7 +23,7 @@ use Rattle.station.specs.Words.{bundle-of, Lengths}
 use Rattle.station.specs.Calls.{Returned, returned, opening, giving, opening-outcome, giving-outcome, no-station}
 use Rattle.format.specs.ReadBack.{Proper}
 use Rattle.station.specs.Views.{Opens, no-opening, begins, opens-view, Gives, refuses, holds-on, shuts, goes-on, gives-view}
-use Rattle.station.specs.Returns.{unrefused, wrote, wrote-unrefused}
+use Rattle.station.specs.Returns.{unrefused, wrote, wrote-unrefused, sent-wrote}
 use Rattle.agreement.specs.Demand.{Call, opens, gives, codes, tosses, site, Entry, act, coded-in, as-returned}
 
 abbrev pub entry : ℕ → Statement → Entry
@@ -35,11 +35,6 @@ refused-silent k e = go (wrote k) refl
     go : (b : Bool) → wrote k ≡ b → wrote k ≡ false
     go true x = never (unrefused k) e (wrote-unrefused k x)
     go false x = x
-
-pub answers : (b : Bool) → wrote (pick b sent sent-decided) ≡ true
-unfolding pick
-answers true = refl
-answers false = refl
 
 module _ (mac : List ℕ → List ℕ → List ℕ) (eight : (key ws : List ℕ) → length (mac key ws) ≡ 8) (key : List ℕ) (n : ℕ) where
   pub data Effect (m : Module) (c : Call) : Type 0 where
@@ -98,7 +93,7 @@ module _ (mac : List ℕ → List ℕ → List ℕ) (eight : (key ws : List ℕ)
     give-numbered _ (refuses {k} w) = refused-silent k w
     give-numbered _ (holds-on A few) = refl
     give-numbered _ (shuts A size c) = refl
-    give-numbered _ (goes-on A size c a w) = ap wrote w ∙ answers _
+    give-numbered _ (goes-on A size c a w) = ap wrote w ∙ sent-wrote _
 
     pub give-coded : coded-in mac key n (gives i k t ws coin out) (act mac key n m (gives i k t ws coin out)) ≡ log-of i (giving-outcome mac m t ws coin out)
     unfolding act coded-in giving

@@ -27,13 +27,13 @@ use Rattle.station.specs.Calls.{Returned, returned, opening, giving, opening-ou
 use Rattle.format.specs.ReadBack.{Proper, statement-drop, statement-back}
 use Rattle.station.specs.Keep.{steps-0}
 use Rattle.station.specs.Views.{InRange, init-statement, Opens, no-opening, begins, opens-view, Gives, refuses, holds-on, shuts, goes-on, gives-view, sent-statement, Accepted, after, decision-then}
-use Rattle.station.specs.Returns.{unrefused, wrote, wrote-unrefused}
+use Rattle.station.specs.Returns.{unrefused, wrote, wrote-unrefused, sent-wrote}
 use Rattle.station.specs.Fits.{own-proper, init-sane, sent-proper}
 use Rattle.station.specs.Written.{own-verifies, lengths-of}
 use Rattle.agreement.specs.Safe.{Just, Split}
 use Rattle.agreement.specs.Just.{bare, backed-just}
 use Rattle.agreement.specs.Took.{none-there, enough-before}
-use Rattle.agreement.specs.Effect.{answers, entry, Effect, silent, speaks, log-of, after-of, open-coded, open-after, give-coded, give-after, plain-effect, toss-effect}
+use Rattle.agreement.specs.Effect.{entry, Effect, silent, speaks, log-of, after-of, open-coded, open-after, give-coded, give-after, plain-effect, toss-effect}
 use Rattle.agreement.specs.Line.{reads, Line, line-more}
 use Rattle.agreement.specs.Giving.{open-line, kept-line, shut-line, sent-line, sent-just, sent-split}
 use Rattle.agreement.specs.Invariant.{Mine, LogInv, unchanged, log-add, covered-back}
@@ -434,7 +434,7 @@ module _ (mac : List ℕ → List ℕ → List ℕ) (eight : (key ws : List ℕ)
                 let o' = sends k s (x .first ++ x .second) u in
                 let proper : Proper (mg .n) s = sent-proper mac eight mg t ws coin out len A size more in
                 let coded : coded-in mac key n g (answer mac key n cs g) ≡ entry j s ∷ [] = log-g o' e in
-                let wr : wrote k ≡ true = ap wrote w ∙ answers (ltb (t .decision) none || eqb (decision-then mac mg t ws coin out) none) in
+                let wr : wrote k ≡ true = ap wrote w ∙ sent-wrote (ltb (t .decision) none || eqb (decision-then mac mg t ws coin out) none) in
                 let un : unrefused (answer mac key n cs g .number) ≡ true = number-g o' e (wrote-unrefused k wr) in
                 let T : Station = W.station-of (mg .n) (mg .number) u in
                 record {

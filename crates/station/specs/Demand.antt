@@ -90,6 +90,10 @@ module _ (mac : List ℕ → List ℕ → List ℕ) where
     pub opening-counted : (m : Module) (question v : ℕ) (out : List ℕ) → length (message (opening mac m question v out)) ≡ opening mac m question v out .count
     pub giving-counted : (m : Module) (t : Station) (ws : List ℕ) (coin : ℕ) (out : List ℕ) → Lengths t
         → length (message (giving mac m t ws coin out)) ≡ giving mac m t ws coin out .count
+    -- "Where no bundle is written the word count is zero."
+    pub opening-silent : (m : Module) (question v : ℕ) (out : List ℕ) → wrote (opening mac m question v out .number) ≡ false → opening mac m question v out .count ≡ 0
+    pub giving-silent : (m : Module) (t : Station) (ws : List ℕ) (coin : ℕ) (out : List ℕ) → Lengths t → wrote (giving mac m t ws coin out .number) ≡ false
+        → giving mac m t ws coin out .count ≡ 0
     -- "It has two ways to code": a station codes through them alone
     pub opening-sealed : (m : Module) (question v : ℕ) (out : List ℕ) → wrote (opening mac m question v out .number) ≡ true
         → (coin : ℕ) → BySeal m coin (opening mac m question v out)

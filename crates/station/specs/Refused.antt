@@ -1,12 +1,11 @@
 -- "At a refusal station, module and lent words keep their values", and the word count is zero: of giving, and of opening, which returns its one fixed station.
 use Prim.Native.Nat.{ℕ}
-use mathlib.Core.Bool.{Bool, true, false, _||_}
+use mathlib.Core.Bool.{true, false, _||_}
 use mathlib.Core.List.{List}
 use mathlib.Core.Path.{_≡_, refl, ap, _∙_}
 use lib.Dec.{eqb, ltb}
-use Rattle.laws.specs.Pick.{pick}
 use Rattle.laws.specs.Bools.{never}
-use Rattle.format.specs.Numbers.{none, sent, sent-decided}
+use Rattle.format.specs.Numbers.{none}
 use Rattle.sealed.specs.declared.Module.{Module}
 use Rattle.station.specs.declared.Station.{Station}
 use Rattle.station.specs.Machine.{Outcome}
@@ -14,12 +13,7 @@ use Rattle.station.specs.Demand.{as-given}
 use Rattle.station.specs.Calls.{returned, opening, opening-outcome, giving, giving-outcome, no-station}
 use Rattle.station.specs.Words.{Lengths}
 use Rattle.station.specs.Views.{decision-then, Gives, refuses, holds-on, shuts, goes-on, gives-view, Opens, no-opening, begins, opens-view}
-use Rattle.station.specs.Returns.{unrefused}
-
-sent-number : (b : Bool) → unrefused (pick b sent sent-decided) ≡ true
-unfolding pick
-sent-number true = refl
-sent-number false = refl
+use Rattle.station.specs.Returns.{unrefused, wrote, wrote-unrefused, sent-wrote}
 
 module _ (mac : List ℕ → List ℕ → List ℕ) (m : Module) where
   pub giving-refused : (t : Station) (ws : List ℕ) (coin : ℕ) (out : List ℕ) → Lengths t → unrefused (giving mac m t ws coin out .number) ≡ false
@@ -32,7 +26,7 @@ module _ (mac : List ℕ → List ℕ → List ℕ) (m : Module) where
       go _ (refuses e) u = refl
       go _ (holds-on A few) u = never true u refl
       go _ (shuts A size c) u = never true u refl
-      go _ (goes-on {k} A size c above e) u = never (unrefused k) u (ap unrefused e ∙ sent-number (ltb (t .decision) none || eqb (decision-then mac m t ws coin out) none))
+      go _ (goes-on {k} A size c above e) u = never (unrefused k) u (wrote-unrefused k (ap wrote e ∙ sent-wrote (ltb (t .decision) none || eqb (decision-then mac m t ws coin out) none)))
 
   pub opening-refused : (question proposal : ℕ) (out : List ℕ) → unrefused (opening mac m question proposal out .number) ≡ false
       → opening mac m question proposal out ≡ as-given (opening mac m question proposal out .number) m no-station out

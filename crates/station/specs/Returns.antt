@@ -4,6 +4,7 @@ use mathlib.Core.Bool.{Bool, true, false, _&&_, _||_}
 use mathlib.Core.List.{List, [], _∷_}
 use mathlib.Core.Path.{_≡_, refl}
 use lib.Dec.{eqb}
+use Rattle.laws.specs.Pick.{pick}
 use Rattle.format.specs.Numbers.{kept, sent, sent-decided, closed-now}
 
 -- a number that is no refusal, and whether a bundle was written with it
@@ -41,3 +42,9 @@ wrote-unrefused k u = go classes u
     go : (l : List Class) → listed (λ r. r .writes) l k ≡ true → listed (λ r. true) l k ≡ true
     go [] e = e
     go (r ∷ l) e = step-by (eqb k (r .number)) (r .writes) (listed (λ r. r .writes) l k) (listed (λ r. true) l k) (go l) e
+
+-- what is sent was written, with a first decision or without
+pub sent-wrote : (b : Bool) → wrote (pick b sent sent-decided) ≡ true
+unfolding pick
+sent-wrote true = refl
+sent-wrote false = refl

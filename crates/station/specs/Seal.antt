@@ -1,7 +1,7 @@
 -- A station codes by the module's two ways: the main statement of what it writes is what coding plain, or for an R-GET coding with the coin, codes and
 -- leaves behind. And the word count of what is written is its length.
 use Prim.Native.Nat.{ℕ, suc, _+_, _≤_, _<_}
-use mathlib.Core.Bool.{Bool, true, false, _&&_}
+use mathlib.Core.Bool.{Bool, true, false, _&&_, _||_}
 use mathlib.Core.List.{List, [], _++_, append-assoc}
 use mathlib.Core.Path.{_≡_, refl, sym, ap, _∙_}
 use native.Mathlib.Omega.{arith}
@@ -25,11 +25,11 @@ use Rattle.station.specs.declared.Stage.the-variants.{Gathering, Proposi
 use Rattle.station.specs.declared.Station.{Station}
 use Rattle.station.specs.Machine.{State, Outcome, Next, next, proposing, carried, follows}
 use Rattle.station.specs.Words.{Lengths, all-written, bundle-of, over}
-use Rattle.station.specs.Returns.{unrefused, wrote, wrote-unrefused}
+use Rattle.station.specs.Returns.{unrefused, wrote, wrote-unrefused, sent-wrote}
 use Rattle.station.specs.Calls.{returned, opening, giving, opening-outcome, giving-outcome, no-station}
 use Rattle.station.specs.Demand.{message, BySeal}
 use Rattle.station.specs.ReadBack.{length-all}
-use Rattle.station.specs.Views.{InRange, after, sent-statement, Gives, refuses, holds-on, shuts, goes-on, gives-view, init-statement, Opens, no-opening, begins, opens-view}
+use Rattle.station.specs.Views.{InRange, after, sent-statement, Gives, refuses, holds-on, shuts, goes-on, gives-view, init-statement, Opens, no-opening, begins, opens-view, decision-then}
 use Rattle.station.specs.Fits.{own-proper, next-ready, sent-proper}
 use Rattle.station.specs.Written.{all-append}
 
@@ -161,3 +161,22 @@ module _ (mac : List ℕ → List ℕ → List ℕ) (eight : (key ws : List ℕ)
           let R = next-ready mac eight m t ws coin out L A size c in
           bundle-counted (m .n) (sent-statement mac m t ws coin out) (x .first ++ x .second) out (sent-proper mac eight m t ws coin out L A size c)
           (all-append (Proper (m .n)) (x .first) (x .second) (R .proper) (R .more-proper))
+
+  -- ---- where nothing is written nothing is counted
+  pub opening-silent : (question v : ℕ) (out : List ℕ) → wrote (opening mac m question v out .number) ≡ false → opening mac m question v out .count ≡ 0
+  unfolding opening returned
+  opening-silent question v out = go (opening-outcome mac m question v out) (opens-view mac m question v out)
+    where
+      go : (o : Outcome) → Opens mac m question v out o → wrote (returned m no-station out o .number) ≡ false → returned m no-station out o .count ≡ 0
+      go _ (no-opening e) u = refl
+      go _ (begins room r p a) u = never true u refl
+
+  pub giving-silent : (t : Station) (ws : List ℕ) (coin : ℕ) (out : List ℕ) → Lengths t → wrote (giving mac m t ws coin out .number) ≡ false → giving mac m t ws coin out .count ≡ 0
+  unfolding giving returned
+  giving-silent t ws coin out L = go (giving-outcome mac m t ws coin out) (gives-view mac m t ws coin out L)
+    where
+      go : (o : Outcome) → Gives mac m t ws coin out o → wrote (returned m t out o .number) ≡ false → returned m t out o .count ≡ 0
+      go _ (refuses e) u = refl
+      go _ (holds-on A few) u = refl
+      go _ (shuts A size c) u = refl
+      go _ (goes-on {k} A size c later e) u = never (wrote k) u (ap wrote e ∙ sent-wrote (ltb (t .decision) none || eqb (decision-then mac m t ws coin out) none))
