@@ -6,12 +6,13 @@ use Prim.Native.Nat.{ℕ, _+_, _-_, _*_, _/_, _≤_, _<_}
 use native.Mathlib.Omega.{arith}
 use lib.Dec.{leb, eqb}
 use Rattle.laws.specs.Pick.{pick}
+use Rattle.format.specs.Numbers.{least-stations, most-stations}
 use Rattle.laws.specs.Refusals.{All}
 use Rattle.laws.specs.Count.{count, Shared, meet, count-not}
 
 -- "A group has n stations, 2 to 31, numbered 1 to n."
 abbrev pub size-fits : ℕ → Bool
-size-fits n = leb 2 n && leb n 31
+size-fits n = leb least-stations n && leb n most-stations
 
 -- "At most (n − 1)/2 rounded down are faulty."
 abbrev pub most-faulty : ℕ → ℕ

@@ -22,6 +22,13 @@ D-GET = 0
 abbrev pub R-GET : ℕ
 R-GET = 1
 
+-- "A group has n stations, 2 to 31"
+abbrev pub least-stations : ℕ
+least-stations = 2
+
+abbrev pub most-stations : ℕ
+most-stations = 31
+
 -- "round 1 to 65,535"
 abbrev pub last-round : ℕ
 last-round = 65535

@@ -4,6 +4,82 @@ ghost use Prim.Native.Nat.{_+_, _/_};
 ghost use Rattle.format.specs.Group.{size-fits as SizeFits, quorum as Quorum, backing as Backing};
 ghost use Rattle.format.specs.Words.{fields-of, word-of, formed, step-in};
 
+// "Group: n from 2 to 31", "round 1 to 65,535".
+pub const LEAST_STATIONS: u32 = 2;
+
+pub const MOST_STATIONS: u32 = 31;
+
+pub const LAST_ROUND: u32 = 65535;
+
+// A statement's words, of which a code covers the first two and fills the others; the most certificate statements; and the most words of a
+// bundle, which a lent output has to hold.
+pub const STATEMENT_WORDS: usize = 10;
+
+pub const CODE_WORDS: usize = 8;
+
+pub const MOST_STATEMENTS: usize = 32;
+
+pub const OUTPUT_WORDS: usize = 1 + STATEMENT_WORDS * (1 + MOST_STATEMENTS);
+
+// Kinds, the value none, and the flags.
+pub const INIT: u32 = 0;
+
+pub const P: u32 = 1;
+
+pub const V: u32 = 2;
+
+pub const NONE: u32 = 2;
+
+pub const D_GET: u32 = 0;
+
+pub const R_GET: u32 = 1;
+
+// The weights of the fields of word 0.
+const KIND: u32 = 1073741824;
+
+const VALUE: u32 = 268435456;
+
+const FLAG: u32 = 134217728;
+
+const SPARE: u32 = 16777216;
+
+const STATION: u32 = 65536;
+
+// The table of returns: a bundle that is valid or kept, what ends a step, and the refusals.
+pub const VALID: u32 = 0;
+
+pub const KEPT: u32 = 0;
+
+pub const SENT: u32 = 20;
+
+pub const SENT_DECIDED: u32 = 21;
+
+pub const CLOSED_NOW: u32 = 22;
+
+pub const SHORT_OUTPUT: u32 = 1;
+
+pub const OUT_OF_RANGE: u32 = 2;
+
+pub const MALFORMED: u32 = 3;
+
+pub const OTHER_QUESTION: u32 = 4;
+
+pub const WRONG_CODE: u32 = 5;
+
+pub const NO_CERTIFICATE: u32 = 6;
+
+pub const TOO_LATE: u32 = 7;
+
+pub const TOO_EARLY: u32 = 8;
+
+pub const ALREADY_HELD: u32 = 9;
+
+pub const CONFLICTING: u32 = 10;
+
+pub const STATION_CLOSED: u32 = 11;
+
+pub const NOT_ABOVE: u32 = 12;
+
 // A round's number. It is compared with rounds only.
 pub struct Round(pub u32);
 
@@ -24,7 +100,7 @@ pub struct Fields {
 pub fn size_fits(n: u32) -> bool
     ensures { λ r. ⌜ r ≡ SizeFits n ⌝ }
 {
-    (2 <= n) & (n <= 31)
+    (LEAST_STATIONS <= n) & (n <= MOST_STATIONS)
 }
 
 pub fn quorum(n: u32) -> u32
@@ -49,12 +125,12 @@ pub fn read_fields(w: u32) -> Fields
     ensures { λ r. ⌜ r ≡ fields-of w ⌝ }
 {
     Fields {
-        kind: w / 1073741824,
-        value: w / 268435456 % 4,
-        flag: w / 134217728 % 2,
-        spare: w / 16777216 % 8,
-        station: w / 65536 % 256,
-        round: Round(w % 65536),
+        kind: w / KIND,
+        value: w / VALUE % 4,
+        flag: w / FLAG % 2,
+        spare: w / SPARE % 8,
+        station: w / STATION % 256,
+        round: Round(w % STATION),
     }
 }
 
@@ -63,12 +139,12 @@ pub fn write_fields(f: Fields) -> u32
     ensures { λ r. ⌜ r ≡ word-of f ⌝ }
 {
     let r = f.round;
-    f.kind % 4 * 1073741824
-        + f.value % 4 * 268435456
-        + f.flag % 2 * 134217728
-        + f.spare % 8 * 16777216
-        + f.station % 256 * 65536
-        + r.0 % 65536
+    f.kind % 4 * KIND
+        + f.value % 4 * VALUE
+        + f.flag % 2 * FLAG
+        + f.spare % 8 * SPARE
+        + f.station % 256 * STATION
+        + r.0 % STATION
 }
 
 // Whether the fields are those of a statement of a group of n.
@@ -77,9 +153,9 @@ pub fn well_formed(f: Fields, n: u32) -> bool
 {
     let t = f.round;
     let r = t.0;
-    let init = (f.kind == 0) & ((r == 0) & (f.value < 2) & (f.flag == 0));
-    let p = (f.kind == 1) & ((1 <= r) & (r <= 65535) & (f.value < 2) & (f.flag < 2));
-    let v = (f.kind == 2) & ((1 <= r) & (r <= 65535) & (f.value <= 2) & (f.flag == 0));
+    let init = (f.kind == INIT) & ((r == 0) & (f.value < NONE) & (f.flag == D_GET));
+    let p = (f.kind == P) & ((1 <= r) & (r <= LAST_ROUND) & (f.value < NONE) & (f.flag < 2));
+    let v = (f.kind == V) & ((1 <= r) & (r <= LAST_ROUND) & (f.value <= NONE) & (f.flag == D_GET));
     (f.spare == 0) & (((1 <= f.station) & (f.station <= n)) & (init | p | v))
 }
 
@@ -89,10 +165,10 @@ pub fn step_of(f: Fields) -> Step
 {
     let t = f.round;
     let r = t.0 as u64;
-    if f.kind == 0 {
+    if f.kind == INIT {
         return Step(0);
     }
-    if f.kind == 1 {
+    if f.kind == P {
         return Step(2 * r);
     }
     Step(2 * r + 1)
