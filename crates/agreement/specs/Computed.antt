@@ -27,7 +27,7 @@ use Rattle.station.specs.declared.Stage.{Stage}
 use Rattle.station.specs.declared.Stage.the-variants.{Gathering, Proposing, Voting}
 use Rattle.station.specs.declared.Station.{Station}
 use Rattle.station.specs.Machine.{kind-in, round-in, proposing, voting, insert, number-of, first-value, those, vote-value, decided, carried, follows, ended, taken, conflict}
-use Rattle.station.specs.Words.{held-in, leading, kept-first, kept-second, state-of, set-of, slot-of, slots-of, all-written, station-of, bundle-of, Lengths}
+use Rattle.station.specs.Words.{held-in, leading, kept-for-value, kept-for-none, state-of, set-of, slot-of, slots-of, all-written, as-station, bundle-of, Lengths}
 use Rattle.station.specs.Fit.{zeros, slots-fit, fits}
 use Rattle.station.specs.Calls.{Returned, returned, opening, giving, no-station}
 use Rattle.station.specs.Returns.{unrefused}
@@ -44,19 +44,19 @@ stage-at k r f = pick (eqb k 0) Gathering (pick (eqb k 1) (proposing r f) (votin
 
 abbrev front : Station → List ℕ
 front t =
-    t .identity .n ∷ t .identity .number ∷ t .identity .question ∷ t .decision ∷ t .held .heard ∷ one-if (t .closed)
+    t .identity .n ∷ t .identity .station ∷ t .identity .question ∷ t .decision ∷ t .held .heard ∷ one-if (t .closed)
     ∷ kind-in (t .stage) ∷ round-in (t .stage) ∷ flag-in (t .stage) ∷ []
 
 -- the station of such lists
 abbrev made-of : List ℕ → List ℕ → List ℕ → List ℕ → Station
 made-of f slots first second =
     record {
-      identity = record { n = getD f 0 0; number = getD f 1 0; question = getD f 2 0 };
+      identity = record { n = getD f 0 0; station = getD f 1 0; question = getD f 2 0 };
       stage = stage-at (getD f 6 0) (getD f 7 0) (getD f 8 0);
       closed = eqb (getD f 5 0) 1;
       decision = getD f 3 0;
       held = record { heard = getD f 4 0; slots = slots };
-      groups = record { first = first; second = second };
+      groups = record { value = first; none = second };
     }
 
 stage-again : (g : Stage) → stage-at (kind-in g) (round-in g) (flag-in g) ≡ g
@@ -69,20 +69,20 @@ closed-again : (b : Bool) → eqb (one-if b) 1 ≡ b
 closed-again true = refl
 closed-again false = refl
 
-made-again : (t : Station) → made-of (front t) (t .held .slots) (t .groups .first) (t .groups .second) ≡ t
+made-again : (t : Station) → made-of (front t) (t .held .slots) (t .groups .value) (t .groups .none) ≡ t
 made-again t =
     λ i. record { identity = t .identity; stage = stage-again (t .stage) i; closed = closed-again (t .closed) i; decision = t .decision; held = t .held; groups = t .groups }
 
 abbrev pub same-station : Station → Station → Bool
 same-station a b =
     same-words (front a) (front b) && same-words (a .held .slots) (b .held .slots)
-    && (same-words (a .groups .first) (b .groups .first) && same-words (a .groups .second) (b .groups .second))
+    && (same-words (a .groups .value) (b .groups .value) && same-words (a .groups .none) (b .groups .none))
 
 station-out : (a b : Station) → same-station a b ≡ true → a ≡ b
 station-out a b e =
     let h = both (same-words (front a) (front b) && same-words (a .held .slots) (b .held .slots)) _ e in
     let f = both (same-words (front a) (front b)) _ (h .0) in
-    let g = both (same-words (a .groups .first) (b .groups .first)) _ (h .1) in
+    let g = both (same-words (a .groups .value) (b .groups .value)) _ (h .1) in
     sym (made-again a)
     ∙ (λ i. made-of (same-out _ _ (f .0) i) (same-out _ _ (f .1) i) (same-out _ _ (g .0) i) (same-out _ _ (g .1) i))
     ∙ made-again b
@@ -114,13 +114,13 @@ below-out f (suc b) k e h = go (eqb k b) refl (below-out f b k (both (f b) (belo
     go false p ih = ih (omega (arith, eqb-false k b p))
 
 abbrev lengths : Station → Bool
-lengths t = eqb (length (t .held .slots)) 310 && eqb (length (t .groups .first)) 160 && eqb (length (t .groups .second)) 160
+lengths t = eqb (length (t .held .slots)) 310 && eqb (length (t .groups .value)) 160 && eqb (length (t .groups .none)) 160
 
 lengths-out : (t : Station) → lengths t ≡ true → Lengths t
 lengths-out t e =
-    let h = both (eqb (length (t .held .slots)) 310 && eqb (length (t .groups .first)) 160) _ e in
+    let h = both (eqb (length (t .held .slots)) 310 && eqb (length (t .groups .value)) 160) _ e in
     let f = both (eqb (length (t .held .slots)) 310) _ (h .0) in
-    record { slots = eqb-true _ _ (f .0); first = eqb-true _ _ (f .1); second = eqb-true _ _ (h .1) }
+    record { slots = eqb-true _ _ (f .0); for-value = eqb-true _ _ (f .1); for-none = eqb-true _ _ (h .1) }
 
 -- a station is there, and its history
 abbrev pub there : Found → Bool
@@ -246,5 +246,5 @@ module _ (mac : List ℕ → List ℕ → List ℕ) (key : List ℕ) (n : ℕ) w
 
 -- ---- all that the tests compute by
 unfoldable pub computes : Unit {0}
-unfolding pick count first-failed ones backing fields-of word-of formed step-of statements same-words verifies well-formed step laid-out all-formed bundle-fits wanted some in-order holds first-group second-group has-second early-toss rest-holds spread groups-hold rule every above making coding-plain coding-coin insert number-of first-value those vote-value decided carried follows ended taken conflict held-in leading kept-first kept-second state-of set-of slot-of slots-of all-written station-of bundle-of zeros slots-fit fits returned opening giving no-station act modules coded-in log openings lineage below given sound
+unfolding pick count first-failed ones backing fields-of word-of formed step-of statements same-words verifies well-formed step laid-out all-formed bundle-fits wanted some in-order holds first-group second-group has-second early-toss rest-holds spread groups-hold rule every above making coding-plain coding-coin insert number-of first-value those vote-value decided carried follows ended taken conflict held-in leading kept-for-value kept-for-none state-of set-of slot-of slots-of all-written as-station bundle-of zeros slots-fit fits returned opening giving no-station act modules coded-in log openings lineage below given sound
 computes = tt

@@ -39,7 +39,7 @@ refused-silent k e = go (wrote k) refl
 module _ (mac : List ℕ → List ℕ → List ℕ) (eight : (key ws : List ℕ) → length (mac key ws) ≡ 8) (key : List ℕ) (n : ℕ) where
   pub data Effect (m : Module) (c : Call) : Type 0 where
     silent : coded-in mac key n c (act mac key n m c) ≡ [] → act mac key n m c .after ≡ m → Effect m c
-    speaks : (s : Statement) → Proper (m .n) s → s .station ≡ m .number → above (last-for m (s .question)) (s .question) (step s) ≡ true
+    speaks : (s : Statement) → Proper (m .n) s → s .station ≡ m .station → above (last-for m (s .question)) (s .question) (step s) ≡ true
         → coded-in mac key n c (act mac key n m c) ≡ entry (site c) s ∷ [] → act mac key n m c .after ≡ advanced m (s .question) (step s) → Effect m c
 
   -- what an outcome of opening or giving leaves in the log, and in the module
@@ -124,7 +124,7 @@ module _ (mac : List ℕ → List ℕ → List ℕ) (eight : (key ws : List ℕ)
   -- what the tests of coding show of the words
   pub record Codable (m : Module) (ws : List ℕ) (way : Bool) : Type 0 where
     pub formed : well-formed (m .n) (statement ws 0) ≡ true
-    pub mine : statement ws 0 .station ≡ m .number
+    pub mine : statement ws 0 .station ≡ m .station
     pub later : above (last-for m (statement ws 0 .question)) (statement ws 0 .question) (step (statement ws 0)) ≡ true
     pub fitting : way ≡ true
 

@@ -42,12 +42,12 @@ of-3 kind value flag round = (kind * 2 ^ 30 + value * 2 ^ 28 + flag * 2 ^ 27 + 3
 abbrev pub forged : Station
 forged =
     record {
-      identity = record { n = 3; number = 3; question = 2 };
+      identity = record { n = 3; station = 3; question = 2 };
       stage = Gathering;
       closed = false;
       decision = none;
       held = record { heard = 4; slots = replicate 20 0 ++ ((2 ^ 28 + 3 * 2 ^ 16) ∷ 2 ∷ replicate 288 0) };
-      groups = record { first = replicate 160 0; second = replicate 160 0 };
+      groups = record { value = replicate 160 0; none = replicate 160 0 };
     }
 
 -- ---- the list, call by call, each with the number that it answers

@@ -26,7 +26,7 @@ use Rattle.sealed.specs.Sealed.{last-for}
 use Rattle.station.specs.declared.Stage.{Stage}
 use Rattle.station.specs.declared.Stage.the-variants.{Gathering, Proposing, Voting}
 use Rattle.station.specs.declared.Station.{Station}
-use Rattle.station.specs.Machine.{State, stage-step, kind-in, round-in, has-value, decided, decision-at, closes, follows, Next, began, shut, takes, supplies-first, supplies-second, vote-value, carried}
+use Rattle.station.specs.Machine.{State, stage-step, kind-in, round-in, has-value, decided, decision-at, closes, follows, Next, began, shut, takes, supplies-for-value, supplies-for-none, vote-value, carried}
 use Rattle.station.specs.Words as W
 use Rattle.station.specs.Words.{state-of}
 use Rattle.station.specs.Slots.{all-two}
@@ -69,7 +69,7 @@ steps-up n (Proposing r f) k coin = omega (arith, steps-P kind-P (r .0) refl, st
 steps-up n (Voting r) k coin = go (ltb (carried (k .held)) none)
   where
     go : (b : Bool) → stage-step (Voting r) < stage-step (pick {A = Next} b
-        (record { kind = kind-P; value = carried (k .held); flag = D-GET; round = r .0 + 1; first = k .first; second = []; stage = Proposing (record { 0 = r .0 + 1 }) D-GET })
+        (record { kind = kind-P; value = carried (k .held); flag = D-GET; round = r .0 + 1; first = k .for-value; second = []; stage = Proposing (record { 0 = r .0 + 1 }) D-GET })
         (record { kind = kind-P; value = coin; flag = R-GET; round = r .0 + 1; first = k .held; second = []; stage = Proposing (record { 0 = r .0 + 1 }) R-GET }) .stage)
     go true = omega (arith, steps-V kind-V (r .0) refl, steps-P kind-P (r .0 + 1) refl)
     go false = omega (arith, steps-V kind-V (r .0) refl, steps-P kind-P (r .0 + 1) refl)
@@ -84,23 +84,23 @@ kept-decision (Voting r) old h e = rw (lt-ltb old none e)
 -- ---- an open station written from a sane state
 module _ (mac : List ℕ → List ℕ → List ℕ) (key : List ℕ) (n number : ℕ) (l took : List Statement) (u : State) (top : n ≤ 31) (lo : 1 ≤ number) (hi : number ≤ n)
     (S : Sane n number u) where
-  pub open-line : Certain (mac key) u → All (λ s. In s took) (u .held) → All (Coded n l) (u .first) → All (Coded n l) (u .second)
-      → All (λ s. step s ≤ stage-step (u .stage)) took → NowHeld (stage-step (u .stage)) (u .held) took → OpenLine mac key n l number (W.station-of n number u) took
-  unfolding W.station-of
+  pub open-line : Certain (mac key) u → All (λ s. In s took) (u .held) → All (Coded n l) (u .for-value) → All (Coded n l) (u .for-none)
+      → All (λ s. step s ≤ stage-step (u .stage)) took → NowHeld (stage-step (u .stage)) (u .held) took → OpenLine mac key n l number (W.as-station n number u) took
+  unfolding W.as-station
   open-line C a f s up now =
-      let e : u ≡ state-of (W.station-of n number u) = sym (state-back n number u top lo hi S) in
+      let e : u ≡ state-of (W.as-station n number u) = sym (state-back n number u top lo hi S) in
       record {
         fit = sane-fits n number u top lo hi S;
         certain = subst (λ (x : State). Certain (mac key) x) e C;
         among = subst (λ (x : State). All (λ s. In s took) (x .held)) e a;
-        first-coded = subst (λ (x : State). All (Coded n l) (x .first)) e f;
-        second-coded = subst (λ (x : State). All (Coded n l) (x .second)) e s;
+        for-value-coded = subst (λ (x : State). All (Coded n l) (x .for-value)) e f;
+        for-none-coded = subst (λ (x : State). All (Coded n l) (x .for-none)) e s;
         upto = up;
         now-held = subst (λ (x : State). NowHeld (stage-step (u .stage)) (x .held) took) e now;
       }
 
 module _ (mac : List ℕ → List ℕ → List ℕ) (eight : (key ws : List ℕ) → length (mac key ws) ≡ 8) (m : Module) (t : Station) (ws : List ℕ) (coin : ℕ) (out : List ℕ)
-    (l : List Entry) (took : List Statement) (L : Line mac (m .key) (m .n) (reads l) (m .number) t took) (A : Accepted mac m t ws coin out)
+    (l : List Entry) (took : List Statement) (L : Line mac (m .key) (m .n) (reads l) (m .station) t took) (A : Accepted mac m t ws coin out)
     (came : CodesCame mac (m .key) (m .n) l ws) where
   abbrev n : ℕ
   n = m .n
@@ -111,7 +111,7 @@ module _ (mac : List ℕ → List ℕ → List ℕ) (eight : (key ws : List ℕ)
   abbrev took1 : List Statement
   took1 = main-of ws ∷ took
 
-  O : OpenLine mac (m .key) n (reads l) (m .number) t took
+  O : OpenLine mac (m .key) n (reads l) (m .station) t took
   O = L .while-open (A .still-open)
 
   all-coded : Coded n (reads l) (main-of ws) × All (Coded n (reads l)) (certificate-of ws)
@@ -148,11 +148,11 @@ module _ (mac : List ℕ → List ℕ → List ℕ) (eight : (key ws : List ℕ)
   group-coded true c a = all-take (Coded n (reads l)) (quorum n) (certificate-of ws) (all-coded .1)
   group-coded false c a = a
 
-  first1 : All (Coded n (reads l)) (k .first)
-  first1 = group-coded (takes (supplies-first (state-of t .stage)) (state-of t .held) (main-of ws)) (state-of t .first) (O .first-coded)
+  first1 : All (Coded n (reads l)) (k .for-value)
+  first1 = group-coded (takes (supplies-for-value (state-of t .stage)) (state-of t .held) (main-of ws)) (state-of t .for-value) (O .for-value-coded)
 
-  second1 : All (Coded n (reads l)) (k .second)
-  second1 = group-coded (takes (supplies-second (state-of t .stage)) (state-of t .held) (main-of ws)) (state-of t .second) (O .second-coded)
+  second1 : All (Coded n (reads l)) (k .for-none)
+  second1 = group-coded (takes (supplies-for-none (state-of t .stage)) (state-of t .held) (main-of ws)) (state-of t .for-none) (O .for-none-coded)
 
   main-step : step (main-of ws) ≡ stage-step (t .stage)
   main-step = A .fitting .in-step ∙ ap stage-step stage-is
@@ -193,19 +193,19 @@ module _ (mac : List ℕ → List ℕ → List ℕ) (eight : (key ws : List ℕ)
       go true e = absurd (few-votes (k .held) took1 (stage-step (t .stage)) v r now1 few (eqb-true _ _ e) enough)
       go false e = names-before v r low (eqb-false _ _ e) enough
 
-  pub kept-line : length (k .held) < quorum n → Line mac (m .key) n (reads l) (m .number) (W.station-of n (m .number) k) took1
-  unfolding W.station-of state-of
+  pub kept-line : length (k .held) < quorum n → Line mac (m .key) n (reads l) (m .station) (W.as-station n (m .station) k) took1
+  unfolding W.as-station state-of
   kept-line few =
       let S = kept-sane mac eight m t ws coin out (L .lengths) A few in
       record {
-        lengths = lengths-of n (m .number) k (A .range .at-most-31) S;
+        lengths = lengths-of n (m .station) k (A .range .at-most-31) S;
         facts = facts1;
         asked = asked1;
         low = L .low;
         named = named1;
         names = names-kept few;
         while-open = λ e.
-            open-line mac (m .key) n (m .number) (reads l) took1 k (A .range .at-most-31) (A .range .low) (A .range .high) S (kept-certain mac m t ws coin out A (O .certain)) among1 first1 second1
+            open-line mac (m .key) n (m .station) (reads l) took1 k (A .range .at-most-31) (A .range .low) (A .range .high) S (kept-certain mac m t ws coin out A (O .certain)) among1 first1 second1
             upto1 now1;
       }
 
@@ -281,12 +281,12 @@ module _ (mac : List ℕ → List ℕ → List ℕ) (eight : (key ws : List ℕ)
     low-ended = decision-low (t .stage) (t .decision) (k .held) (L .low)
 
     -- closed
-    pub shut-line : Line mac (m .key) n (reads l) (m .number)
-        (W.station-of n (m .number) (shut (mac (m .key)) n (m .number) (last-for m (t .identity .question)) k (decision-then mac m t ws coin out))) took1
-    unfolding W.station-of state-of
+    pub shut-line : Line mac (m .key) n (reads l) (m .station)
+        (W.as-station n (m .station) (shut (mac (m .key)) n (m .station) (last-for m (t .identity .question)) k (decision-then mac m t ws coin out))) took1
+    unfolding W.as-station state-of
     shut-line =
         record {
-          lengths = shut-lengths n (m .number) (shut (mac (m .key)) n (m .number) (last-for m (t .identity .question)) k (decision-then mac m t ws coin out)) refl refl refl;
+          lengths = shut-lengths n (m .station) (shut (mac (m .key)) n (m .station) (last-for m (t .identity .question)) k (decision-then mac m t ws coin out)) refl refl refl;
           facts = facts1;
           asked = asked1;
           low = low-ended;
@@ -366,7 +366,7 @@ module _ (mac : List ℕ → List ℕ → List ℕ) (eight : (key ws : List ℕ)
           go (Voting r) g a b = absurd (no-vote (ltb (carried (k .held)) none) a)
             where
               no-vote : (c : Bool) → pick {A = Next} c
-                  (record { kind = kind-P; value = carried (k .held); flag = D-GET; round = r .0 + 1; first = k .first; second = []; stage = Proposing (record { 0 = r .0 + 1 }) D-GET })
+                  (record { kind = kind-P; value = carried (k .held); flag = D-GET; round = r .0 + 1; first = k .for-value; second = []; stage = Proposing (record { 0 = r .0 + 1 }) D-GET })
                   (record { kind = kind-P; value = coin; flag = R-GET; round = r .0 + 1; first = k .held; second = []; stage = Proposing (record { 0 = r .0 + 1 }) R-GET }) .kind ≡ kind-V → ⊥
               no-vote true z = omega arith
               no-vote false z = omega arith
@@ -409,18 +409,18 @@ module _ (mac : List ℕ → List ℕ → List ℕ) (eight : (key ws : List ℕ)
       kept2 true = all-map (coded-more n (bare s) (reads l)) (x .first) (parts-coded .0)
       kept2 false = tt
 
-      pub sent-line : Line mac (m .key) n l2 (m .number) (W.station-of n (m .number) (began (t .identity .question) (x .stage) (decision-then mac m t ws coin out) s (x .first))) took2
-      unfolding W.station-of
+      pub sent-line : Line mac (m .key) n l2 (m .station) (W.as-station n (m .station) (began (t .identity .question) (x .stage) (decision-then mac m t ws coin out) s (x .first))) took2
+      unfolding W.as-station
       sent-line =
           let S = sent-sane mac eight m t ws coin out (L .lengths) A size more in
           record {
-            lengths = lengths-of n (m .number) (began (t .identity .question) (x .stage) (decision-then mac m t ws coin out) s (x .first)) (A .range .at-most-31) S;
+            lengths = lengths-of n (m .station) (began (t .identity .question) (x .stage) (decision-then mac m t ws coin out) s (x .first)) (A .range .at-most-31) S;
             facts = facts2;
             asked = (refl, asked1);
             low = low-ended;
             named = named2;
             names = names2;
             while-open = λ e.
-                open-line mac (m .key) n (m .number) l2 took2 (began (t .identity .question) (x .stage) (decision-then mac m t ws coin out) s (x .first)) (A .range .at-most-31) (A .range .low) (A .range .high) S
-                (sent-certain mac m t ws coin out A eight (L .lengths) (O .certain) size more) (List·Memᴰ·head refl, tt) (kept2 (supplies-first (x .stage) s)) (kept2 (supplies-second (x .stage) s)) upto2 now2;
+                open-line mac (m .key) n (m .station) l2 took2 (began (t .identity .question) (x .stage) (decision-then mac m t ws coin out) s (x .first)) (A .range .at-most-31) (A .range .low) (A .range .high) S
+                (sent-certain mac m t ws coin out A eight (L .lengths) (O .certain) size more) (List·Memᴰ·head refl, tt) (kept2 (supplies-for-value (x .stage) s)) (kept2 (supplies-for-none (x .stage) s)) upto2 now2;
           }

@@ -46,7 +46,7 @@ module _ (key : List ℕ) (n : ℕ) (faulty : List ℕ) where
   pub record Mine (i : ℕ) (m : Module) : Type 0 where
     pub same-key : m .key ≡ key
     pub same-n : m .n ≡ n
-    pub same-number : m .number ≡ i
+    pub same-number : m .station ≡ i
 
   pub record LogInv (f : ℕ → Module) (l : List Entry) : Type 0 where
     pub mods : (i : ℕ) → 1 ≤ i → i ≤ n → Mine i (f i)

@@ -94,8 +94,8 @@ module _ (mac : List ℕ → List ℕ → List ℕ) (key : List ℕ) (n : ℕ) w
     pub fit : fits n i t ≡ true
     pub certain : Certain (mac key) (state-of t)
     pub among : All (λ s. In s took) (state-of t .held)
-    pub first-coded : All (Coded n l) (state-of t .first)
-    pub second-coded : All (Coded n l) (state-of t .second)
+    pub for-value-coded : All (Coded n l) (state-of t .for-value)
+    pub for-none-coded : All (Coded n l) (state-of t .for-none)
     pub upto : All (λ s. step s ≤ stage-step (t .stage)) took
     pub now-held : NowHeld (stage-step (t .stage)) (state-of t .held) took
 
@@ -123,8 +123,8 @@ module _ (mac : List ℕ → List ℕ → List ℕ) (key : List ℕ) (n : ℕ) w
               fit = o .fit;
               certain = o .certain;
               among = o .among;
-              first-coded = all-map (coded-more n u l) (state-of t .first) (o .first-coded);
-              second-coded = all-map (coded-more n u l) (state-of t .second) (o .second-coded);
+              for-value-coded = all-map (coded-more n u l) (state-of t .for-value) (o .for-value-coded);
+              for-none-coded = all-map (coded-more n u l) (state-of t .for-none) (o .for-none-coded);
               upto = o .upto;
               now-held = o .now-held;
             };

@@ -62,20 +62,20 @@ module _ (mac : List ℕ → List ℕ → List ℕ) (eight : (key ws : List ℕ)
   unfolding step
   init-step = steps-0 kind-INIT 0 refl
 
-  pub init-line : Line mac (m .key) (m .n) l2 (m .number) (W.station-of (m .n) (m .number) (began q Gathering none s [])) (s ∷ [])
-  unfolding W.station-of some pick
+  pub init-line : Line mac (m .key) (m .n) l2 (m .station) (W.as-station (m .n) (m .station) (began q Gathering none s [])) (s ∷ [])
+  unfolding W.as-station some pick
   init-line =
       let S = init-sane mac eight m q v r p in
       record {
-        lengths = lengths-of (m .n) (m .number) (began q Gathering none s []) (r .at-most-31) S;
+        lengths = lengths-of (m .n) (m .station) (began q Gathering none s []) (r .at-most-31) S;
         facts = ((record { mem = List·Memᴰ·head refl; low = r .low; high = r .high }, init-just l2), tt);
         asked = (refl, tt);
         low = omega arith;
         named = λ w low e. absurd (omega arith);
         names = λ w k low enough. absurd (none-yet w k enough);
         while-open = λ e.
-            open-line mac (m .key) (m .n) (m .number) l2 (s ∷ []) (began q Gathering none s []) (r .at-most-31) (r .low) (r .high) S
-            (record { held = (own-verifies (mac (m .key)) (m .number) q kind-INIT v D-GET 0, tt); first = tt; second = tt; given = ((λ a b. absurd (omega arith)), tt) })
+            open-line mac (m .key) (m .n) (m .station) l2 (s ∷ []) (began q Gathering none s []) (r .at-most-31) (r .low) (r .high) S
+            (record { held = (own-verifies (mac (m .key)) (m .station) q kind-INIT v D-GET 0, tt); for-value = tt; for-none = tt; given = ((λ a b. absurd (omega arith)), tt) })
             (List·Memᴰ·head refl, tt) tt tt (omega (arith, init-step), tt)
             ((λ z. left (has-value (s .value) s && eqb (s .station) (s .station)) false (join (has-value (s .value) s) _ (eq-eqb (s .value) (s .value) refl) (eq-eqb (s .station) (s .station) refl))), tt);
       }
@@ -86,13 +86,13 @@ module _ (mac : List ℕ → List ℕ → List ℕ) (eight : (key ws : List ℕ)
 module _ (mac : List ℕ → List ℕ → List ℕ) (eight : (key ws : List ℕ) → length (mac key ws) ≡ 8) (key : List ℕ) (n : ℕ) (low : 2 ≤ n) (top : n ≤ 31) (faulty : List ℕ) where
   -- a site's module is the group's: what holds by its words holds by the group's
   of-mine : (i : ℕ) (m : Module) → Mine key n faulty i m → (l : List Statement) (t : Station) (took : List Statement)
-      → Line mac (m .key) (m .n) l (m .number) t took → Line mac key n l i t took
+      → Line mac (m .key) (m .n) l (m .station) t took → Line mac key n l i t took
   of-mine i m M l t took L =
       subst (λ (x : List ℕ). Line mac x n l i t took) (M .same-key)
       (subst (λ (x : ℕ). Line mac (m .key) x l i t took) (M .same-n) (subst (λ (x : ℕ). Line mac (m .key) (m .n) l x t took) (M .same-number) L))
 
   to-mine : (i : ℕ) (m : Module) → Mine key n faulty i m → (l : List Statement) (t : Station) (took : List Statement)
-      → Line mac key n l i t took → Line mac (m .key) (m .n) l (m .number) t took
+      → Line mac key n l i t took → Line mac (m .key) (m .n) l (m .station) t took
   to-mine i m M l t took L =
       subst (λ (x : ℕ). Line mac (m .key) (m .n) l x t took) (sym (M .same-number))
       (subst (λ (x : ℕ). Line mac (m .key) x l i t took) (sym (M .same-n)) (subst (λ (x : List ℕ). Line mac x n l i t took) (sym (M .same-key)) L))
@@ -147,7 +147,7 @@ module _ (mac : List ℕ → List ℕ → List ℕ) (eight : (key ws : List ℕ)
           (unchanged key n faulty (modules mac key n cs) (modules mac key n (c ∷ cs)) (log mac key n cs) (module-same a) I)
 
       -- one statement was coded
-      spoke : (s : Statement) → Proper (m .n) s → s .station ≡ m .number → above (last-for m (s .question)) (s .question) (step s) ≡ true
+      spoke : (s : Statement) → Proper (m .n) s → s .station ≡ m .station → above (last-for m (s .question)) (s .question) (step s) ≡ true
           → coded-in mac key n c (act mac key n m c) ≡ entry (site c) s ∷ [] → act mac key n m c .after ≡ advanced m (s .question) (step s)
           → (member (site c) faulty ≡ false → Just n (reads (log mac key n cs)) s)
           → (member (site c) faulty ≡ false → s .kind ≡ kind-V → s .value ≡ none → Rattle.agreement.specs.Safe.Split n (reads (log mac key n cs)) (s .question) (s .round))
@@ -276,7 +276,7 @@ module _ (mac : List ℕ → List ℕ → List ℕ) (eight : (key ws : List ℕ)
           where
             picked : (i x : ℕ) (line : Lineage) → 1 ≤ i → i ≤ n → member i faulty ≡ false → (b : Bool) → (eqb j i && true && eqb (openings mac key n cs i) x) ≡ b
                 → pick b (found (record {
-                  present = W.station-of (mj .n) (mj .number) (began q Gathering none (init-statement mac mj q v out) []);
+                  present = W.as-station (mj .n) (mj .station) (began q Gathering none (init-statement mac mj q v out) []);
                   took = statement (over (bundle-of (init-statement mac mj q v out) []) out) 1 ∷ [];
                 })) (lineage mac key n cs i x) ≡ found line
                 → Line mac key n (bare (init-statement mac mj q v out) ∷ reads (log mac key n cs)) i (line .present) (line .took)
@@ -285,7 +285,7 @@ module _ (mac : List ℕ → List ℕ → List ℕ) (eight : (key ws : List ℕ)
                 let proper : Proper (mj .n) s = own-proper mac eight mj q kind-INIT v D-GET 0 r (init refl refl p refl) in
                 let ji : j ≡ i = eqb-true j i (both (eqb j i) true (both (eqb j i && true) _ z .0) .0) in
                 let same = same-line _ line f in
-                let T = W.station-of (mj .n) (mj .number) (began q Gathering none s []) in
+                let T = W.as-station (mj .n) (mj .station) (began q Gathering none s []) in
                 let L : Line mac key n (bare s ∷ reads (log mac key n cs)) j T (s ∷ [])
                 = of-mine j mj mine (bare s ∷ reads (log mac key n cs)) T (s ∷ []) (init-line mac eight mj q v out (reads (log mac key n cs)) r p) in
                 let L1 : Line mac key n (bare s ∷ reads (log mac key n cs)) j T (statement (over (bundle-of s []) out) 1 ∷ [])
@@ -330,7 +330,7 @@ module _ (mac : List ℕ → List ℕ → List ℕ) (eight : (key ws : List ℕ)
     pub record Whose : Type 0 where
       pub line : Lineage
       pub is : lineage mac key n cs j o ≡ found line
-      pub known : Line mac (mg .key) (mg .n) before (mg .number) t (line .took)
+      pub known : Line mac (mg .key) (mg .n) before (mg .station) t (line .took)
 
     whose : member j faulty ≡ false → unrefused (answer mac key n cs g .number) ≡ true → Whose
     whose h u =
@@ -405,18 +405,18 @@ module _ (mac : List ℕ → List ℕ → List ℕ) (eight : (key ws : List ℕ)
         go _ e (holds-on A few) =
             silent-inv (keeps kept (after mac mg t ws coin out)) e refl refl
             (placed (returned mg t out (keeps kept (after mac mg t ws coin out))) before (I .lines) (λ h. whose h (number-g (keeps kept (after mac mg t ws coin out)) e refl))
-            (λ H h. of-mine j mg mine-g before (W.station-of (mg .n) (mg .number) (after mac mg t ws coin out)) (main-of ws ∷ H .line .took)
+            (λ H h. of-mine j mg mine-g before (W.as-station (mg .n) (mg .station) (after mac mg t ws coin out)) (main-of ws ∷ H .line .took)
             (kept-line mac eight mg t ws coin out (log mac key n cs) (H .line .took) (H .known) A came-g few)))
         go _ e (shuts A size c) = closed-so A size c e
           where
             closed-so : (A : Accepted mac mg t ws coin out) (size : length (after mac mg t ws coin out .held) ≡ quorum (mg .n)) → closes (t .stage) ≡ true
-                → giving-outcome mac mg t ws coin out ≡ keeps closed-now (shut (mac (mg .key)) (mg .n) (mg .number) (last-for mg (t .identity .question)) (after mac mg t ws coin out) (decision-then mac mg t ws coin out))
+                → giving-outcome mac mg t ws coin out ≡ keeps closed-now (shut (mac (mg .key)) (mg .n) (mg .station) (last-for mg (t .identity .question)) (after mac mg t ws coin out) (decision-then mac mg t ws coin out))
                 → Inv (g ∷ cs)
             closed-so A size c e =
-                let u = shut (mac (mg .key)) (mg .n) (mg .number) (last-for mg (t .identity .question)) (after mac mg t ws coin out) (decision-then mac mg t ws coin out) in
+                let u = shut (mac (mg .key)) (mg .n) (mg .station) (last-for mg (t .identity .question)) (after mac mg t ws coin out) (decision-then mac mg t ws coin out) in
                 silent-inv (keeps closed-now u) e refl refl
                 (placed (returned mg t out (keeps closed-now u)) before (I .lines) (λ h. whose h (number-g (keeps closed-now u) e refl))
-                (λ H h. of-mine j mg mine-g before (W.station-of (mg .n) (mg .number) u) (main-of ws ∷ H .line .took)
+                (λ H h. of-mine j mg mine-g before (W.as-station (mg .n) (mg .station) u) (main-of ws ∷ H .line .took)
                 (shut-line mac eight mg t ws coin out (log mac key n cs) (H .line .took) (H .known) A came-g size)))
         go _ e (goes-on {k} A size c a w) = sent-so k A size c a w e
           where
@@ -436,7 +436,7 @@ module _ (mac : List ℕ → List ℕ → List ℕ) (eight : (key ws : List ℕ)
                 let coded : coded-in mac key n g (answer mac key n cs g) ≡ entry j s ∷ [] = log-g o' e in
                 let wr : wrote k ≡ true = ap wrote w ∙ sent-wrote (ltb (t .decision) none || eqb (decision-then mac mg t ws coin out) none) in
                 let un : unrefused (answer mac key n cs g .number) ≡ true = number-g o' e (wrote-unrefused k wr) in
-                let T : Station = W.station-of (mg .n) (mg .number) u in
+                let T : Station = W.as-station (mg .n) (mg .station) u in
                 record {
                   logs = spoke g cs lo hi (I .logs) s proper refl a coded (after-g o' e)
                       (λ h. let H = whose h un in

@@ -61,7 +61,7 @@ module-in ws m =
     record {
       key = key-of ws m;
       n = getD ws (m * 13 + 8) 0;
-      number = getD ws (m * 13 + 9) 0;
+      station = getD ws (m * 13 + 9) 0;
       last = last-in (getD ws (m * 13 + 10) 0) (getD ws (m * 13 + 11) 0) (getD ws (m * 13 + 12) 0);
     }
 
@@ -82,7 +82,7 @@ groups-in ws s = record { first = take 160 (drop (s * 639 + 319) ws); second = t
 unfoldable pub station-in : List ℕ → ℕ → Station
 station-in ws s =
     record {
-      identity = record { n = getD ws (s * 639) 0; number = getD ws (s * 639 + 1) 0; question = getD ws (s * 639 + 2) 0 };
+      identity = record { n = getD ws (s * 639) 0; station = getD ws (s * 639 + 1) 0; question = getD ws (s * 639 + 2) 0 };
       stage = stage-in (getD ws (s * 639 + 3) 0) (getD ws (s * 639 + 4) 0) (getD ws (s * 639 + 5) 0);
       closed = eqb (getD ws (s * 639 + 6) 0) 1;
       decision = getD ws (s * 639 + 7) 0;

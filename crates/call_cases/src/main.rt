@@ -488,7 +488,7 @@ fn module_at(modules: &[u32], m: usize) -> Module
     Module {
         key: key(modules, m),
         n: modules[at + 8],
-        number: modules[at + 9],
+        station: modules[at + 9],
         last: last_of(modules[at + 10], modules[at + 11], modules[at + 12]),
     }
 }
@@ -535,7 +535,7 @@ fn module_words(module: Module) -> [u32; 13] {
         k[6],
         k[7],
         module.n,
-        module.number,
+        module.station,
         bit(last.coded),
         last.question,
         (step.0 % 4294967296) as u32,
@@ -639,7 +639,7 @@ fn station_at(stations: &[u32], s: usize) -> Station
     let at = s * 639;
     let identity = Identity {
         n: stations[at],
-        number: stations[at + 1],
+        station: stations[at + 1],
         question: stations[at + 2],
     };
     let stage = stage_of(stations[at + 3], stations[at + 4], stations[at + 5]);
@@ -719,7 +719,7 @@ fn head_words(
 ) -> [u32; 9] {
     [
         identity.n,
-        identity.number,
+        identity.station,
         identity.question,
         tag_of(stage),
         round_of(stage),
@@ -751,8 +751,8 @@ fn put_station(stations: &mut [u32], s: usize, new: Station)
     let held = new.held;
     let slots = held.slots;
     let groups = new.groups;
-    let first = groups.first;
-    let second = groups.second;
+    let first = groups.value;
+    let second = groups.none;
     let head = head_words(identity, stage, new.closed, new.decision, held.heard);
     put_head(stations, at, head);
     put_slots(stations, at + 9, slots);

@@ -18,7 +18,7 @@ use Rattle.station.specs.Machine.{State, Next, next, proposing, voting, round-i
 use Rattle.station.specs.declared.Station.{Station}
 use Rattle.station.specs.Words.{sites, held-in, state-of}
 use Rattle.ending.specs.declared.Source.{Source}
-use Rattle.ending.specs.declared.Source.the-variants.{Nothing, Slots, First, Second}
+use Rattle.ending.specs.declared.Source.the-variants.{Nothing, Slots, ForValue, ForNone}
 use Rattle.ending.specs.declared.Following.{Following}
 use Rattle.ending.specs.Lowest.{lowest, lowest-held}
 
@@ -27,7 +27,7 @@ following k v f r c d g = record { kind = k; value = v; flag = f; round = record
 
 -- the second group of a vote: that of rule 5 or of rule 7
 unfoldable pub second-source : ℕ → ℕ → Bool → Source
-second-source r value d-get = pick (ltb 1 r) (pick (ltb value none) (pick d-get First Nothing) Second) Nothing
+second-source r value d-get = pick (ltb 1 r) (pick (ltb value none) (pick d-get ForValue Nothing) ForNone) Nothing
 
 -- the round after r, where there is one
 unfoldable pub round-after : ℕ → ℕ
@@ -47,7 +47,7 @@ unfoldable pub votes-next : ℕ → ℕ → List ℕ → ℕ → Following
 votes-next r set slots coin =
     let h = held-in set slots 0 sites in
     pick (ltb (carried h) none)
-    (following kind-P (carried h) D-GET (round-after r) First Nothing (proposing (round-after r) D-GET))
+    (following kind-P (carried h) D-GET (round-after r) ForValue Nothing (proposing (round-after r) D-GET))
     (following kind-P coin R-GET (round-after r) (Slots set) Nothing (proposing (round-after r) R-GET))
 
 unfoldable pub next-by : ℕ → Stage → ℕ → List ℕ → ℕ → Following
@@ -68,7 +68,7 @@ module _ (set : ℕ) (slots : List ℕ) where
   proposals-given r v b s e f g = rw (g, e, f)
 
   pub votes-carry : (r coin v b : ℕ) → v ≡ carried (held-in set slots 0 sites) → b ≡ round-after r → v < none
-      → following kind-P v D-GET b First Nothing (proposing b D-GET) ≡ votes-next r set slots coin
+      → following kind-P v D-GET b ForValue Nothing (proposing b D-GET) ≡ votes-next r set slots coin
   unfolding votes-next
   votes-carry r coin v b e f l =
       let t : ltb (carried (held-in set slots 0 sites)) none ≡ true = ap (λ (x : ℕ). ltb x none) (sym e) ∙ lt-ltb v none l in
@@ -85,14 +85,14 @@ module _ (set : ℕ) (slots : List ℕ) where
 abbrev pub group-in : Source → List ℕ → List Statement → List Statement → List Statement
 group-in Nothing slots c d = []
 group-in (Slots set) slots c d = held-in set slots 0 sites
-group-in First slots c d = c
-group-in Second slots c d = d
+group-in ForValue slots c d = c
+group-in ForNone slots c d = d
 
 abbrev pub as-next : Following → List ℕ → List Statement → List Statement → Next
 as-next x slots c d = next (x .kind) (x .value) (x .flag) (x .round .0) (group-in (x .first) slots c d) (group-in (x .second) slots c d) (x .stage)
 
 second-is : (a b e : Bool) (slots : List ℕ) (c d : List Statement)
-    → group-in (pick a (pick b (pick e First Nothing) Second) Nothing) slots c d ≡ pick a (pick b (pick e c []) d) []
+    → group-in (pick a (pick b (pick e ForValue Nothing) ForNone) Nothing) slots c d ≡ pick a (pick b (pick e c []) d) []
 unfolding pick
 second-is true true true slots c d = refl
 second-is true true false slots c d = refl
@@ -111,7 +111,7 @@ round-up r l = sym (here (ltb r last-round) (r + 1) last-round (lt-ltb r last-ro
 
 -- a station whose votes are not of the last round goes on as the definition says
 pub next-is : (n : ℕ) (g : Stage) (set : ℕ) (slots : List ℕ) (coin : ℕ) (t : State) → t .held ≡ held-in set slots 0 sites → closes g ≡ false
-    → round-in g ≤ last-round → as-next (next-by n g set slots coin) slots (t .first) (t .second) ≡ follows n g t coin
+    → round-in g ≤ last-round → as-next (next-by n g set slots coin) slots (t .for-value) (t .for-none) ≡ follows n g t coin
 unfolding next-by follows inits-next proposals-next votes-next second-source
 next-is n Gathering set slots coin t e goes top =
     let v = first-value (held-in set slots 0 sites) in
@@ -119,18 +119,18 @@ next-is n Gathering set slots coin t e goes top =
 next-is n (Proposing r f) set slots coin t e goes top =
     let h = held-in set slots 0 sites in
     rw e (ap (λ (d : List Statement). next kind-V (vote-value h) D-GET (r .0) h d (voting (r .0)))
-    (second-is (ltb 1 (r .0)) (ltb (vote-value h) none) (some-D-GET h) slots (t .first) (t .second)))
+    (second-is (ltb 1 (r .0)) (ltb (vote-value h) none) (some-D-GET h) slots (t .for-value) (t .for-none)))
 next-is n (Voting r) set slots coin t e goes top =
     let h = held-in set slots 0 sites in
     let l : r .0 < last-round = omega (arith, eqb-false (r .0) last-round goes) in
     let a : round-after (r .0) ≡ r .0 + 1 = round-up (r .0) l in
     rw (e, a)
-    (pick-next (ltb (carried h) none) (following kind-P (carried h) D-GET (r .0 + 1) First Nothing (proposing (r .0 + 1) D-GET))
-    (following kind-P coin R-GET (r .0 + 1) (Slots set) Nothing (proposing (r .0 + 1) R-GET)) slots (t .first) (t .second))
+    (pick-next (ltb (carried h) none) (following kind-P (carried h) D-GET (r .0 + 1) ForValue Nothing (proposing (r .0 + 1) D-GET))
+    (following kind-P coin R-GET (r .0 + 1) (Slots set) Nothing (proposing (r .0 + 1) R-GET)) slots (t .for-value) (t .for-none))
 
 -- the same of a station's own words
 pub next-of : (n coin : ℕ) (t : Station) → closes (t .stage) ≡ false → round-in (t .stage) ≤ last-round
-    → as-next (next-by n (t .stage) (t .held .heard) (t .held .slots) coin) (t .held .slots) (state-of t .first) (state-of t .second)
+    → as-next (next-by n (t .stage) (t .held .heard) (t .held .slots) coin) (t .held .slots) (state-of t .for-value) (state-of t .for-none)
     ≡ follows n (t .stage) (state-of t) coin
 unfolding state-of
 next-of n coin t goes top = next-is n (t .stage) (t .held .heard) (t .held .slots) coin (state-of t) refl goes top

@@ -16,12 +16,12 @@ ghost use Rattle.ending.specs.Number.{such};
 ghost use Rattle.ending.specs.Lowest.{lowest};
 ghost use Rattle.ending.specs.After.{round-after, second-source, inits-next, proposals-next, votes-next, next-by};
 
-// Where a certificate group's statements are: in the slots of a set of stations, in the first or the second kept group, or nowhere.
+// Where a certificate group's statements are: in the slots of a set of stations, in the group kept for a value or for a none vote, or nowhere.
 pub enum Source {
     Nothing,
     Slots(u32),
-    First,
-    Second,
+    ForValue,
+    ForNone,
 }
 
 // What follows a step: the statement, but for its station, question and code; its certificate's two groups; and the next stage.
@@ -210,10 +210,10 @@ fn second_source(r: Round, value: u32, dget: bool) -> Source
         return Source::Nothing;
     }
     if 2 <= value {
-        return Source::Second;
+        return Source::ForNone;
     }
     if dget {
-        return Source::First;
+        return Source::ForValue;
     }
     Source::Nothing
 }
@@ -266,7 +266,7 @@ fn after_votes(r: Round, set: u32, slots: &[u32; 310], coin: u32) -> Following
             value: v,
             flag: 0,
             round: b,
-            first: Source::First,
+            first: Source::ForValue,
             second: Source::Nothing,
             stage: Stage::Proposing(b, 0),
         };

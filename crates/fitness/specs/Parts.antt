@@ -23,12 +23,12 @@ use Rattle.certificate.specs.Parts.{and-pick}
 use Rattle.station.specs.declared.Stage.{Stage}
 use Rattle.station.specs.declared.Stage.the-variants.{Gathering, Proposing, Voting}
 use Rattle.station.specs.declared.Station.{Station}
-use Rattle.station.specs.Machine.{stage-step, round-in, supplies-first, supplies-second}
-use Rattle.station.specs.Words.{sites, held-in, leading, kept-first, kept-second, first-of-round, no-group}
+use Rattle.station.specs.Machine.{stage-step, round-in, supplies-for-value, supplies-for-none}
+use Rattle.station.specs.Words.{sites, held-in, leading, kept-for-value, kept-for-none, value-group, no-group}
 use Rattle.station.specs.Fit.{zeros, slot-fits, slots-fit, stage-fits, group-fits, held-fits, rest-fits, fits}
 
 -- ---- the parts
--- which held statement supplies a kept group: the first where the number is 0, the second where it is 1
+-- which held statement supplies a kept group: that for a value where the number is 0, that for a none vote where it is 1
 unfoldable pub supplies-by : ℕ → Stage → ℕ → ℕ → Bool
 supplies-by get Gathering value flag = false
 supplies-by get (Proposing r f) value flag = ltb 1 (r .0) && eqb flag get
@@ -45,11 +45,11 @@ unfoldable pub held-words-fit : ℕ → ℕ → ℕ → ℕ → ℕ → List ℕ
 held-words-fit n number question step set slots =
     ltb set (2 ^ sites) && ltb (ones set) (quorum n) && bit set (number - 1) && slots-fit n question step set slots 0 sites
 
-unfoldable pub first-fits : ℕ → ℕ → Stage → ℕ → List ℕ → List ℕ → Bool
-first-fits n question g set slots ws = group-fits n question (kept-first n g (held-in set slots 0 sites)) ws
+unfoldable pub for-value-fits : ℕ → ℕ → Stage → ℕ → List ℕ → List ℕ → Bool
+for-value-fits n question g set slots ws = group-fits n question (kept-for-value n g (held-in set slots 0 sites)) ws
 
-unfoldable pub second-fits : ℕ → ℕ → Stage → ℕ → List ℕ → List ℕ → Bool
-second-fits n question g set slots ws = group-fits n question (kept-second n g (held-in set slots 0 sites)) ws
+unfoldable pub for-none-fits : ℕ → ℕ → Stage → ℕ → List ℕ → List ℕ → Bool
+for-none-fits n question g set slots ws = group-fits n question (kept-for-none n g (held-in set slots 0 sites)) ws
 
 unfoldable pub words-fit : ℕ → ℕ → Station → Bool
 words-fit n number t = held-fits n number t && rest-fits n number t
@@ -58,23 +58,23 @@ unfoldable pub range-fits : ℕ → ℕ → Bool
 range-fits n number = size-fits n && of-group n number
 
 -- ---- the supplier of a kept group
-pub supplies-is-first : (g : Stage) (s : Statement) → supplies-first g s ≡ supplies 0 g s
+pub supplies-is-for-value : (g : Stage) (s : Statement) → supplies-for-value g s ≡ supplies 0 g s
 unfolding supplies-by
-supplies-is-first Gathering s = refl
-supplies-is-first (Proposing r f) s = refl
-supplies-is-first (Voting r) s = refl
+supplies-is-for-value Gathering s = refl
+supplies-is-for-value (Proposing r f) s = refl
+supplies-is-for-value (Voting r) s = refl
 
-pub supplies-is-second : (g : Stage) (s : Statement) → supplies-second g s ≡ supplies 1 g s
+pub supplies-is-for-none : (g : Stage) (s : Statement) → supplies-for-none g s ≡ supplies 1 g s
 unfolding supplies-by
-supplies-is-second Gathering s = refl
-supplies-is-second (Proposing r f) s = refl
-supplies-is-second (Voting r) s = refl
+supplies-is-for-none Gathering s = refl
+supplies-is-for-none (Proposing r f) s = refl
+supplies-is-for-none (Voting r) s = refl
 
-pub first-by : (g : Stage) → supplies-first g ≡ supplies 0 g
-first-by g = λ i s. supplies-is-first g s i
+pub for-value-by : (g : Stage) → supplies-for-value g ≡ supplies 0 g
+for-value-by g = λ i s. supplies-is-for-value g s i
 
-pub second-by : (g : Stage) → supplies-second g ≡ supplies 1 g
-second-by g = λ i s. supplies-is-second g s i
+pub for-none-by : (g : Stage) → supplies-for-none g ≡ supplies 1 g
+for-none-by g = λ i s. supplies-is-for-none g s i
 
 -- ---- one turn of each loop
 module _ (ws : List ℕ) where
@@ -125,35 +125,35 @@ value-read slots i f e = rw e
 
 -- ---- the groups
 module _ (n : ℕ) (g : Stage) (l : List Statement) (found : Bool) (k : Group) where
-  pub first-found : (v : ℕ) → found ≡ some (supplies 0 g) l → v ≡ leading (supplies 0 g) l → found ≡ true → k ≡ first-of-round n g v → k ≡ kept-first n g l
-  unfolding kept-first
-  first-found v e p t q = rw (first-by g, q, p) (here _ _ _ (sym e ∙ t))
+  pub for-value-found : (v : ℕ) → found ≡ some (supplies 0 g) l → v ≡ leading (supplies 0 g) l → found ≡ true → k ≡ value-group n g v → k ≡ kept-for-value n g l
+  unfolding kept-for-value
+  for-value-found v e p t q = rw (for-value-by g, q, p) (here _ _ _ (sym e ∙ t))
 
-  pub first-missing : found ≡ some (supplies 0 g) l → found ≡ false → k ≡ no-group → k ≡ kept-first n g l
-  unfolding kept-first
-  first-missing e t q = rw (first-by g) (skip _ _ _ _ (sym e ∙ t) q)
+  pub for-value-missing : found ≡ some (supplies 0 g) l → found ≡ false → k ≡ no-group → k ≡ kept-for-value n g l
+  unfolding kept-for-value
+  for-value-missing e t q = rw (for-value-by g) (skip _ _ _ _ (sym e ∙ t) q)
 
-  pub second-found : (r : ℕ) → found ≡ some (supplies 1 g) l → r ≡ round-in g - 1 → found ≡ true → k ≡ none-votes n r → k ≡ kept-second n g l
-  unfolding kept-second
-  second-found r e p t q = rw (second-by g, q, p) (here _ _ _ (sym e ∙ t))
+  pub for-none-found : (r : ℕ) → found ≡ some (supplies 1 g) l → r ≡ round-in g - 1 → found ≡ true → k ≡ none-votes n r → k ≡ kept-for-none n g l
+  unfolding kept-for-none
+  for-none-found r e p t q = rw (for-none-by g, q, p) (here _ _ _ (sym e ∙ t))
 
-  pub second-missing : found ≡ some (supplies 1 g) l → found ≡ false → k ≡ no-group → k ≡ kept-second n g l
-  unfolding kept-second
-  second-missing e t q = rw (second-by g) (skip _ _ _ _ (sym e ∙ t) q)
+  pub for-none-missing : found ≡ some (supplies 1 g) l → found ≡ false → k ≡ no-group → k ≡ kept-for-none n g l
+  unfolding kept-for-none
+  for-none-missing e t q = rw (for-none-by g) (skip _ _ _ _ (sym e ∙ t) q)
 
 -- ---- the whole
 module _ (n number : ℕ) (t : Station) where
   pub words-are : (a b c d : Bool) (step : ℕ) → step ≡ stage-step (t .stage)
       → a ≡ held-words-fit n number (t .identity .question) step (t .held .heard) (t .held .slots)
       → b ≡ stage-fits (t .stage) (getD (t .held .slots) ((number - 1) * 10) 0)
-      → c ≡ first-fits n (t .identity .question) (t .stage) (t .held .heard) (t .held .slots) (t .groups .first)
-      → d ≡ second-fits n (t .identity .question) (t .stage) (t .held .heard) (t .held .slots) (t .groups .second)
+      → c ≡ for-value-fits n (t .identity .question) (t .stage) (t .held .heard) (t .held .slots) (t .groups .value)
+      → d ≡ for-none-fits n (t .identity .question) (t .stage) (t .held .heard) (t .held .slots) (t .groups .none)
       → (a && (b && leb (t .decision) none && c && d)) ≡ words-fit n number t
-  unfolding words-fit held-words-fit first-fits second-fits
+  unfolding words-fit held-words-fit for-value-fits for-none-fits
   words-are a b c d step e p q r s = rw (p, q, r, s, e)
 
   pub whole : (a : Bool) → a ≡ words-fit n number t
-      → (eqb (t .identity .n) n && eqb (t .identity .number) number && (t .closed || a)) ≡ fits n number t
+      → (eqb (t .identity .n) n && eqb (t .identity .station) number && (t .closed || a)) ≡ fits n number t
   unfolding words-fit fits
   whole a e = rw e
 

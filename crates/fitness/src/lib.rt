@@ -17,9 +17,9 @@ ghost use Rattle.rules.specs.Rules.{holds, some};
 ghost use Rattle.certificate.specs.Check.{every};
 ghost use Rattle.sealed.specs.Sealed.{module-fits};
 ghost use Rattle.station.specs.Machine.{stage-step, round-in};
-ghost use Rattle.station.specs.Words.{held-in, leading, no-group, first-of-round, kept-first as KeptFirst, kept-second as KeptSecond, sites};
+ghost use Rattle.station.specs.Words.{held-in, leading, no-group, value-group, kept-for-value as KeptForValue, kept-for-none as KeptForNone, sites};
 ghost use Rattle.station.specs.Fit.{zeros, slot-fits, slots-fit, stage-fits, group-fits, fits};
-ghost use Rattle.fitness.specs.Parts.{supplies as Supplies, supplies-by, slot-right, held-words-fit, first-fits, second-fits, words-fit, range-fits};
+ghost use Rattle.fitness.specs.Parts.{supplies as Supplies, supplies-by, slot-right, held-words-fit, for-value-fits, for-none-fits, words-fit, range-fits};
 
 // What a scan of the held statements found: whether one supplies a group, and the value of the lowest-numbered that does, or 2.
 struct Supplier {
@@ -100,8 +100,8 @@ fn slots_fit(slots: &[u32; 310], heard: u32, n: u32, question: u32, step: Step) 
     true
 }
 
-// Whether a held statement with this value and flag supplies a kept group: `get` is 0 for the first, which a D-GET or a vote supplies, and 1
-// for the second, which an R-GET does.
+// Whether a held statement with this value and flag supplies a kept group: `get` is 0 for the one for a value, which a D-GET or a vote
+// supplies, and 1 for the one for a none vote, which an R-GET does.
 fn supplies(stage: Stage, get: u32, value: u32, flag: u32) -> bool
     ensures { λ r. ⌜ r ≡ supplies-by get stage value flag ⌝ }
 {
@@ -147,9 +147,9 @@ fn no_group() -> Group
     }
 }
 
-// The first kept group of a stage, where it is of value v.
-fn first_of_round(n: u32, stage: Stage, v: u32) -> Group
-    ensures { λ g. ⌜ g ≡ first-of-round n stage v ⌝ }
+// The group that a stage keeps for the value v.
+fn value_group(n: u32, stage: Stage, v: u32) -> Group
+    ensures { λ g. ⌜ g ≡ value-group n stage v ⌝ }
 {
     match stage {
         Stage::Gathering => no_group(),
@@ -172,20 +172,20 @@ fn round_before_in(stage: Stage) -> Round
     }
 }
 
-// The first group that is to be kept.
-fn kept_first(slots: &[u32; 310], heard: u32, n: u32, stage: Stage) -> Group
-    ensures { λ g. ⌜ g ≡ KeptFirst n stage (held-in heard (now (slots .entry)) 0 sites) ⌝ }
+// The group that is to be kept for a value.
+fn kept_for_value(slots: &[u32; 310], heard: u32, n: u32, stage: Stage) -> Group
+    ensures { λ g. ⌜ g ≡ KeptForValue n stage (held-in heard (now (slots .entry)) 0 sites) ⌝ }
 {
     let s = lowest_supplier(slots, heard, stage, 0);
     if s.found {
-        return first_of_round(n, stage, s.value);
+        return value_group(n, stage, s.value);
     }
     no_group()
 }
 
-// The second group that is to be kept.
-fn kept_second(slots: &[u32; 310], heard: u32, n: u32, stage: Stage) -> Group
-    ensures { λ g. ⌜ g ≡ KeptSecond n stage (held-in heard (now (slots .entry)) 0 sites) ⌝ }
+// The group that is to be kept for a none vote.
+fn kept_for_none(slots: &[u32; 310], heard: u32, n: u32, stage: Stage) -> Group
+    ensures { λ g. ⌜ g ≡ KeptForNone n stage (held-in heard (now (slots .entry)) 0 sites) ⌝ }
 {
     let s = lowest_supplier(slots, heard, stage, 1);
     if s.found {
@@ -297,8 +297,8 @@ fn held_fits(slots: &[u32; 310], heard: u32, n: u32, number: u32, question: u32,
     (heard < 2147483648) & (u32::count_ones(heard) < format::quorum(n)) & own & all
 }
 
-// Whether the words of the first kept group are those that are to be kept.
-fn first_fits(
+// Whether the words of the group kept for a value are those that are to be kept.
+fn for_value_fits(
     slots: &[u32; 310],
     heard: u32,
     stage: Stage,
@@ -307,14 +307,14 @@ fn first_fits(
     question: u32,
 ) -> bool
     requires { ⌜ n ≤ 31 ⌝ }
-    ensures { λ r. ⌜ r ≡ first-fits n question stage heard (now (slots .entry)) (now (ws .entry)) ⌝ }
+    ensures { λ r. ⌜ r ≡ for-value-fits n question stage heard (now (slots .entry)) (now (ws .entry)) ⌝ }
 {
-    let g = kept_first(slots, heard, n, stage);
+    let g = kept_for_value(slots, heard, n, stage);
     group_fits(ws, n, question, g)
 }
 
-// Whether the words of the second kept group are.
-fn second_fits(
+// Whether the words of the group kept for a none vote are.
+fn for_none_fits(
     slots: &[u32; 310],
     heard: u32,
     stage: Stage,
@@ -323,9 +323,9 @@ fn second_fits(
     question: u32,
 ) -> bool
     requires { ⌜ n ≤ 31 ⌝ }
-    ensures { λ r. ⌜ r ≡ second-fits n question stage heard (now (slots .entry)) (now (ws .entry)) ⌝ }
+    ensures { λ r. ⌜ r ≡ for-none-fits n question stage heard (now (slots .entry)) (now (ws .entry)) ⌝ }
 {
-    let g = kept_second(slots, heard, n, stage);
+    let g = kept_for_none(slots, heard, n, stage);
     group_fits(ws, n, question, g)
 }
 
@@ -346,29 +346,29 @@ fn words_fit(t: Station, n: u32, number: u32) -> bool
     let heard = held.heard;
     let stage = t.stage;
     let groups = t.groups;
-    let one = groups.first;
-    let two = groups.second;
+    let one = groups.value;
+    let two = groups.none;
     let id = t.identity;
     let question = id.question;
     let step = step_in(stage);
     let at = ((number - 1) * 10) as usize;
     let a = held_fits(&slots, heard, n, number, question, step);
     let b = stage_fits(stage, slots[at]);
-    let c = first_fits(&slots, heard, stage, &one, n, question);
-    let d = second_fits(&slots, heard, stage, &two, n, question);
+    let c = for_value_fits(&slots, heard, stage, &one, n, question);
+    let d = for_none_fits(&slots, heard, stage, &two, n, question);
     a & (b & (t.decision <= 2) & c & d)
 }
 
 // Whether a station fits a module: the module is in range, the station has its n and number, and is closed or all of its words fit.
 pub fn fits_module(t: Station, m: Module) -> bool
-    ensures { λ r. ⌜ r ≡ (module-fits m && fits (m .n) (m .number) t) ⌝ }
+    ensures { λ r. ⌜ r ≡ (module-fits m && fits (m .n) (m .station) t) ⌝ }
 {
     let n = m.n;
-    let number = m.number;
+    let number = m.station;
     if !in_range(n, number) {
         return false;
     }
     let id = t.identity;
     let all = words_fit(t, n, number);
-    (id.n == n) & (id.number == number) & (t.closed | all)
+    (id.n == n) & (id.station == number) & (t.closed | all)
 }

@@ -43,7 +43,7 @@ module _ (m : Module) (t : Station) (ws : List ℕ) (coin : ℕ) (out : List ℕ
       let f : k ≡ first-failed (give-tests hmac-code m t ws coin out) = e ∙ first-refusal-by-length m t ws coin out in
       answers-by (with-no-bundle k t m out) (giving hmac-code m t ws coin out)
       (ap (λ (z : ℕ). with-no-bundle z t m out) f
-      ∙ sym (ap (λ (b : Bool). returned m t out (pick b (taken (hmac-code (m .key)) (m .n) (m .number) (last-for m (t .identity .question)) (state-of t) (main-of ws) (certificate-of ws) coin)
+      ∙ sym (ap (λ (b : Bool). returned m t out (pick b (taken (hmac-code (m .key)) (m .n) (m .station) (last-for m (t .identity .question)) (state-of t) (main-of ws) (certificate-of ws) coin)
       (refused (first-failed (give-tests hmac-code m t ws coin out))))) (ne-eqb (first-failed (give-tests hmac-code m t ws coin out)) 0 (λ z. no-0 (f ∙ z)))))
 
   -- where the number found is 0, no test fails
@@ -81,7 +81,7 @@ module _ (m : Module) (t : Station) (ws : List ℕ) (coin : ℕ) (out : List ℕ
     acc = accepted hmac-code m t ws coin out L none-failed
 
     k : Station
-    k = W.station-of (m .n) (m .number) (after hmac-code m t ws coin out)
+    k = W.as-station (m .n) (m .station) (after hmac-code m t ws coin out)
 
     same-k : kk ≡ k
     unfolding k

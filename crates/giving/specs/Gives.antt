@@ -18,7 +18,7 @@ use Rattle.station.specs.Machine.{closes, decision-at}
 use Rattle.station.specs.Words.{held-by}
 use Rattle.station.specs.Calls.{Returned}
 use Rattle.ending.specs.declared.Source.{Source}
-use Rattle.ending.specs.declared.Source.the-variants.{Nothing, Slots, First, Second}
+use Rattle.ending.specs.declared.Source.the-variants.{Nothing, Slots, ForValue, ForNone}
 use Rattle.ending.specs.declared.Following.{Following}
 use Rattle.ending.specs.After.{next-by}
 use Rattle.sending.specs.Sends.{own-fields}
@@ -28,20 +28,20 @@ use Rattle.sending.specs.Sent.{sent-count, sent-lent, sent-bundle, sent-station
 unfoldable pub set-by : Source → ℕ
 set-by Nothing = 0
 set-by (Slots s) = s
-set-by First = 0
-set-by Second = 0
+set-by ForValue = 0
+set-by ForNone = 0
 
 unfoldable pub kept-in : Source → Bool
 kept-in Nothing = false
 kept-in (Slots s) = false
-kept-in First = true
-kept-in Second = true
+kept-in ForValue = true
+kept-in ForNone = true
 
 unfoldable pub group-by : Source → Groups → List ℕ
-group-by Nothing g = g .first
-group-by (Slots s) g = g .first
-group-by First g = g .first
-group-by Second g = g .second
+group-by Nothing g = g .value
+group-by (Slots s) g = g .value
+group-by ForValue g = g .value
+group-by ForNone g = g .none
 
 unfoldable pub count-by : Source → Source → ℕ → ℕ
 count-by c d q = pick (kept-in c || kept-in d) q 0
@@ -84,7 +84,7 @@ shut-words k d =
       closed = true;
       decision = d;
       held = record { heard = 0; slots = replicate 310 0 };
-      groups = record { first = replicate 160 0; second = replicate 160 0 };
+      groups = record { value = replicate 160 0; none = replicate 160 0 };
     }
 
 unfoldable pub ending-words : Module → Station → ℕ → List ℕ → Returned

@@ -22,7 +22,7 @@ use Rattle.station.specs.declared.Groups.{Groups}
 use Rattle.station.specs.declared.Stage.{Stage}
 use Rattle.station.specs.declared.Stage.the-variants.{Gathering, Proposing, Voting}
 use Rattle.station.specs.declared.Station.{Station}
-use Rattle.station.specs.Machine.{State, Next, next, proposing, voting, began, supplies-first, supplies-second, has-value, those, first-value, vote-value, carried, follows, closes}
+use Rattle.station.specs.Machine.{State, Next, next, proposing, voting, began, supplies-for-value, supplies-for-none, has-value, those, first-value, vote-value, carried, follows, closes}
 use Rattle.station.specs.Calls.{Returned}
 use Rattle.station.specs.Words.{sites, bundle-of, over, set-of, slots-of, all-written, group-words, held-in}
 use Rattle.station.specs.Words as W
@@ -34,7 +34,7 @@ use Rattle.writer.specs.Bundle.{Certificate, all-held, some-held, kept-alone}
 use Rattle.compression.specs.Shape.{Below}
 use Rattle.sending.specs.Sent.{sent-count, sent-lent, sent-bundle, sent-station, sent-after}
 use Rattle.sending.specs.Sends.{own-fields, own-statement, lent-is, count-is, station-is, after-is}
-use Rattle.ending.specs.declared.Source.the-variants.{Nothing, Slots, First, Second}
+use Rattle.ending.specs.declared.Source.the-variants.{Nothing, Slots, ForValue, ForNone}
 use Rattle.ending.specs.declared.Following.{Following}
 use Rattle.ending.specs.LowestSet.{lowest-set}
 use Rattle.ending.specs.After.{following, next-by, inits-next, proposals-next, votes-next, second-source, round-after}
@@ -72,7 +72,7 @@ those-few p (s ∷ h) = go (p s) (those-few p h)
 
 module _ (n : ℕ) (K : State) (top : n ≤ 31) (F : Full n K) where
   abbrev groups : Groups
-  groups = record { first = group-words (K .first); second = group-words (K .second) }
+  groups = record { value = group-words (K .for-value); none = group-words (K .for-none) }
 
   abbrev slots : List ℕ
   slots = slots-of (K .held) 1 sites
@@ -105,7 +105,7 @@ module _ (n : ℕ) (K : State) (top : n ≤ 31) (F : Full n K) where
         held = take (backing n (first-value (K .held))) (those (has-value (first-value (K .held))) (K .held));
         more = [];
         made = any-group n _ slots (group-words [])
-            (some-held n (K .held) top (F .rising) (F .proper) [] tt (omega arith) (backing n (first-value (K .held))) (has-value (first-value (K .held))) inits-few) (group-words (K .first));
+            (some-held n (K .held) top (F .rising) (F .proper) [] tt (omega arith) (backing n (first-value (K .held))) (has-value (first-value (K .held))) inits-few) (group-words (K .for-value));
         set = rw e (lowest-set n (has-value (first-value (K .held))) (K .held) (backing n (first-value (K .held))) top (F .rising) (F .proper));
         size = refl;
         same = refl;
@@ -144,17 +144,17 @@ module _ (n : ℕ) (K : State) (top : n ≤ 31) (F : Full n K) where
       with-group c p q = all-held n (K .held) top (F .rising) (F .proper) c p (omega arith) (omega (arith, F .size))
 
       choose : (a : Bool) → ltb 1 r ≡ a → (b : Bool) → ltb (vote-value (K .held)) none ≡ b → (c : Bool) → some-D-GET (K .held) ≡ c
-          → Chosen (following kind-V (vote-value (K .held)) D-GET r (Slots (set-of (K .held))) (pick a (pick b (pick c First Nothing) Second) Nothing) (voting r))
-          (next kind-V (vote-value (K .held)) D-GET r (K .held) (pick a (pick b (pick c (K .first) []) (K .second)) []) (voting r))
+          → Chosen (following kind-V (vote-value (K .held)) D-GET r (Slots (set-of (K .held))) (pick a (pick b (pick c ForValue Nothing) ForNone) Nothing) (voting r))
+          (next kind-V (vote-value (K .held)) D-GET r (K .held) (pick a (pick b (pick c (K .for-value) []) (K .for-none)) []) (voting r))
       choose true x true y true z =
           let g = kept-equal n K F r f e (vote-value (K .held)) (vote-every y) (ltb-true 1 r x) z in
-          record { held = K .held; more = K .first; made = with-group (K .first) (g .proper) (g .as-asked .size); set = refl; size = sym (g .as-asked .size); same = refl }
-      choose true x true y false z = record { held = K .held; more = []; made = any-group n (K .held) slots (group-words []) alone (group-words (K .first)); set = refl; size = refl; same = refl }
+          record { held = K .held; more = K .for-value; made = with-group (K .for-value) (g .proper) (g .as-asked .size); set = refl; size = sym (g .as-asked .size); same = refl }
+      choose true x true y false z = record { held = K .held; more = []; made = any-group n (K .held) slots (group-words []) alone (group-words (K .for-value)); set = refl; size = refl; same = refl }
       choose true x false y c z =
           let v = both-values n K F r f e (vote-none y) in
           let g = kept-none n K F r f e (ltb-true 1 r x) (v .0) (v .1) in
-          record { held = K .held; more = K .second; made = with-group (K .second) (g .proper) (g .as-asked .size); set = refl; size = sym (g .as-asked .size); same = refl }
-      choose false x b y c z = record { held = K .held; more = []; made = any-group n (K .held) slots (group-words []) alone (group-words (K .first)); set = refl; size = refl; same = refl }
+          record { held = K .held; more = K .for-none; made = with-group (K .for-none) (g .proper) (g .as-asked .size); set = refl; size = sym (g .as-asked .size); same = refl }
+      choose false x b y c z = record { held = K .held; more = []; made = any-group n (K .held) slots (group-words []) alone (group-words (K .for-value)); set = refl; size = refl; same = refl }
 
   -- a proposal: the kept group of a vote for its value, or all none votes
   from-votes : (r : ℕ) → 1 ≤ r → r < last-round → (coin : ℕ) → Ready n (K .question) (follows n (Voting (record { 0 = r })) K coin)
@@ -163,23 +163,23 @@ module _ (n : ℕ) (K : State) (top : n ≤ 31) (F : Full n K) where
   from-votes r low high coin R = rw back (choose (ltb (carried (K .held)) none) R)
     where
       choose : (b : Bool)
-          → Ready n (K .question) (pick b (next kind-P (carried (K .held)) D-GET (r + 1) (K .first) [] (proposing (r + 1) D-GET)) (next kind-P coin R-GET (r + 1) (K .held) [] (proposing (r + 1) R-GET)))
+          → Ready n (K .question) (pick b (next kind-P (carried (K .held)) D-GET (r + 1) (K .for-value) [] (proposing (r + 1) D-GET)) (next kind-P coin R-GET (r + 1) (K .held) [] (proposing (r + 1) R-GET)))
           → Chosen
-          (pick b (following kind-P (carried (K .held)) D-GET (round-after r) First Nothing (proposing (round-after r) D-GET))
+          (pick b (following kind-P (carried (K .held)) D-GET (round-after r) ForValue Nothing (proposing (round-after r) D-GET))
           (following kind-P coin R-GET (round-after r) (Slots (set-of (K .held))) Nothing (proposing (round-after r) R-GET)))
-          (pick b (next kind-P (carried (K .held)) D-GET (r + 1) (K .first) [] (proposing (r + 1) D-GET)) (next kind-P coin R-GET (r + 1) (K .held) [] (proposing (r + 1) R-GET)))
+          (pick b (next kind-P (carried (K .held)) D-GET (r + 1) (K .for-value) [] (proposing (r + 1) D-GET)) (next kind-P coin R-GET (r + 1) (K .held) [] (proposing (r + 1) R-GET)))
       choose true R =
           let s : Statement = record { kind = kind-P; value = carried (K .held); flag = D-GET; station = 1; round = r + 1; question = K .question; code = [] } in
-          let h = R .first s refl refl (join (ltb 1 (r + 1)) _ (lt-ltb 1 (r + 1) (omega arith)) refl) in
+          let h = R .for-value s refl refl (join (ltb 1 (r + 1)) _ (lt-ltb 1 (r + 1) (omega arith)) refl) in
           record {
             held = [];
-            more = K .first;
-            made = kept-alone n (K .held) top (F .rising) (F .proper) (K .first) (R .proper) (omega (arith, h .size)) slots;
+            more = K .for-value;
+            made = kept-alone n (K .held) top (F .rising) (F .proper) (K .for-value) (R .proper) (omega (arith, h .size)) slots;
             set = refl;
             size = sym (h .size);
-            same = sym (append-nil (K .first));
+            same = sym (append-nil (K .for-value));
           }
-      choose false R = record { held = K .held; more = []; made = any-group n (K .held) slots (group-words []) alone (group-words (K .first)); set = refl; size = refl; same = refl }
+      choose false R = record { held = K .held; more = []; made = any-group n (K .held) slots (group-words []) alone (group-words (K .for-value)); set = refl; size = refl; same = refl }
 
   pub chosen : (g : Stage) → K .stage ≡ g → closes g ≡ false → (coin : ℕ) → Ready n (K .question) (follows n g K coin)
       → Chosen (next-by n g (set-of (K .held)) slots coin) (follows n g K coin)
@@ -198,7 +198,7 @@ module _ (m : Module) (K : State) (top : m .n ≤ 31) (F : Full (m .n) K) (d : �
   s = own-statement m (K .question) (x .kind) (x .value) (x .flag) (x .round)
 
   abbrev k : Station
-  k = W.station-of (m .n) (m .number) K
+  k = W.as-station (m .n) (m .station) K
 
   abbrev f : Fields
   f = own-fields m (X .kind) (X .value) (X .flag) (X .round .0)
@@ -208,14 +208,14 @@ module _ (m : Module) (K : State) (top : m .n ≤ 31) (F : Full (m .n) K) (d : �
       record {
         number = answer (K .decision) d;
         count = bundle-words (length (x .first ++ x .second));
-        station = W.station-of (m .n) (m .number) (began (K .question) (x .stage) d s (x .first));
+        station = W.as-station (m .n) (m .station) (began (K .question) (x .stage) d s (x .first));
         after = advanced m (K .question) (step s);
         lent = over (bundle-of s (x .first ++ x .second)) out;
       }
 
-  pub sending-is : Below (sending-words m k X f d out .lent) → (supplies-first (x .stage) s ≡ true → length (x .first) ≡ quorum (m .n))
-      → (supplies-second (x .stage) s ≡ true → length (x .first) ≡ quorum (m .n)) → sending-words m k X f d out ≡ by-definition
-  unfolding sending-words W.station-of
+  pub sending-is : Below (sending-words m k X f d out .lent) → (supplies-for-value (x .stage) s ≡ true → length (x .first) ≡ quorum (m .n))
+      → (supplies-for-none (x .stage) s ≡ true → length (x .first) ≡ quorum (m .n)) → sending-words m k X f d out ≡ by-definition
+  unfolding sending-words W.as-station
   sending-is low one two =
       let sl : List ℕ = slots-of (K .held) 1 sites in
       let gr : List ℕ = group-by (X .second) (k .groups) in
@@ -227,7 +227,7 @@ module _ (m : Module) (K : State) (top : m .n ≤ 31) (F : Full (m .n) K) (d : �
       = (λ i. sent-count (C .set i) (C .size i) out)
       ∙ count-is m (K .question) (x .kind) (x .value) (x .flag) (x .round) (x .stage) d (C .held) (C .more) (slots-of (K .held) 1 sites) (group-by (X .second) (k .groups)) (C .made) (x .first) (x .second) (C .same) out room p fit later in
       let station1 : sent-station m (K .question) (X .stage) d (sent-bundle m (K .question) f (slots-of (K .held) 1 sites) (set-by (X .first)) (group-by (X .second) (k .groups)) (count-by (X .first) (X .second) (quorum (m .n))) out)
-      ≡ W.station-of (m .n) (m .number) (began (K .question) (x .stage) d s (x .first))
+      ≡ W.as-station (m .n) (m .station) (began (K .question) (x .stage) d s (x .first))
       = (λ i. sent-station m (K .question) (es i) d (sent-bundle m (K .question) (own-fields m (ek i) (ev i) (ef i) (er i)) (slots-of (K .held) 1 sites) (C .set i) (group-by (X .second) (k .groups)) (C .size i) out))
       ∙ station-is m (K .question) (x .kind) (x .value) (x .flag) (x .round) (x .stage) d (C .held) (C .more) (slots-of (K .held) 1 sites) (group-by (X .second) (k .groups)) (C .made) (x .first) (x .second) (C .same) out room p fit later
       (subst Below lent0 low) one two in

@@ -22,8 +22,8 @@ use Rattle.sealed.specs.Sealed.{above, last-for}
 use Rattle.station.specs.declared.Stage.{Stage}
 use Rattle.station.specs.declared.Stage.the-variants.{Gathering, Proposing, Voting}
 use Rattle.station.specs.declared.Station.{Station}
-use Rattle.station.specs.Machine.{State, Next, supplies-first, Outcome, refused, keeps, sends, began, moved, shut, ended, taken, follows, closes, decision-at, round-in}
-use Rattle.station.specs.Words.{sites, first-of-round, set-of, slot-of, slots-of, all-written, held-in, held-by, state-of, Lengths}
+use Rattle.station.specs.Machine.{State, Next, supplies-for-value, Outcome, refused, keeps, sends, began, moved, shut, ended, taken, follows, closes, decision-at, round-in}
+use Rattle.station.specs.Words.{sites, value-group, set-of, slot-of, slots-of, all-written, held-in, held-by, state-of, Lengths}
 use Rattle.station.specs.Words as W
 use Rattle.station.specs.Calls.{Returned, returned, give-tests, giving}
 use Rattle.station.specs.Slots.{ones-set, held-back}
@@ -57,21 +57,21 @@ in-range-of Gathering i = omega arith
 in-range-of (Proposing r f) i = i .1
 in-range-of (Voting r) i = i .1
 
--- a first group that is supplied has q statements
-first-full : (n : ℕ) (g : Stage) (v : ℕ) (s : Statement) → supplies-first g s ≡ true → first-of-round n g v .size ≡ quorum n
-first-full n Gathering v s h = never false refl h
-first-full n (Proposing r f) v s h = refl
-first-full n (Voting r) v s h = refl
+-- a group for a value that is supplied has q statements
+for-value-full : (n : ℕ) (g : Stage) (v : ℕ) (s : Statement) → supplies-for-value g s ≡ true → value-group n g v .size ≡ quorum n
+for-value-full n Gathering v s h = never false refl h
+for-value-full n (Proposing r f) v s h = refl
+for-value-full n (Voting r) v s h = refl
 
 module _ (m : Module) (t : Station) (ws : List ℕ) (coin : ℕ) (out : List ℕ) (L : Lengths t) (A : Accepted hmac-code m t ws coin out) where
   abbrev K : State
   K = after hmac-code m t ws coin out
 
   abbrev k : Station
-  k = W.station-of (m .n) (m .number) K
+  k = W.as-station (m .n) (m .station) K
 
-  G : Grown (m .n) (m .number) (state-of t) (main-of ws) (certificate-of ws) (sane-before hmac-code m t ws coin out L A) (A .fitting) (A .new)
-  G = grown (m .n) (m .number) (state-of t) (main-of ws) (certificate-of ws) (sane-before hmac-code m t ws coin out L A) (A .fitting) (A .new)
+  G : Grown (m .n) (m .station) (state-of t) (main-of ws) (certificate-of ws) (sane-before hmac-code m t ws coin out L A) (A .fitting) (A .new)
+  G = grown (m .n) (m .station) (state-of t) (main-of ws) (certificate-of ws) (sane-before hmac-code m t ws coin out L A) (A .fitting) (A .new)
 
   back : held-in (set-of (K .held)) (slots-of (K .held) 1 sites) 0 sites ≡ K .held
   back = held-back (m .n) (K .held) (A .range .at-most-31) (G .rising) (G .proper)
@@ -79,9 +79,9 @@ module _ (m : Module) (t : Station) (ws : List ℕ) (coin : ℕ) (out : List ℕ
   -- the step goes on
   goes-on : length (K .held) ≡ quorum (m .n) → closes (t .stage) ≡ false → (d : ℕ) → d ≡ decision-then hmac-code m t ws coin out
       → Below (moving m k (next-by (m .n) (K .stage) (set-of (K .held)) (slots-of (K .held) 1 sites) coin) d out .lent)
-      → returned m t out (moved (hmac-code (m .key)) (m .n) (m .number) (last-for m (t .identity .question)) K (follows (m .n) (K .stage) K coin) d)
+      → returned m t out (moved (hmac-code (m .key)) (m .n) (m .station) (last-for m (t .identity .question)) K (follows (m .n) (K .stage) K coin) d)
       ≡ or-as-was m t out (moving m k (next-by (m .n) (K .stage) (set-of (K .held)) (slots-of (K .held) 1 sites) coin) d out)
-  unfolding returned moving state-of W.station-of step pick sending-words answer
+  unfolding returned moving state-of W.as-station step pick sending-words answer
   goes-on size goes d same-d low =
       ap (λ (z : ℕ). returned m t out (pick (above (last-for m q) q z) sent-all (refused not-above))) (sym (λ i. step-of (ek i) (er i)))
       ∙ go (above (last-for m q) q (step-of (X .kind) (X .round .0))) refl low
@@ -101,7 +101,7 @@ module _ (m : Module) (t : Station) (ws : List ℕ) (coin : ℕ) (out : List ℕ
       R : Ready (m .n) (t .identity .question) x
       R = next-ready hmac-code hmac-eight m t ws coin out L A size goes
 
-      e : as-next X (slots-of (K .held) 1 sites) (K .first) (K .second) ≡ x
+      e : as-next X (slots-of (K .held) 1 sites) (K .for-value) (K .for-none) ≡ x
       e = next-is (m .n) (t .stage) (set-of (K .held)) (slots-of (K .held) 1 sites) coin K (sym back) goes (in-range-of (t .stage) (F .rounds))
 
       ek : X .kind ≡ x .kind
@@ -124,13 +124,13 @@ module _ (m : Module) (t : Station) (ws : List ℕ) (coin : ℕ) (out : List ℕ
           (sym (sending-is m K (A .range .at-most-31) F d out (A .room) X x ek (ap (λ (y : Next). y .value) e) (ap (λ (y : Next). y .flag) e) er (ap (λ (y : Next). y .stage) e)
           (chosen (m .n) K (A .range .at-most-31) F (t .stage) refl goes coin R) (sent-proper hmac-code hmac-eight m t ws coin out L A size goes)
           (range-fits m (A .range)) (ap (above (last-for m q) q) (sym (λ i. step-of (ek i) (er i))) ∙ later) low
-          (λ h. R .first s refl refl h .size ∙ first-full (m .n) (x .stage) (x .value) s h) (λ h. R .second s refl refl h .size)))
+          (λ h. R .for-value s refl refl h .size ∙ for-value-full (m .n) (x .stage) (x .value) s h) (λ h. R .for-none s refl refl h .size)))
       go false later low = refl
 
   -- the step has ended
   ends : length (K .held) ≡ quorum (m .n) → Below (ending-words m k coin out .lent)
-      → returned m t out (ended (hmac-code (m .key)) (m .n) (m .number) (last-for m (t .identity .question)) K coin) ≡ or-as-was m t out (ending-words m k coin out)
-  unfolding returned ended ending-words shut-words state-of W.station-of pick set-of slots-of slot-of all-written
+      → returned m t out (ended (hmac-code (m .key)) (m .n) (m .station) (last-for m (t .identity .question)) K coin) ≡ or-as-was m t out (ending-words m k coin out)
+  unfolding returned ended ending-words shut-words state-of W.as-station pick set-of slots-of slot-of all-written
   ends size low = go (closes (t .stage)) refl low
     where
       d : ℕ
@@ -142,22 +142,22 @@ module _ (m : Module) (t : Station) (ws : List ℕ) (coin : ℕ) (out : List ℕ
       go : (b : Bool) → closes (t .stage) ≡ b
           → Below (pick b (with-no-bundle closed-now (shut-words k (decision-at (t .stage) (t .decision) (held-by k))) m out)
           (moving m k (next-by (m .n) (t .stage) (set-of (K .held)) (slots-of (K .held) 1 sites) coin) (decision-at (t .stage) (t .decision) (held-by k)) out) .lent)
-          → returned m t out (pick b (keeps closed-now (shut (hmac-code (m .key)) (m .n) (m .number) (last-for m (t .identity .question)) K d))
-          (moved (hmac-code (m .key)) (m .n) (m .number) (last-for m (t .identity .question)) K (follows (m .n) (t .stage) K coin) d))
+          → returned m t out (pick b (keeps closed-now (shut (hmac-code (m .key)) (m .n) (m .station) (last-for m (t .identity .question)) K d))
+          (moved (hmac-code (m .key)) (m .n) (m .station) (last-for m (t .identity .question)) K (follows (m .n) (t .stage) K coin) d))
           ≡ or-as-was m t out (pick b (with-no-bundle closed-now (shut-words k (decision-at (t .stage) (t .decision) (held-by k))) m out)
           (moving m k (next-by (m .n) (t .stage) (set-of (K .held)) (slots-of (K .held) 1 sites) coin) (decision-at (t .stage) (t .decision) (held-by k)) out))
       go true e low = ap (λ (z : ℕ). with-no-bundle closed-now (shut-words k z) m out) (sym same-d)
       go false e low =
           subst (λ (z : ℕ). Below (moving m k (next-by (m .n) (t .stage) (set-of (K .held)) (slots-of (K .held) 1 sites) coin) z out .lent)
-          → returned m t out (moved (hmac-code (m .key)) (m .n) (m .number) (last-for m (t .identity .question)) K (follows (m .n) (t .stage) K coin) d)
+          → returned m t out (moved (hmac-code (m .key)) (m .n) (m .station) (last-for m (t .identity .question)) K (follows (m .n) (t .stage) K coin) d)
           ≡ or-as-was m t out (moving m k (next-by (m .n) (t .stage) (set-of (K .held)) (slots-of (K .held) 1 sites) coin) z out)) (sym same-d)
           (goes-on size e d refl) low
 
   pub given-is : first-failed (give-tests hmac-code m t ws coin out) ≡ 0 → Below (after-words m k coin out .lent)
       → giving hmac-code m t ws coin out ≡ or-as-was m t out (after-words m k coin out)
-  unfolding giving taken after-words returned state-of W.station-of pick
+  unfolding giving taken after-words returned state-of W.as-station pick
   given-is z low =
-      ap (λ (b : Bool). returned m t out (pick b (taken (hmac-code (m .key)) (m .n) (m .number) (last-for m (t .identity .question)) (state-of t) (main-of ws) (certificate-of ws) coin)
+      ap (λ (b : Bool). returned m t out (pick b (taken (hmac-code (m .key)) (m .n) (m .station) (last-for m (t .identity .question)) (state-of t) (main-of ws) (certificate-of ws) coin)
       (refused (first-failed (give-tests hmac-code m t ws coin out))))) (eq-eqb _ 0 z)
       ∙ go (ltb (length (K .held)) (quorum (m .n))) refl (subst (λ (c : ℕ). Below (pick (ltb c (quorum (m .n))) (with-no-bundle kept k m out) (ending-words m k coin out) .lent)) number low)
       ∙ ap (λ (c : ℕ). or-as-was m t out (pick (ltb c (quorum (m .n))) (with-no-bundle kept k m out) (ending-words m k coin out))) (sym number)
@@ -166,7 +166,7 @@ module _ (m : Module) (t : Station) (ws : List ℕ) (coin : ℕ) (out : List ℕ
       number = ones-set (K .held) (G .rising)
 
       go : (b : Bool) → ltb (length (K .held)) (quorum (m .n)) ≡ b → Below (pick b (with-no-bundle kept k m out) (ending-words m k coin out) .lent)
-          → returned m t out (pick b (keeps kept K) (ended (hmac-code (m .key)) (m .n) (m .number) (last-for m (t .identity .question)) K coin))
+          → returned m t out (pick b (keeps kept K) (ended (hmac-code (m .key)) (m .n) (m .station) (last-for m (t .identity .question)) K coin))
           ≡ or-as-was m t out (pick b (with-no-bundle kept k m out) (ending-words m k coin out))
       go true e low = refl
       go false e low = ends (omega (arith, ltb-false (length (K .held)) (quorum (m .n)) e, insert-length (main-of ws) (state-of t .held), sane-before hmac-code m t ws coin out L A .few)) low

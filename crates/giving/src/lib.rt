@@ -44,8 +44,8 @@ fn set_by(first: Source) -> u32
     match first {
         Source::Nothing => 0,
         Source::Slots(s) => s,
-        Source::First => 0,
-        Source::Second => 0,
+        Source::ForValue => 0,
+        Source::ForNone => 0,
     }
 }
 
@@ -56,8 +56,8 @@ fn kept_in(s: Source) -> bool
     match s {
         Source::Nothing => false,
         Source::Slots(_) => false,
-        Source::First => true,
-        Source::Second => true,
+        Source::ForValue => true,
+        Source::ForNone => true,
     }
 }
 
@@ -65,13 +65,13 @@ fn kept_in(s: Source) -> bool
 fn group_by(second: Source, groups: Groups) -> [u32; 160]
     ensures { λ r. ⌜ r ≡ group-by second groups ⌝ }
 {
-    let a = groups.first;
-    let b = groups.second;
+    let a = groups.value;
+    let b = groups.none;
     match second {
         Source::Nothing => a,
         Source::Slots(_) => a,
-        Source::First => a,
-        Source::Second => b,
+        Source::ForValue => a,
+        Source::ForNone => b,
     }
 }
 
@@ -148,7 +148,7 @@ fn go_on(m: Module, k: Station, x: Following, d: u32, out: &mut [u32]) -> Given
 {
     let identity = k.identity;
     let round = x.round;
-    let f = own_fields(m.number, x.kind, x.value, x.flag, round);
+    let f = own_fields(m.station, x.kind, x.value, x.flag, round);
     if !sealed::is_above(m, identity.question, format::step_of(f)) {
         return no_bundle(12, k, m);
     }
@@ -174,8 +174,8 @@ fn shut(k: Station, d: u32) -> Station
         slots: [0; 310],
     };
     let groups = Groups {
-        first: [0; 160],
-        second: [0; 160],
+        value: [0; 160],
+        none: [0; 160],
     };
     Station {
         identity,

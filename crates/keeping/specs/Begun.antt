@@ -24,8 +24,8 @@ use Rattle.station.specs.declared.Stage.{Stage}
 use Rattle.station.specs.declared.Stage.the-variants.{Gathering, Proposing, Voting}
 use Rattle.station.specs.declared.Station.{Station}
 use Rattle.rules.specs.Rules.{some, holds, in-order}
-use Rattle.station.specs.Machine.{State, stage-step, keeping, insert, held-of, takes, began, supplies-first, supplies-second}
-use Rattle.station.specs.Words.{state-of, bundle-of, held-in, held-by, kept-first, kept-second, no-group, Lengths}
+use Rattle.station.specs.Machine.{State, stage-step, keeping, insert, held-of, takes, began, supplies-for-value, supplies-for-none}
+use Rattle.station.specs.Words.{state-of, bundle-of, held-in, held-by, kept-for-value, kept-for-none, no-group, Lengths}
 use Rattle.station.specs.Words as W
 use Rattle.format.specs.ReadBack.{Proper}
 use Rattle.station.specs.Bundles.{main-is, certificate-is, bundle-there}
@@ -39,17 +39,17 @@ use Rattle.keeping.specs.Law.{kept-is}
 unfoldable pub blank : ℕ → ℕ → ℕ → Stage → ℕ → Station
 blank n number question g d =
     record {
-      identity = record { n = n; number = number; question = question };
+      identity = record { n = n; station = number; question = question };
       stage = g;
       closed = false;
       decision = d;
       held = record { heard = 0; slots = replicate 310 0 };
-      groups = record { first = replicate 160 0; second = replicate 160 0 };
+      groups = record { value = replicate 160 0; none = replicate 160 0 };
     }
 
 -- its state
 abbrev empty : ℕ → Stage → ℕ → State
-empty question g d = record { question = question; stage = g; closed = false; decision = d; held = []; first = []; second = [] }
+empty question g d = record { question = question; stage = g; closed = false; decision = d; held = []; for-value = []; for-none = [] }
 
 abbrev no-words : ℕ → List ℕ
 no-words k = replicate k 0
@@ -93,19 +93,19 @@ module _ (n number question : ℕ) (g : Stage) (d : ℕ) where
 
   blank-lengths : Lengths (blank n number question g d)
   unfolding blank
-  blank-lengths = record { slots = refl; first = refl; second = refl }
+  blank-lengths = record { slots = refl; for-value = refl; for-none = refl }
 
   blank-low : LowWords (blank n number question g d)
   unfolding blank
-  blank-low = record { slots = zeros-low 310; first = zeros-low 160; second = zeros-low 160 }
+  blank-low = record { slots = zeros-low 310; for-value = zeros-low 160; for-none = zeros-low 160 }
 
-  no-first : kept-first n g (held-by (blank n number question g d)) ≡ no-group
-  unfolding kept-first some pick
-  no-first = ap (kept-first n g) nothing-held
+  no-for-value : kept-for-value n g (held-by (blank n number question g d)) ≡ no-group
+  unfolding kept-for-value some pick
+  no-for-value = ap (kept-for-value n g) nothing-held
 
-  no-second : kept-second n g (held-by (blank n number question g d)) ≡ no-group
-  unfolding kept-second some pick
-  no-second = ap (kept-second n g) nothing-held
+  no-for-none : kept-for-none n g (held-by (blank n number question g d)) ≡ no-group
+  unfolding kept-for-none some pick
+  no-for-none = ap (kept-for-none n g) nothing-held
 
   blank-fit : Fit n number (blank n number question g d)
   unfolding blank
@@ -115,8 +115,8 @@ module _ (n number question : ℕ) (g : Stage) (d : ℕ) where
         same-number = refl;
         no-more = omega arith;
         slots = none-fit n question (stage-step g) 31 0;
-        first = ap (λ (x : Group). group-fits n question x (replicate 160 0)) no-first ∙ no-group-fits n question;
-        second = ap (λ (x : Group). group-fits n question x (replicate 160 0)) no-second ∙ no-group-fits n question;
+        for-value = ap (λ (x : Group). group-fits n question x (replicate 160 0)) no-for-value ∙ no-group-fits n question;
+        for-none = ap (λ (x : Group). group-fits n question x (replicate 160 0)) no-for-none ∙ no-group-fits n question;
       }
 
   blank-state : state-of (blank n number question g d) ≡ empty question g d
@@ -129,8 +129,8 @@ module _ (n number question : ℕ) (g : Stage) (d : ℕ) where
         closed = false;
         decision = d;
         held = nothing-held i;
-        first = statements (replicate 160 0) 0 (no-first i .size);
-        second = statements (replicate 160 0) 0 (no-second i .size);
+        for-value = statements (replicate 160 0) 0 (no-for-value i .size);
+        for-none = statements (replicate 160 0) 0 (no-for-none i .size);
       }
 
   -- the first q statements of the certificate are its first group, where that is kept
@@ -139,7 +139,7 @@ module _ (n number question : ℕ) (g : Stage) (d : ℕ) where
   group-kept true c e q = take-at c e (quorum n) (q refl)
   group-kept false c e q = refl
 
-  state-begun : (s : Statement) (c e : List Statement) → (supplies-first g s ≡ true → length c ≡ quorum n) → (supplies-second g s ≡ true → length c ≡ quorum n)
+  state-begun : (s : Statement) (c e : List Statement) → (supplies-for-value g s ≡ true → length c ≡ quorum n) → (supplies-for-none g s ≡ true → length c ≡ quorum n)
       → keeping n (empty question g d) s (c ++ e) ≡ began question g d s c
   unfolding insert some
   state-begun s c e one two =
@@ -150,18 +150,18 @@ module _ (n number question : ℕ) (g : Stage) (d : ℕ) where
         closed = false;
         decision = d;
         held = s ∷ [];
-        first = group-kept (supplies-first g s) c e one i;
-        second = group-kept (supplies-second g s) c e two i;
+        for-value = group-kept (supplies-for-value g s) c e one i;
+        for-none = group-kept (supplies-for-none g s) c e two i;
       }
 
   pub begun : (s : Statement) (c e : List Statement) → n ≤ 31 → Proper n s → All (Proper n) (c ++ e) → length (c ++ e) ≤ most-statements
-      → Below (bundle-of s (c ++ e)) → (supplies-first g s ≡ true → length c ≡ quorum n) → (supplies-second g s ≡ true → length c ≡ quorum n)
-      → kept-words (blank n number question g d) (bundle-of s (c ++ e)) ≡ W.station-of n number (began question g d s c)
+      → Below (bundle-of s (c ++ e)) → (supplies-for-value g s ≡ true → length c ≡ quorum n) → (supplies-for-none g s ≡ true → length c ≡ quorum n)
+      → kept-words (blank n number question g d) (bundle-of s (c ++ e)) ≡ W.as-station n number (began question g d s c)
   unfolding bundle-of some
   begun s c e top p a few low one two =
       kept-is n number (blank n number question g d) (bundle-of s (c ++ e)) top blank-lengths blank-low low blank-fit (bundle-there n s (c ++ e) top p a few)
       new
-      ∙ ap (W.station-of n number)
+      ∙ ap (W.as-station n number)
       (ap (λ (t : State). keeping n t (main-of (bundle-of s (c ++ e))) (certificate-of (bundle-of s (c ++ e)))) blank-state
       ∙ ap (λ (m : Statement). keeping n (empty question g d) m (certificate-of (bundle-of s (c ++ e)))) (main-is n s (c ++ e) top p a few)
       ∙ ap (keeping n (empty question g d) s) (certificate-is n s (c ++ e) top p a few)

@@ -37,7 +37,7 @@ words-kept q have = least (least (q * 10) 160) (have - 11)
 unfoldable pub group-from : ℕ → List ℕ → List ℕ
 group-from q ws = take (words-kept q (length ws)) (drop 11 ws) ++ replicate (160 - words-kept q (length ws)) 0
 
--- whether a statement with this value and this flag supplies a kept group: group 0 is the first, group 1 the second, which are the flags of the
+-- whether a statement with this value and this flag supplies a kept group: group 0 is that for a value, group 1 that for a none vote, which are the flags of the
 -- proposals that supply them
 unfoldable pub supplier : ℕ → Stage → ℕ → ℕ → Bool
 supplier group Gathering value flag = false
@@ -56,8 +56,8 @@ held-with held s ws = record { heard = with-station (held .heard) s; slots = wit
 unfoldable pub groups-with : Groups → Stage → ℕ → List Statement → Fields → List ℕ → Groups
 groups-with groups g n h f ws =
     record {
-      first = pick (replacing 0 g h f) (group-from (quorum n) ws) (groups .first);
-      second = pick (replacing 1 g h f) (group-from (quorum n) ws) (groups .second);
+      value = pick (replacing 0 g h f) (group-from (quorum n) ws) (groups .value);
+      none = pick (replacing 1 g h f) (group-from (quorum n) ws) (groups .none);
     }
 
 unfoldable pub kept-words : Station → List ℕ → Station

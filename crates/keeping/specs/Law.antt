@@ -20,16 +20,16 @@ use Rattle.format.specs.Shape.{Formed, formed-out}
 use Rattle.certificate.specs.Valid.{Bundle}
 use Rattle.sealed.specs.declared.Module.{Module}
 use Rattle.station.specs.declared.Station.{Station}
-use Rattle.station.specs.Machine.{keeping, insert, held-of, takes, supplies-first, supplies-second}
+use Rattle.station.specs.Machine.{keeping, insert, held-of, takes, supplies-for-value, supplies-for-none}
 use Rattle.station.specs.Words.{set-of, slot-of, slots-of, group-words, sites, held-by, state-of, Lengths}
 use Rattle.station.specs.Words as W
 use Rattle.station.specs.Slots.{bit-set}
 use Rattle.station.specs.Views.{Accepted}
 use Rattle.compression.specs.Shape.{Below}
 use Rattle.keeping.specs.Back.{written-back, all-slots}
-use Rattle.keeping.specs.One.{LowWords, Fit, fit-out, rising, set-same, slot-same, first-same, second-same}
+use Rattle.keeping.specs.One.{LowWords, Fit, fit-out, rising, set-same, slot-same, for-value-same, for-none-same}
 use Rattle.keeping.specs.Kept.{with-station, with-slot, group-from, replacing, held-with, groups-with, kept-words}
-use Rattle.keeping.specs.Parts.{set-insert, slot-insert, put-slot, supplier-first, supplier-second, group-kept}
+use Rattle.keeping.specs.Parts.{set-insert, slot-insert, put-slot, supplier-for-value, supplier-for-none, group-kept}
 
 module _ (n number : ℕ) (t : Station) (ws : List ℕ) (top : n ≤ 31) (L : Lengths t) (A : LowWords t) (low : Below ws) (F : Fit n number t) (B : Bundle n ws)
     (new : held-of (main-of ws .station) (held-by t) ≡ false) where
@@ -89,13 +89,13 @@ module _ (n number : ℕ) (t : Station) (ws : List ℕ) (top : n ≤ 31) (L : Le
           (sym (put-slot (t .held .slots) (drop 1 ws) (main-of ws .station - 1) j (L .slots) ten (omega (arith, main .high, main .low)) few))
 
   -- the bundle's certificate takes the place of a kept group where the state's definition says so
-  takes-first : replacing 0 (t .stage) (held-by t) (fields-of (getD ws 1 0)) ≡ takes (supplies-first (t .stage)) (held-by t) (main-of ws)
+  takes-for-value : replacing 0 (t .stage) (held-by t) (fields-of (getD ws 1 0)) ≡ takes (supplies-for-value (t .stage)) (held-by t) (main-of ws)
   unfolding replacing fields-of
-  takes-first = ap (λ (p : Statement → Bool). takes p (held-by t) (main-of ws)) (λ i s. supplier-first (t .stage) s i)
+  takes-for-value = ap (λ (p : Statement → Bool). takes p (held-by t) (main-of ws)) (λ i s. supplier-for-value (t .stage) s i)
 
-  takes-second : replacing 1 (t .stage) (held-by t) (fields-of (getD ws 1 0)) ≡ takes (supplies-second (t .stage)) (held-by t) (main-of ws)
+  takes-for-none : replacing 1 (t .stage) (held-by t) (fields-of (getD ws 1 0)) ≡ takes (supplies-for-none (t .stage)) (held-by t) (main-of ws)
   unfolding replacing fields-of
-  takes-second = ap (λ (p : Statement → Bool). takes p (held-by t) (main-of ws)) (λ i s. supplier-second (t .stage) s i)
+  takes-for-none = ap (λ (p : Statement → Bool). takes p (held-by t) (main-of ws)) (λ i s. supplier-for-none (t .stage) s i)
 
   group-after : (b : Bool) (old : List ℕ) (c : List Statement) → old ≡ group-words c
       → pick b (group-from (quorum (t .identity .n)) ws) old ≡ group-words (pick b (take (quorum n) (certificate-of ws)) c)
@@ -104,28 +104,28 @@ module _ (n number : ℕ) (t : Station) (ws : List ℕ) (top : n ≤ 31) (L : Le
       ap (λ (k : ℕ). group-from (quorum k) ws) (F .same-n) ∙ group-kept n (quorum n) (count-in ws) ws low (omega arith) long (formed-all .1)
   group-after false old c e = e
 
-  pub kept-is : kept-words t ws ≡ W.station-of n number (keeping n (state-of t) (main-of ws) (certificate-of ws))
-  unfolding kept-words held-with groups-with W.station-of state-of fields-of
+  pub kept-is : kept-words t ws ≡ W.as-station n number (keeping n (state-of t) (main-of ws) (certificate-of ws))
+  unfolding kept-words held-with groups-with W.as-station state-of fields-of
   kept-is =
-      let one : pick (replacing 0 (t .stage) (held-by t) (fields-of (getD ws 1 0))) (group-from (quorum (t .identity .n)) ws) (t .groups .first)
-      ≡ group-words (pick (takes (supplies-first (t .stage)) (held-by t) (main-of ws)) (take (quorum n) (certificate-of ws)) (state-of t .first))
-      = rw takes-first (group-after (takes (supplies-first (t .stage)) (held-by t) (main-of ws)) (t .groups .first) (state-of t .first) (first-same n number t L A F top)) in
-      let two : pick (replacing 1 (t .stage) (held-by t) (fields-of (getD ws 1 0))) (group-from (quorum (t .identity .n)) ws) (t .groups .second)
-      ≡ group-words (pick (takes (supplies-second (t .stage)) (held-by t) (main-of ws)) (take (quorum n) (certificate-of ws)) (state-of t .second))
-      = rw takes-second (group-after (takes (supplies-second (t .stage)) (held-by t) (main-of ws)) (t .groups .second) (state-of t .second) (second-same n number t L A F top)) in
+      let one : pick (replacing 0 (t .stage) (held-by t) (fields-of (getD ws 1 0))) (group-from (quorum (t .identity .n)) ws) (t .groups .value)
+      ≡ group-words (pick (takes (supplies-for-value (t .stage)) (held-by t) (main-of ws)) (take (quorum n) (certificate-of ws)) (state-of t .for-value))
+      = rw takes-for-value (group-after (takes (supplies-for-value (t .stage)) (held-by t) (main-of ws)) (t .groups .value) (state-of t .for-value) (for-value-same n number t L A F top)) in
+      let two : pick (replacing 1 (t .stage) (held-by t) (fields-of (getD ws 1 0))) (group-from (quorum (t .identity .n)) ws) (t .groups .none)
+      ≡ group-words (pick (takes (supplies-for-none (t .stage)) (held-by t) (main-of ws)) (take (quorum n) (certificate-of ws)) (state-of t .for-none))
+      = rw takes-for-none (group-after (takes (supplies-for-none (t .stage)) (held-by t) (main-of ws)) (t .groups .none) (state-of t .for-none) (for-none-same n number t L A F top)) in
       λ i.
       record {
-        identity = record { n = F .same-n i; number = F .same-number i; question = t .identity .question };
+        identity = record { n = F .same-n i; station = F .same-number i; question = t .identity .question };
         stage = t .stage;
         closed = t .closed;
         decision = t .decision;
         held = record { heard = set-after i; slots = slots-after i };
-        groups = record { first = one i; second = two i };
+        groups = record { value = one i; none = two i };
       }
 
 -- under the tests of giving
 pub keeps-state : (mac : List ℕ → List ℕ → List ℕ) (m : Module) (t : Station) (ws : List ℕ) (coin : ℕ) (out : List ℕ) → Lengths t → LowWords t → Below ws
-    → Accepted mac m t ws coin out → kept-words t ws ≡ W.station-of (m .n) (m .number) (keeping (m .n) (state-of t) (main-of ws) (certificate-of ws))
+    → Accepted mac m t ws coin out → kept-words t ws ≡ W.as-station (m .n) (m .station) (keeping (m .n) (state-of t) (main-of ws) (certificate-of ws))
 unfolding state-of
 keeps-state mac m t ws coin out L A low a =
-    kept-is (m .n) (m .number) t ws (a .range .at-most-31) L A low (fit-out (m .n) (m .number) t (a .fit) (a .still-open)) (a .bundle) (a .new)
+    kept-is (m .n) (m .station) t ws (a .range .at-most-31) L A low (fit-out (m .n) (m .station) t (a .fit) (a .still-open)) (a .bundle) (a .new)

@@ -22,49 +22,49 @@ use Rattle.certificate.specs.Check.{every}
 use Rattle.rules.specs.Rules.{Rising, holds, some}
 use Rattle.station.specs.declared.Station.{Station}
 use Rattle.station.specs.Machine.{held-of, stage-step}
-use Rattle.station.specs.Words.{set-of, slot-of, slots-of, group-words, sites, held-by, kept-first, kept-second, state-of, Lengths}
+use Rattle.station.specs.Words.{set-of, slot-of, slots-of, group-words, sites, held-by, kept-for-value, kept-for-none, state-of, Lengths}
 use Rattle.station.specs.Words as W
 use Rattle.station.specs.Fit.{slots-fit, zeros, stage-fits, group-fits, held-fits, rest-fits, fits}
 use Rattle.station.specs.Slots.{all-two, bit-set, slot-held}
 use Rattle.station.specs.Sane.{At, find, no-slot}
-use Rattle.station.specs.FitSane.{read-slots, bit-held, first-size, second-size}
+use Rattle.station.specs.FitSane.{read-slots, bit-held, for-value-size, for-none-size}
 use Rattle.compression.specs.Shape.{Below}
 use Rattle.keeping.specs.Back.{group-back, set-back, slot-words, all-slots}
 
 -- the station's arrays are of words of 32 bits
 pub record LowWords (t : Station) : Type 0 where
   pub slots : Below (t .held .slots)
-  pub first : Below (t .groups .first)
-  pub second : Below (t .groups .second)
+  pub for-value : Below (t .groups .value)
+  pub for-none : Below (t .groups .none)
 
 -- what fits says of an open station's arrays
 pub record Fit (n number : ℕ) (t : Station) : Type 0 where
   pub same-n : t .identity .n ≡ n
-  pub same-number : t .identity .number ≡ number
+  pub same-number : t .identity .station ≡ number
   pub no-more : t .held .heard < 2 ^ sites
   pub slots : slots-fit n (t .identity .question) (stage-step (t .stage)) (t .held .heard) (t .held .slots) 0 sites ≡ true
-  pub first : group-fits n (t .identity .question) (kept-first n (t .stage) (held-by t)) (t .groups .first) ≡ true
-  pub second : group-fits n (t .identity .question) (kept-second n (t .stage) (held-by t)) (t .groups .second) ≡ true
+  pub for-value : group-fits n (t .identity .question) (kept-for-value n (t .stage) (held-by t)) (t .groups .value) ≡ true
+  pub for-none : group-fits n (t .identity .question) (kept-for-none n (t .stage) (held-by t)) (t .groups .none) ≡ true
 
 pub fit-out : (n number : ℕ) (t : Station) → fits n number t ≡ true → t .closed ≡ false → Fit n number t
 unfolding fits
 fit-out n number t h shut =
-    let a = both (eqb (t .identity .n) n && eqb (t .identity .number) number) _ h in
+    let a = both (eqb (t .identity .n) n && eqb (t .identity .station) number) _ h in
     let i = both (eqb (t .identity .n) n) _ (a .0) in
     let b = both (held-fits n number t) (rest-fits n number t) (rw shut at (a .1)) in
     let c = both (ltb (t .held .heard) (2 ^ sites) && ltb (ones (t .held .heard)) (quorum n) && bit (t .held .heard) (number - 1)) _ (b .0) in
     let d = both (ltb (t .held .heard) (2 ^ sites) && ltb (ones (t .held .heard)) (quorum n)) _ (c .0) in
     let e = both (ltb (t .held .heard) (2 ^ sites)) _ (d .0) in
     let u = both (stage-fits (t .stage) (getD (t .held .slots) ((number - 1) * 10) 0) && leb (t .decision) none
-    && group-fits n (t .identity .question) (kept-first n (t .stage) (held-by t)) (t .groups .first)) _ (b .1) in
+    && group-fits n (t .identity .question) (kept-for-value n (t .stage) (held-by t)) (t .groups .value)) _ (b .1) in
     let v = both (stage-fits (t .stage) (getD (t .held .slots) ((number - 1) * 10) 0) && leb (t .decision) none) _ (u .0) in
     record {
       same-n = eqb-true _ _ (i .0);
       same-number = eqb-true _ _ (i .1);
       no-more = ltb-true _ _ (e .0);
       slots = c .1;
-      first = v .1;
-      second = u .1;
+      for-value = v .1;
+      for-none = u .1;
     }
 
 module _ (n number : ℕ) (t : Station) (L : Lengths t) (A : LowWords t) (F : Fit n number t) where
@@ -116,32 +116,32 @@ module _ (n number : ℕ) (t : Station) (L : Lengths t) (A : LowWords t) (F : Fi
       let b = both (holds g c && all-formed n ws 0 (g .size)) _ (a .0) in
       group-back n ws (g .size) low long few (both (holds g c) _ (b .0) .1) (a .1)
 
-  pub first-same : n ≤ 31 → t .groups .first ≡ group-words (state-of t .first)
+  pub for-value-same : n ≤ 31 → t .groups .value ≡ group-words (state-of t .for-value)
   unfolding state-of
-  first-same top =
-      group-same (kept-first n (t .stage) (held-by t)) (t .groups .first) (A .first) (L .first) (first-size n (t .stage) (held-by t) top) (F .first)
-      ∙ ap (λ (k : ℕ). group-words (statements (t .groups .first) 0 (kept-first k (t .stage) (held-by t) .size))) (sym (F .same-n))
+  for-value-same top =
+      group-same (kept-for-value n (t .stage) (held-by t)) (t .groups .value) (A .for-value) (L .for-value) (for-value-size n (t .stage) (held-by t) top) (F .for-value)
+      ∙ ap (λ (k : ℕ). group-words (statements (t .groups .value) 0 (kept-for-value k (t .stage) (held-by t) .size))) (sym (F .same-n))
 
-  pub second-same : n ≤ 31 → t .groups .second ≡ group-words (state-of t .second)
+  pub for-none-same : n ≤ 31 → t .groups .none ≡ group-words (state-of t .for-none)
   unfolding state-of
-  second-same top =
-      group-same (kept-second n (t .stage) (held-by t)) (t .groups .second) (A .second) (L .second) (second-size n (t .stage) (held-by t) top) (F .second)
-      ∙ ap (λ (k : ℕ). group-words (statements (t .groups .second) 0 (kept-second k (t .stage) (held-by t) .size))) (sym (F .same-n))
+  for-none-same top =
+      group-same (kept-for-none n (t .stage) (held-by t)) (t .groups .none) (A .for-none) (L .for-none) (for-none-size n (t .stage) (held-by t) top) (F .for-none)
+      ∙ ap (λ (k : ℕ). group-words (statements (t .groups .none) 0 (kept-for-none k (t .stage) (held-by t) .size))) (sym (F .same-n))
 
-pub one-form : (n number : ℕ) (t : Station) → n ≤ 31 → Lengths t → LowWords t → fits n number t ≡ true → t .closed ≡ false → t ≡ W.station-of n number (state-of t)
-unfolding state-of W.station-of
+pub one-form : (n number : ℕ) (t : Station) → n ≤ 31 → Lengths t → LowWords t → fits n number t ≡ true → t .closed ≡ false → t ≡ W.as-station n number (state-of t)
+unfolding state-of W.as-station
 one-form n number t top L A h shut =
     let F = fit-out n number t h shut in
     let a : t .held .heard ≡ set-of (held-by t) = sym (set-same n number t L A F) in
     let b : t .held .slots ≡ slots-of (held-by t) 1 sites = sym (slots-same n number t L A F) in
-    let c = first-same n number t L A F top in
-    let d = second-same n number t L A F top in
+    let c = for-value-same n number t L A F top in
+    let d = for-none-same n number t L A F top in
     λ i.
     record {
-      identity = record { n = F .same-n i; number = F .same-number i; question = t .identity .question };
+      identity = record { n = F .same-n i; station = F .same-number i; question = t .identity .question };
       stage = t .stage;
       closed = t .closed;
       decision = t .decision;
       held = record { heard = a i; slots = b i };
-      groups = record { first = c i; second = d i };
+      groups = record { value = c i; none = d i };
     }

@@ -17,7 +17,7 @@ use Rattle.certificate.specs.Parts.{least, least-fits, parts-take, parts-length
 use Rattle.rules.specs.Rules.{some}
 use Rattle.station.specs.declared.Stage.{Stage}
 use Rattle.station.specs.declared.Stage.the-variants.{Gathering, Proposing, Voting}
-use Rattle.station.specs.Machine.{insert, held-of, supplies-first, supplies-second}
+use Rattle.station.specs.Machine.{insert, held-of, supplies-for-value, supplies-for-none}
 use Rattle.station.specs.Words.{set-of, slot-of, all-written, group-words}
 use Rattle.compression.specs.Shape.{Below}
 use Rattle.keeping.specs.Back.{all-back}
@@ -105,17 +105,17 @@ put-slot d w i j long ten p q = go (eqb i j) refl
         apart false x = behind (omega (arith, ltb-false j i x, eqb-false i j e))
 
 -- ---- the groups
-pub supplier-first : (g : Stage) (s : Statement) → supplier 0 g (s .value) (s .flag) ≡ supplies-first g s
+pub supplier-for-value : (g : Stage) (s : Statement) → supplier 0 g (s .value) (s .flag) ≡ supplies-for-value g s
 unfolding supplier
-supplier-first Gathering s = refl
-supplier-first (Proposing r f) s = refl
-supplier-first (Voting r) s = refl
+supplier-for-value Gathering s = refl
+supplier-for-value (Proposing r f) s = refl
+supplier-for-value (Voting r) s = refl
 
-pub supplier-second : (g : Stage) (s : Statement) → supplier 1 g (s .value) (s .flag) ≡ supplies-second g s
+pub supplier-for-none : (g : Stage) (s : Statement) → supplier 1 g (s .value) (s .flag) ≡ supplies-for-none g s
 unfolding supplier
-supplier-second Gathering s = refl
-supplier-second (Proposing r f) s = refl
-supplier-second (Voting r) s = refl
+supplier-for-none Gathering s = refl
+supplier-for-none (Proposing r f) s = refl
+supplier-for-none (Voting r) s = refl
 
 formed-few : (n : ℕ) (ws : List ℕ) (k c at : ℕ) → k ≤ c → all-formed n ws at c ≡ true → all-formed n ws at k ≡ true
 unfolding all-formed

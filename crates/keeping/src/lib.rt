@@ -101,7 +101,7 @@ fn group_from(ws: &[u32], q: u32) -> [u32; 160]
     out
 }
 
-// Whether a statement with this value and this flag supplies a kept group: group 0 is the first, group 1 the second.
+// Whether a statement with this value and this flag supplies a kept group: group 0 is the one for a value, group 1 that for a none vote.
 fn supplies(stage: Stage, group: u32, value: u32, flag: u32) -> bool
     ensures { λ r. ⌜ r ≡ supplier group stage value flag ⌝ }
 {
@@ -166,17 +166,14 @@ fn groups_with(groups: Groups, stage: Stage, n: u32, held: Held, f: Fields, ws: 
     ensures { λ r. ⌜ r ≡ groups-with groups stage n (held-in (held .heard) (held .slots) 0 sites) f (now (ws .entry)) ⌝ }
 {
     let slots = held.slots;
-    let one = groups.first;
-    let two = groups.second;
+    let one = groups.value;
+    let two = groups.none;
     let q = format::quorum(n);
     let a = replaces(stage, 0, held.heard, &slots, f);
     let b = replaces(stage, 1, held.heard, &slots, f);
-    let first = group_after(one, a, ws, q);
-    let second = group_after(two, b, ws, q);
-    Groups {
-        first: first,
-        second: second,
-    }
+    let value = group_after(one, a, ws, q);
+    let none = group_after(two, b, ws, q);
+    Groups { value, none }
 }
 
 // The station with one bundle more: its main statement in its slot, its bit set, and its certificate's first q statements kept where they

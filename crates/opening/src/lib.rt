@@ -54,7 +54,7 @@ pub fn none() -> Station
 {
     let identity = Identity {
         n: 0,
-        number: 0,
+        station: 0,
         question: 0,
     };
     let held = Held {
@@ -62,8 +62,8 @@ pub fn none() -> Station
         slots: [0; 310],
     };
     let groups = Groups {
-        first: [0; 160],
-        second: [0; 160],
+        value: [0; 160],
+        none: [0; 160],
     };
     Station {
         identity,
@@ -102,7 +102,7 @@ pub fn open(m: Module, question: u32, proposal: u32, out: &mut [u32]) -> Opened
             after: m,
         };
     }
-    let f = init(m.number, proposal);
+    let f = init(m.station, proposal);
     let slots = [0u32; 310];
     let group = [0u32; 160];
     let s = sending::send(

@@ -65,16 +65,16 @@ module _ (m : Module) (t : Station) (ws : List ℕ) (coin room : ℕ) where
   unfolding first-refusal first-failed pick
   answer-room h = rw (words, lt-leb 331 room h)
 
-  module _ (a : 331 ≤ room) (fit : Bool) (e : fit ≡ (module-fits m && fits (m .n) (m .number) t)) where
-    in-range : (fit && ltb coin 2) ≡ (module-fits m && ltb coin 2 && fits (m .n) (m .number) t)
-    in-range = rw e (swap (module-fits m) (ltb coin 2) (fits (m .n) (m .number) t))
+  module _ (a : 331 ≤ room) (fit : Bool) (e : fit ≡ (module-fits m && fits (m .n) (m .station) t)) where
+    in-range : (fit && ltb coin 2) ≡ (module-fits m && ltb coin 2 && fits (m .n) (m .station) t)
+    in-range = rw e (swap (module-fits m) (ltb coin 2) (fits (m .n) (m .station) t))
 
     pub answer-range : not (fit && ltb coin 2) ≡ true → 2 ≡ first-refusal m t ws coin room
     unfolding first-refusal first-failed pick
     answer-range h = rw (words, le-leb 331 room a, sym in-range ∙ not-true _ h)
 
     module _ (p : not (fit && ltb coin 2) ≡ false) where
-      passed : (module-fits m && ltb coin 2 && fits (m .n) (m .number) t) ≡ true
+      passed : (module-fits m && ltb coin 2 && fits (m .n) (m .station) t) ≡ true
       passed = sym in-range ∙ not-false _ p
 
       pub answer-closed : t .closed ≡ true → 11 ≡ first-refusal m t ws coin room
@@ -137,9 +137,9 @@ module _ (m : Module) (t : Station) (ws : List ℕ) (coin room : ℕ) where
           unfolding fits
           slots-right =
               let f = both (module-fits m && ltb coin 2) _ passed in
-              let g = both (eqb (t .identity .n) (m .n) && eqb (t .identity .number) (m .number)) _ (f .1) in
-              let h = both (held-fits (m .n) (m .number) t) (rest-fits (m .n) (m .number) t) (rw o at (g .1)) in
-              both (ltb (t .held .heard) (2 ^ sites) && ltb (ones (t .held .heard)) (quorum (m .n)) && bit (t .held .heard) (m .number - 1)) _ (h .0) .1
+              let g = both (eqb (t .identity .n) (m .n) && eqb (t .identity .station) (m .station)) _ (f .1) in
+              let h = both (held-fits (m .n) (m .station) t) (rest-fits (m .n) (m .station) t) (rw o at (g .1)) in
+              both (ltb (t .held .heard) (2 ^ sites) && ltb (ones (t .held .heard)) (quorum (m .n)) && bit (t .held .heard) (m .station - 1)) _ (h .0) .1
 
           module _ (f : Fields) (r : f ≡ fields-of (getD ws 1 0)) where
             pub station-low : 1 ≤ f .station

@@ -52,7 +52,7 @@ pub refusal-is : (m : Module) (ws : List ℕ) (range way : Bool) (w q : ℕ) (f 
     → r ≡ first-failed
     (test range out-of-range
     ∷ test (eqb (length ws) statement-words && shape && way) malformed
-    ∷ test (eqb (f .station) (m .number)) wrong-code
+    ∷ test (eqb (f .station) (m .station)) wrong-code
     ∷ test later not-above
     ∷ [])
     → Tested m ws range way r
@@ -68,7 +68,7 @@ refusal-is m ws range way w q f shape s later r w-is f-is q-is shape-is s-is lat
     first-failed
     (test range out-of-range
     ∷ test (eqb (length ws) statement-words && we i && way) malformed
-    ∷ test (eqb (fe i .station) (m .number)) wrong-code
+    ∷ test (eqb (fe i .station) (m .station)) wrong-code
     ∷ test (le i) not-above
     ∷ [])) in
     record { number-is = re; ten-words = λ z. ten m ws range way (sym re ∙ z) }

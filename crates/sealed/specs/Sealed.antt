@@ -30,11 +30,11 @@ abbrev pub last-for : Module → ℕ → Last
 last-for m q = m .last
 
 abbrev pub advanced : Module → ℕ → ℕ → Module
-advanced m q s = record { key = m .key; n = m .n; number = m .number; last = pair q s }
+advanced m q s = record { key = m .key; n = m .n; station = m .station; last = pair q s }
 
 -- a module whose n and station number are in range: 2 is returned for any other
 abbrev pub module-fits : Module → Bool
-module-fits m = size-fits (m .n) && of-group (m .n) (m .number)
+module-fits m = size-fits (m .n) && of-group (m .n) (m .station)
 
 -- ---- making: "Making a module tests 2."
 pub record Made : Type 0 where
@@ -42,7 +42,7 @@ pub record Made : Type 0 where
   pub made : Module
 
 abbrev pub fresh : List ℕ → ℕ → ℕ → Module
-fresh key n number = record { key = key; n = n; number = number; last = no-pair }
+fresh key n number = record { key = key; n = n; station = number; last = no-pair }
 
 -- a refused making returns the all-zero module, which every call refuses by 1 or 2
 abbrev pub no-module : Module
@@ -98,7 +98,7 @@ signed code s =
 abbrev pub coding-tests : Module → List ℕ → Bool → List Test
 coding-tests m ws way =
     test (eqb (length ws) statement-words && formed (m .n) (fields-of (getD ws 0 0)) && way) malformed
-    ∷ test (eqb (statement ws 0 .station) (m .number)) wrong-code
+    ∷ test (eqb (statement ws 0 .station) (m .station)) wrong-code
     ∷ test (above (last-for m (statement ws 0 .question)) (statement ws 0 .question) (step (statement ws 0))) not-above
     ∷ []
 

@@ -112,7 +112,7 @@ module _ (mac : List ℕ → List ℕ → List ℕ) (m : Module) where
       )
 
   -- ---- a statement of the module's own station
-  module _ (s : Statement) (fit : module-fits m ≡ true) (p : Proper (m .n) s) (own : s .station ≡ m .number)
+  module _ (s : Statement) (fit : module-fits m ≡ true) (p : Proper (m .n) s) (own : s .station ≡ m .station)
       (later : above (last-for m (s .question)) (s .question) (step s) ≡ true) where
     top : m .n ≤ 31
     top = range-top m fit

@@ -23,7 +23,7 @@ pub struct Last {
 pub struct Module {
     pub key: [u8; 32],
     pub n: u32,
-    pub number: u32,
+    pub station: u32,
     pub last: Last,
 }
 
@@ -43,7 +43,7 @@ pub struct Coded {
 pub fn fits(m: Module) -> bool
     ensures { λ r. ⌜ r ≡ module-fits m ⌝ }
 {
-    ((2 <= m.n) & (m.n <= 31)) & ((1 <= m.number) & (m.number <= m.n))
+    ((2 <= m.n) & (m.n <= 31)) & ((1 <= m.station) & (m.station <= m.n))
 }
 
 // Whether a pair is above the last that the question is held against, question compared first.
@@ -68,7 +68,7 @@ fn advance(m: Module, question: u32, step: Step) -> Module
     Module {
         key,
         n: m.n,
-        number: m.number,
+        station: m.station,
         last,
     }
 }
@@ -86,7 +86,7 @@ pub fn make(key: [u8; 32], n: u32, number: u32) -> Made
         let m = Module {
             key,
             n,
-            number,
+            station: number,
             last,
         };
         Made { number: 0, made: m }
@@ -94,7 +94,7 @@ pub fn make(key: [u8; 32], n: u32, number: u32) -> Made
         let none = Module {
             key: [0; 32],
             n: 0,
-            number: 0,
+            station: 0,
             last,
         };
         Made {
@@ -175,7 +175,7 @@ fn refusal(m: Module, ws: &[u32], range: bool, way: bool) -> u32
     let f = format::read_fields(word(ws, 0));
     let q = word(ws, 1);
     let shape = (ws.len() == 10) & format::well_formed(f, m.n) & way;
-    let own = f.station == m.number;
+    let own = f.station == m.station;
     let later = is_above(m, q, format::step_of(f));
     first(range, shape, own, later)
 }

@@ -20,7 +20,7 @@ use Rattle.sealed.specs.declared.Module.{Module}
 use Rattle.sealed.specs.Sealed.{above, last-for, advanced, module-fits, is-toss, Coded, coding-plain, coding-coin}
 use Rattle.sealed.specs.Ways.{with-code, coded-as, own-plain, own-coin}
 use Rattle.station.specs.declared.Stage.{Stage}
-use Rattle.station.specs.Machine.{own, began, supplies-first, supplies-second}
+use Rattle.station.specs.Machine.{own, began, supplies-for-value, supplies-for-none}
 use Rattle.station.specs.Words.{set-of, all-written, bundle-of, over}
 use Rattle.station.specs.Words as W
 use Rattle.format.specs.ReadBack.{Proper, length-written}
@@ -43,10 +43,10 @@ low-front (w ∷ ws) r h (suc i) = low-front ws r (λ j. h (suc j)) i
 -- the fields of a statement of the module's station
 abbrev pub own-fields : Module → ℕ → ℕ → ℕ → ℕ → Fields
 own-fields m kind value flag round =
-    record { kind = kind; value = value; flag = flag; spare = 0; station = m .number; round = record { 0 = round } }
+    record { kind = kind; value = value; flag = flag; spare = 0; station = m .station; round = record { 0 = round } }
 
 abbrev pub own-statement : Module → ℕ → ℕ → ℕ → ℕ → ℕ → Statement
-own-statement m question kind value flag round = own (hmac-code (m .key)) (m .number) question kind value flag round
+own-statement m question kind value flag round = own (hmac-code (m .key)) (m .station) question kind value flag round
 
 module _ (m : Module) (question kind value flag round : ℕ) (g : Stage) (d : ℕ) (first second : List Statement) (slots group : List ℕ)
     (C : Certificate (m .n) first second slots group) (c e : List Statement) (same : first ++ second ≡ c ++ e) (out : List ℕ) (room : 331 ≤ length out)
@@ -135,12 +135,12 @@ module _ (m : Module) (question kind value flag round : ℕ) (g : Stage) (d : �
       ∙ take-at (bundle-of s (c ++ e)) (drop (length (bundle-of s (c ++ e))) out) (bundle-words (length (c ++ e))) (ws-length (m .n) s (c ++ e) (C .top) p proper few)
 
   pub station-is : Below (sent-lent m question f slots (set-of first) group (length second) out)
-      → (supplies-first g s ≡ true → length c ≡ quorum (m .n)) → (supplies-second g s ≡ true → length c ≡ quorum (m .n))
-      → sent-station m question g d (sent-bundle m question f slots (set-of first) group (length second) out) ≡ W.station-of (m .n) (m .number) (began question g d s c)
+      → (supplies-for-value g s ≡ true → length c ≡ quorum (m .n)) → (supplies-for-none g s ≡ true → length c ≡ quorum (m .n))
+      → sent-station m question g d (sent-bundle m question f slots (set-of first) group (length second) out) ≡ W.as-station (m .n) (m .station) (began question g d s c)
   unfolding sent-station
   station-is low one two =
-      ap (kept-words (blank (m .n) (m .number) question g d)) bundle-is
-      ∙ begun (m .n) (m .number) question g d s c e (C .top) p proper few
+      ap (kept-words (blank (m .n) (m .station) question g d)) bundle-is
+      ∙ begun (m .n) (m .station) question g d s c e (C .top) p proper few
       (low-front (bundle-of s (c ++ e)) (drop (length (bundle-of s (c ++ e))) out) (subst Below lent-is low)) one two
 
   pub after-is : sent-after m question f slots (set-of first) group (length second) out ≡ advanced m question (step s)

@@ -55,4 +55,4 @@ sent-bundle m question f slots set group k out = take (sent-count set k out) (se
 
 -- the station: nothing held but the bundle that it wrote
 unfoldable pub sent-station : Module → ℕ → Stage → ℕ → List ℕ → Station
-sent-station m question g d ws = kept-words (blank (m .n) (m .number) question g d) ws
+sent-station m question g d ws = kept-words (blank (m .n) (m .station) question g d) ws

@@ -25,7 +25,7 @@ fn blank(n: u32, number: u32, question: u32, stage: Stage, decision: u32) -> Sta
 {
     let identity = Identity {
         n,
-        number,
+        station: number,
         question,
     };
     let held = Held {
@@ -33,8 +33,8 @@ fn blank(n: u32, number: u32, question: u32, stage: Stage, decision: u32) -> Sta
         slots: [0; 310],
     };
     let groups = Groups {
-        first: [0; 160],
-        second: [0; 160],
+        value: [0; 160],
+        none: [0; 160],
     };
     Station {
         identity,
@@ -58,7 +58,7 @@ fn begin(
     requires { ⌜ count ≤ length (now out) ⌝ }
     ensures { λ r. ⌜ r ≡ sent-station m question stage decision (take count (now (out .entry))) ⌝ }
 {
-    let t = blank(m.n, m.number, question, stage, decision);
+    let t = blank(m.n, m.station, question, stage, decision);
     keeping::keep(t, &out[..count])
 }
 

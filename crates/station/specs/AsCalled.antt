@@ -31,16 +31,16 @@ use Rattle.station.specs.Fits.{kept-sane}
 
 module _ (mac : List ℕ → List ℕ → List ℕ) (m : Module) (t : Station) (ws : List ℕ) (coin : ℕ) (out : List ℕ) where
   -- where the tests 1, 2, 11, 3, 4 and 5 pass, giving is what the table's rows use
-  pub given-as-called : output-words ≤ length out → module-fits m ≡ true → coin < 2 → fits (m .n) (m .number) t ≡ true → t .closed ≡ false
+  pub given-as-called : output-words ≤ length out → module-fits m ≡ true → coin < 2 → fits (m .n) (m .station) t ≡ true → t .closed ≡ false
       → bundle-fits (m .n) ws ≡ true → question-fits (Only (t .identity .question)) (main-of ws) (certificate-of ws) ≡ true
       → all-verify (mac (m .key)) (statements ws 1 (suc (count-in ws))) ≡ true
       → giving-outcome mac m t ws coin out
-      ≡ given (mac (m .key)) (m .n) (m .number) (last-for m (t .identity .question)) coin (state-of t) (main-of ws by certificate-of ws)
+      ≡ given (mac (m .key)) (m .n) (m .station) (last-for m (t .identity .question)) coin (state-of t) (main-of ws by certificate-of ws)
   given-as-called room fit bit fitting still three four five =
       ap (λ (k : ℕ). pick (eqb k 0) whole (refused k)) (passed-front front rest passed)
     where
       whole : Outcome
-      whole = taken (mac (m .key)) (m .n) (m .number) (last-for m (t .identity .question)) (state-of t) (main-of ws) (certificate-of ws) coin
+      whole = taken (mac (m .key)) (m .n) (m .station) (last-for m (t .identity .question)) (state-of t) (main-of ws) (certificate-of ws) coin
 
       rest : List Test
       rest = test (rule (m .n) (main-of ws) (certificate-of ws)) no-certificate ∷ step-tests (state-of t) (main-of ws)
@@ -79,7 +79,7 @@ kept-as-read mac eight m t ws coin out L u = go (giving-outcome mac m t ws coin 
     go : (o : Outcome) → Gives mac m t ws coin out o → o ≡ keeps kept u → state-of (returned m t out o .station) ≡ u
     go _ (refuses e) z = absurd (omega (arith, ap kept-number z))
     go _ (holds-on A few) z =
-        state-back (m .n) (m .number) (after mac m t ws coin out) (A .range .at-most-31) (A .range .low) (A .range .high) (kept-sane mac eight m t ws coin out L A few)
+        state-back (m .n) (m .station) (after mac m t ws coin out) (A .range .at-most-31) (A .range .low) (A .range .high) (kept-sane mac eight m t ws coin out L A few)
         ∙ ap (state-in u) z
     go _ (shuts A size c) z = absurd (omega (arith, ap kept-number z))
     go _ (goes-on A size c later k) z = absurd (omega (arith, ap kept-number z))

@@ -16,7 +16,7 @@ use Rattle.sealed.specs.Sealed.{module-fits, last-for, advanced}
 use Rattle.station.specs.declared.Stage.the-variants.{Gathering}
 use Rattle.station.specs.declared.Station.{Station}
 use Rattle.station.specs.Machine.{Outcome, refused, keeps, sends, opened, taken, step-tests}
-use Rattle.station.specs.Words.{state-of, station-of, bundle-of, over}
+use Rattle.station.specs.Words.{state-of, as-station, bundle-of, over}
 use Rattle.station.specs.Fit.{fits}
 
 -- all that a call returns: the number, the word count, the station, the module, and the lent output
@@ -30,12 +30,12 @@ pub record Returned : Type 0 where
 -- "Where no bundle is written the word count is zero. At a refusal station, module and lent words keep their values."
 unfoldable pub returned : Module → Station → List ℕ → Outcome → Returned
 returned m t out (refused k) = record { number = k; count = 0; station = t; after = m; lent = out }
-returned m t out (keeps k s) = record { number = k; count = 0; station = station-of (m .n) (m .number) s; after = m; lent = out }
+returned m t out (keeps k s) = record { number = k; count = 0; station = as-station (m .n) (m .station) s; after = m; lent = out }
 returned m t out (sends k s c u) =
     record {
       number = k;
       count = bundle-words (length c);
-      station = station-of (m .n) (m .number) u;
+      station = as-station (m .n) (m .station) u;
       after = advanced m (s .question) (step s);
       lent = over (bundle-of s c) out;
     }
@@ -48,19 +48,19 @@ unless l o = pick (eqb (first-failed l) 0) o (refused (first-failed l))
 unfoldable pub no-station : Station
 no-station =
     record {
-      identity = record { n = 0; number = 0; question = 0 };
+      identity = record { n = 0; station = 0; question = 0 };
       stage = Gathering;
       closed = true;
       decision = none;
       held = record { heard = 0; slots = replicate 310 0 };
-      groups = record { first = replicate 160 0; second = replicate 160 0 };
+      groups = record { value = replicate 160 0; none = replicate 160 0 };
     }
 
 -- what a giving tests before it looks at the words: 1, 2, 11
 abbrev pub station-tests : Module → Station → ℕ → List ℕ → List Test
 station-tests m t coin out =
     test (leb output-words (length out)) short-output
-    ∷ test (module-fits m && ltb coin 2 && fits (m .n) (m .number) t) out-of-range
+    ∷ test (module-fits m && ltb coin 2 && fits (m .n) (m .station) t) out-of-range
     ∷ test (not (t .closed)) station-closed
     ∷ []
 
@@ -71,7 +71,7 @@ module _ (mac : List ℕ → List ℕ → List ℕ) where
 
   abbrev pub opening-outcome : Module → ℕ → ℕ → List ℕ → Outcome
   opening-outcome m question proposal out =
-      unless (open-tests m proposal out) (opened (mac (m .key)) (m .n) (m .number) (last-for m question) question proposal)
+      unless (open-tests m proposal out) (opened (mac (m .key)) (m .n) (m .station) (last-for m question) question proposal)
 
   unfoldable pub opening : Module → ℕ → ℕ → List ℕ → Returned
   opening m question proposal out = returned m no-station out (opening-outcome m question proposal out)
@@ -84,7 +84,7 @@ module _ (mac : List ℕ → List ℕ → List ℕ) where
   abbrev pub giving-outcome : Module → Station → List ℕ → ℕ → List ℕ → Outcome
   giving-outcome m t ws coin out =
       unless (give-tests m t ws coin out)
-      (taken (mac (m .key)) (m .n) (m .number) (last-for m (t .identity .question)) (state-of t) (main-of ws) (certificate-of ws) coin)
+      (taken (mac (m .key)) (m .n) (m .station) (last-for m (t .identity .question)) (state-of t) (main-of ws) (certificate-of ws) coin)
 
   unfoldable pub giving : Module → Station → List ℕ → ℕ → List ℕ → Returned
   giving m t ws coin out = returned m t out (giving-outcome m t ws coin out)

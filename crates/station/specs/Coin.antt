@@ -80,7 +80,7 @@ module _ (code : List ℕ → List ℕ) (n number : ℕ) (last : Last) where
           e = decision-after (t .decision) (decided (t .held))
 
           by-votes : Next
-          by-votes = next kind-P (carried (t .held)) D-GET (r .0 + 1) (t .first) [] (proposing (r .0 + 1) D-GET)
+          by-votes = next kind-P (carried (t .held)) D-GET (r .0 + 1) (t .for-value) [] (proposing (r .0 + 1) D-GET)
 
           by-coin-0 : Next
           by-coin-0 = next kind-P 0 R-GET (r .0 + 1) (t .held) [] (proposing (r .0 + 1) R-GET)
@@ -121,8 +121,8 @@ module _ (code : List ℕ → List ℕ) (n number : ℕ) (last : Last) where
 -- ---- all that giving returns
 module _ (mac : List ℕ → List ℕ → List ℕ) (m : Module) (t : Station) (ws out : List ℕ) where
   -- what a toss returns: 20, and a bundle whose main statement is a P flagged R-GET of round r with the coin as its value
-  pub tossed-says : (r d : ℕ) (votes : List Statement) (coin : ℕ) → let x = returned m t out (tossing (mac (m .key)) (m .number) (t .identity .question) r d votes coin) in
-      (x .number ≡ sent) × (x .lent ≡ over (bundle-of (own (mac (m .key)) (m .number) (t .identity .question) kind-P coin R-GET r) (votes ++ [])) out)
+  pub tossed-says : (r d : ℕ) (votes : List Statement) (coin : ℕ) → let x = returned m t out (tossing (mac (m .key)) (m .station) (t .identity .question) r d votes coin) in
+      (x .number ≡ sent) × (x .lent ≡ over (bundle-of (own (mac (m .key)) (m .station) (t .identity .question) kind-P coin R-GET r) (votes ++ [])) out)
   unfolding returned
   tossed-says r d votes coin = (refl, refl)
 
@@ -134,12 +134,12 @@ module _ (mac : List ℕ → List ℕ → List ℕ) (m : Module) (t : Station) (
       k = first-failed (give-tests mac m t ws 0 out)
 
       whole : ℕ → Outcome
-      whole coin = taken (mac (m .key)) (m .n) (m .number) (last-for m (t .identity .question)) (state-of t) (main-of ws) (certificate-of ws) coin
+      whole coin = taken (mac (m .key)) (m .n) (m .station) (last-for m (t .identity .question)) (state-of t) (main-of ws) (certificate-of ws) coin
 
       go : (b : Bool) → giving mac m t ws 0 out ≡ returned m t out (pick b (whole 0) (refused k)) → giving mac m t ws 1 out ≡ returned m t out (pick b (whole 1) (refused k)) → CoinEffect mac m t ws out
-      go true x y = from (taken-tossed (mac (m .key)) (m .n) (m .number) (last-for m (t .identity .question)) (state-of t) (main-of ws) (certificate-of ws))
+      go true x y = from (taken-tossed (mac (m .key)) (m .n) (m .station) (last-for m (t .identity .question)) (state-of t) (main-of ws) (certificate-of ws))
         where
-          from : Tossed (mac (m .key)) (m .n) (m .number) (last-for m (t .identity .question)) (t .identity .question) (whole 0) (whole 1) → CoinEffect mac m t ws out
+          from : Tossed (mac (m .key)) (m .n) (m .station) (last-for m (t .identity .question)) (t .identity .question) (whole 0) (whole 1) → CoinEffect mac m t ws out
           from (no-toss e) = no-effect (x ∙ ap (returned m t out) e ∙ sym y)
           from (toss r d votes e f) = tossed r d votes (x ∙ ap (returned m t out) e) (y ∙ ap (returned m t out) f)
       go false x y = no-effect (x ∙ sym y)

@@ -18,17 +18,17 @@ use Rattle.station.specs.declared.Stage.{Stage}
 use Rattle.station.specs.declared.Stage.the-variants.{Gathering, Proposing, Voting}
 use Rattle.station.specs.declared.Station.{Station}
 use Rattle.station.specs.Machine.{State, Outcome, refused, keeps, sends, Next, own, began, shut, moved, keeping, follows, decision-at, closes, ended, taken}
-use Rattle.station.specs.Words.{state-of, station-of, bundle-of, over}
+use Rattle.station.specs.Words.{state-of, as-station, bundle-of, over}
 use Rattle.station.specs.Calls.{Returned, returned, opening, give-tests, giving}
 
 -- 20, eleven words, and a station that gathers, holds its INIT alone and names no decision
 abbrev pub opened-with : (List ℕ → List ℕ → List ℕ) → Module → ℕ → ℕ → List ℕ → Returned
 opened-with mac m question proposal out =
-    let s = own (mac (m .key)) (m .number) question kind-INIT proposal D-GET 0 in
+    let s = own (mac (m .key)) (m .station) question kind-INIT proposal D-GET 0 in
     record {
       number = sent;
       count = bundle-words 0;
-      station = station-of (m .n) (m .number) (began question Gathering none s []);
+      station = as-station (m .n) (m .station) (began question Gathering none s []);
       after = advanced m question 0;
       lent = over (bundle-of s []) out;
     }
@@ -41,7 +41,7 @@ opens mac m question proposal out room fit bit later = rw (room, fit, bit, later
 
 pub opened-undecided : (mac : List ℕ → List ℕ → List ℕ) (m : Module) (question proposal : ℕ) (out : List ℕ)
     → opened-with mac m question proposal out .station .decision ≡ none
-unfolding station-of
+unfolding as-station
 opened-undecided mac m question proposal out = refl
 
 -- a decision that is there stays
@@ -56,7 +56,7 @@ module _ (mac : List ℕ → List ℕ → List ℕ) (m : Module) (t : Station) (
   Keeps o = returned m t out o .station .decision ≡ t .decision
 
   pub first-kept : giving mac m t ws coin out .station .decision ≡ t .decision
-  unfolding giving returned taken ended station-of state-of pick Keeps
+  unfolding giving returned taken ended as-station state-of pick Keeps
   first-kept = go (eqb (first-failed (give-tests mac m t ws coin out)) 0)
     where
       k : State
@@ -69,23 +69,23 @@ module _ (mac : List ℕ → List ℕ → List ℕ) (m : Module) (t : Station) (
       x = follows (m .n) (t .stage) k coin
 
       s : Statement
-      s = own (mac (m .key)) (m .number) (t .identity .question) (x .kind) (x .value) (x .flag) (x .round)
+      s = own (mac (m .key)) (m .station) (t .identity .question) (x .kind) (x .value) (x .flag) (x .round)
 
       sent-on : (a : Bool) (number : ℕ) → Keeps (pick a (sends number s (x .first ++ x .second) (began (t .identity .question) (x .stage) d s (x .first))) (refused not-above))
       sent-on true number = stays (t .stage) (t .decision) (k .held) there
       sent-on false number = refl
 
-      end : (c : Bool) → Keeps (pick c (keeps closed-now (shut (mac (m .key)) (m .n) (m .number) (last-for m (t .identity .question)) k d))
-          (moved (mac (m .key)) (m .n) (m .number) (last-for m (t .identity .question)) k x d))
+      end : (c : Bool) → Keeps (pick c (keeps closed-now (shut (mac (m .key)) (m .n) (m .station) (last-for m (t .identity .question)) k d))
+          (moved (mac (m .key)) (m .n) (m .station) (last-for m (t .identity .question)) k x d))
       end true = stays (t .stage) (t .decision) (k .held) there
       end false =
           sent-on (above (last-for m (t .identity .question)) (t .identity .question) (step s)) (pick (ltb (t .decision) none || eqb d none) sent sent-decided)
 
-      take-in : (b : Bool) → Keeps (pick b (keeps kept k) (ended (mac (m .key)) (m .n) (m .number) (last-for m (t .identity .question)) k coin))
+      take-in : (b : Bool) → Keeps (pick b (keeps kept k) (ended (mac (m .key)) (m .n) (m .station) (last-for m (t .identity .question)) k coin))
       take-in true = refl
       take-in false = end (closes (t .stage))
 
-      go : (b : Bool) → Keeps (pick b (taken (mac (m .key)) (m .n) (m .number) (last-for m (t .identity .question)) (state-of t) (main-of ws) (certificate-of ws) coin)
+      go : (b : Bool) → Keeps (pick b (taken (mac (m .key)) (m .n) (m .station) (last-for m (t .identity .question)) (state-of t) (main-of ws) (certificate-of ws) coin)
           (refused (first-failed (give-tests mac m t ws coin out))))
       go true = take-in (ltb (length (k .held)) (quorum (m .n)))
       go false = refl

@@ -49,7 +49,7 @@ module _ (mac : List ℕ → List ℕ → List ℕ) where
     pub record OfGroup (number : ℕ) (m : Module) : Type 0 where
       pub same-key : m .key ≡ key
       pub same-n : m .n ≡ n
-      pub same-number : m .number ≡ number
+      pub same-number : m .station ≡ number
 
     -- "stations, each made by opening and changed only by these calls"
     pub data Reached (number : ℕ) : Station → Type 0 where
@@ -63,7 +63,7 @@ module _ (mac : List ℕ → List ℕ → List ℕ) where
     pub record ValidToAll (ws : List ℕ) : Type 0 where
       pub valid : check-by (mac key) n Any ws ≡ 0
       pub everywhere : (number : ℕ) (m : Module) (t : Station) (coin : ℕ) (out : List ℕ) → OfGroup number m → module-fits m ≡ true
-          → fits (m .n) (m .number) t ≡ true → t .closed ≡ false → main-of ws .question ≡ t .identity .question → output-words ≤ length out → coin < 2
+          → fits (m .n) (m .station) t ≡ true → t .closed ≡ false → main-of ws .question ≡ t .identity .question → output-words ≤ length out → coin < 2
           → invalid (giving mac m t ws coin out .number) ≡ false
 
   -- the module's part: what stands in a written bundle as its main statement is what the module's plain way, or for an R-GET its coin way, codes for
@@ -78,8 +78,8 @@ module _ (mac : List ℕ → List ℕ → List ℕ) where
   pub data CoinEffect (m : Module) (t : Station) (ws out : List ℕ) : Type 0 where
     no-effect : giving mac m t ws 0 out ≡ giving mac m t ws 1 out → CoinEffect m t ws out
     tossed : (r d : ℕ) (votes : List Statement)
-        → giving mac m t ws 0 out ≡ returned m t out (tossing (mac (m .key)) (m .number) (t .identity .question) r d votes 0)
-        → giving mac m t ws 1 out ≡ returned m t out (tossing (mac (m .key)) (m .number) (t .identity .question) r d votes 1) → CoinEffect m t ws out
+        → giving mac m t ws 0 out ≡ returned m t out (tossing (mac (m .key)) (m .station) (t .identity .question) r d votes 0)
+        → giving mac m t ws 1 out ≡ returned m t out (tossing (mac (m .key)) (m .station) (t .identity .question) r d votes 1) → CoinEffect m t ws out
 
   pub record Demand-2 : Type 0 where
     -- "every message that a station writes is valid to every station of its group"; "its word count with it"
@@ -101,9 +101,9 @@ module _ (mac : List ℕ → List ℕ → List ℕ) where
         → BySeal m coin (giving mac m t ws coin out)
     -- "no station that these calls answer without refusing fails it"
     pub opening-fits : (m : Module) (question v : ℕ) (out : List ℕ) → unrefused (opening mac m question v out .number) ≡ true
-        → fits (m .n) (m .number) (opening mac m question v out .station) ≡ true
+        → fits (m .n) (m .station) (opening mac m question v out .station) ≡ true
     pub giving-fits : (m : Module) (t : Station) (ws : List ℕ) (coin : ℕ) (out : List ℕ) → Lengths t
-        → unrefused (giving mac m t ws coin out .number) ≡ true → fits (m .n) (m .number) (giving mac m t ws coin out .station) ≡ true
+        → unrefused (giving mac m t ws coin out .number) ≡ true → fits (m .n) (m .station) (giving mac m t ws coin out .station) ≡ true
     -- "At a refusal station, module and lent words keep their values", and the word count is zero; a refused opening returns the station that is none
     pub opening-refused : (m : Module) (question v : ℕ) (out : List ℕ) → unrefused (opening mac m question v out .number) ≡ false
         → opening mac m question v out ≡ as-given (opening mac m question v out .number) m no-station out

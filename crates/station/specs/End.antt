@@ -22,8 +22,8 @@ use Rattle.certificate.specs.Check.{every}
 use Rattle.certificate.specs.Exact.{every-out}
 use Rattle.station.specs.declared.Stage.{Stage}
 use Rattle.station.specs.declared.Stage.the-variants.{Gathering, Proposing, Voting}
-use Rattle.station.specs.Machine.{State, kind-in, round-in, stage-step, supplies-first, supplies-second, number-of, has-value, first-value, those, vote-value, carried, Next, after-inits, after-proposals, after-votes, conflict}
-use Rattle.station.specs.Words.{kept-first, kept-second, first-of-round, leading}
+use Rattle.station.specs.Machine.{State, kind-in, round-in, stage-step, supplies-for-value, supplies-for-none, number-of, has-value, first-value, those, vote-value, carried, Next, after-inits, after-proposals, after-votes, conflict}
+use Rattle.station.specs.Words.{kept-for-value, kept-for-none, value-group, leading}
 use Rattle.format.specs.ReadBack.{Proper}
 use Rattle.station.specs.Slots.{all-two}
 use Rattle.station.specs.Sane.{Kept, InRounds, FlagOf}
@@ -38,8 +38,8 @@ pub record Full (n : ℕ) (k : State) : Type 0 where
   pub size : length (k .held) ≡ quorum n
   pub calm : conflict (k .stage) (k .held) ≡ false
   pub rounds : InRounds (k .stage)
-  pub first : Kept n (k .question) (kept-first n (k .stage) (k .held)) (k .first)
-  pub second : Kept n (k .question) (kept-second n (k .stage) (k .held)) (k .second)
+  pub for-value : Kept n (k .question) (kept-for-value n (k .stage) (k .held)) (k .for-value)
+  pub for-none : Kept n (k .question) (kept-for-none n (k .stage) (k .held)) (k .for-none)
 
 -- no proposal of round 1 is R-GET: no valid bundle has one
 abbrev pub Given : List Statement → Type 0
@@ -71,8 +71,8 @@ pub record Ready (n : ℕ) (question : ℕ) (x : Next) : Type 0 where
   pub alike : All (λ s. s .question ≡ question) (x .first)
   pub more-proper : All (Proper n) (x .second)
   pub more-alike : All (λ s. s .question ≡ question) (x .second)
-  pub first : (s : Statement) → s .value ≡ x .value → s .flag ≡ x .flag → supplies-first (x .stage) s ≡ true → Holds (first-of-round n (x .stage) (x .value)) (x .first)
-  pub second : (s : Statement) → s .value ≡ x .value → s .flag ≡ x .flag → supplies-second (x .stage) s ≡ true → Holds (none-votes n (round-in (x .stage) - 1)) (x .first)
+  pub for-value : (s : Statement) → s .value ≡ x .value → s .flag ≡ x .flag → supplies-for-value (x .stage) s ≡ true → Holds (value-group n (x .stage) (x .value)) (x .first)
+  pub for-none : (s : Statement) → s .value ≡ x .value → s .flag ≡ x .flag → supplies-for-none (x .stage) s ≡ true → Holds (none-votes n (round-in (x .stage) - 1)) (x .first)
 
 -- ---- INITs
 small-first : (h : List Statement) → first-value h < 2
@@ -136,8 +136,8 @@ module _ (n : ℕ) (k : State) (F : Full n k) where
               (all-map (λ s p. p .0) (those (has-value proposed) h) (those-all (λ s. s .question ≡ k .question) (has-value proposed) h (all-map (λ s p. p .0) h (F .alike))));
           more-proper = tt;
           more-alike = tt;
-          first = λ s a b c. never false refl c;
-          second = λ s a b c. never false refl c;
+          for-value = λ s a b c. never false refl c;
+          for-none = λ s a b c. never false refl c;
         }
 
     pub inits-backed : (s : Statement) → s .kind ≡ kind-P → s .value ≡ proposed → s .flag ≡ D-GET → s .round ≡ 1 → Backed n s (after-inits n h .first ++ [])
@@ -195,38 +195,38 @@ module _ (n : ℕ) (k : State) (F : Full n k) where
               (all-two P-facts (λ s. has-value v s ≡ true) h p-facts (every-out (has-value v) h a));
         }
 
-    -- a kept first group, where one of them is D-GET and the round is over 1
-    pub kept-equal : (v : ℕ) → every (has-value v) h ≡ true → 1 < r → some-D-GET h ≡ true → Kept n (k .question) (proposals n (r - 1) (Only v) Any) (k .first)
-    unfolding kept-first pick
+    -- the group kept for a value, where one of them is D-GET and the round is over 1
+    pub kept-equal : (v : ℕ) → every (has-value v) h ≡ true → 1 < r → some-D-GET h ≡ true → Kept n (k .question) (proposals n (r - 1) (Only v) Any) (k .for-value)
+    unfolding kept-for-value pick
     kept-equal v a b c =
-        let s : some (supplies-first (k .stage)) h ≡ true
-        = some-weaker (λ s. which Any (s .value) && which (Only D-GET) (s .flag)) (supplies-first (k .stage)) h (all-map (λ s p z. rw (e, lt-ltb 1 r b) z) h p-facts) c in
-        let l : leading (supplies-first (k .stage)) h ≡ v
-        = leading-is (supplies-first (k .stage)) v h (all-map (λ s p z. eqb-true _ _ p) h (every-out (has-value v) h a)) s in
-        let g : first-of-round n (k .stage) v ≡ proposals n (r - 1) (Only v) Any = ap (λ (x : Stage). first-of-round n x v) e in
-        rw g at (rw (s, l) at (F .first))
+        let s : some (supplies-for-value (k .stage)) h ≡ true
+        = some-weaker (λ s. which Any (s .value) && which (Only D-GET) (s .flag)) (supplies-for-value (k .stage)) h (all-map (λ s p z. rw (e, lt-ltb 1 r b) z) h p-facts) c in
+        let l : leading (supplies-for-value (k .stage)) h ≡ v
+        = leading-is (supplies-for-value (k .stage)) v h (all-map (λ s p z. eqb-true _ _ p) h (every-out (has-value v) h a)) s in
+        let g : value-group n (k .stage) v ≡ proposals n (r - 1) (Only v) Any = ap (λ (x : Stage). value-group n x v) e in
+        rw g at (rw (s, l) at (F .for-value))
 
-    -- a kept second group, where both values are there and the round is over 1: one of them is R-GET
-    pub kept-none : 1 < r → some-value 0 h ≡ true → some-value 1 h ≡ true → Kept n (k .question) (none-votes n (r - 1)) (k .second)
-    unfolding kept-second pick conflict
+    -- the group kept for a none vote, where both values are there and the round is over 1: one of them is R-GET
+    pub kept-none : 1 < r → some-value 0 h ≡ true → some-value 1 h ≡ true → Kept n (k .question) (none-votes n (r - 1)) (k .for-none)
+    unfolding kept-for-none pick conflict
     kept-none b x y =
-        let s : some (supplies-second (k .stage)) h ≡ true = go (some (supplies-second (k .stage)) h) refl in
+        let s : some (supplies-for-none (k .stage)) h ≡ true = go (some (supplies-for-none (k .stage)) h) refl in
         let g : none-votes n (round-in (k .stage) - 1) ≡ none-votes n (r - 1) = ap (λ (z : Stage). none-votes n (round-in z - 1)) e in
-        rw g at (rw s at (F .second))
+        rw g at (rw s at (F .for-none))
       where
-        of-value : (v : ℕ) → some (supplies-second (k .stage)) h ≡ false → some-value v h ≡ true → some (λ s. eqb (s .flag) D-GET && has-value v s) h ≡ true
+        of-value : (v : ℕ) → some (supplies-for-none (k .stage)) h ≡ false → some-value v h ≡ true → some (λ s. eqb (s .flag) D-GET && has-value v s) h ≡ true
         of-value v q z =
             some-weaker (λ s. which (Only v) (s .value) && which Any (s .flag)) (λ s. eqb (s .flag) D-GET && has-value v s) h
             (all-map (λ s p w. join (eqb (s .flag) D-GET) _ (eq-eqb (s .flag) D-GET (d-get s (p .0) (p .1))) (both (eqb (s .value) v) true w .0)) h
-            (all-two P-facts (λ s. supplies-second (k .stage) s ≡ false) h p-facts (none-some (supplies-second (k .stage)) h q))) z
+            (all-two P-facts (λ s. supplies-for-none (k .stage) s ≡ false) h p-facts (none-some (supplies-for-none (k .stage)) h q))) z
           where
-            d-get : (s : Statement) → P-facts s → supplies-second (k .stage) s ≡ false → s .flag ≡ D-GET
+            d-get : (s : Statement) → P-facts s → supplies-for-none (k .stage) s ≡ false → s .flag ≡ D-GET
             d-get s p w =
-                let m : (ltb 1 r && eqb (s .flag) R-GET) ≡ false = sym (ap (λ (z : Stage). supplies-second z s) e) ∙ w in
+                let m : (ltb 1 r && eqb (s .flag) R-GET) ≡ false = sym (ap (λ (z : Stage). supplies-for-none z s) e) ∙ w in
                 let m' : eqb (s .flag) R-GET ≡ false = sym (ap (λ (z : Bool). z && eqb (s .flag) R-GET) (lt-ltb 1 r b)) ∙ m in
                 omega (arith, p .flag, eqb-false (s .flag) R-GET m')
 
-        go : (c : Bool) → some (supplies-second (k .stage)) h ≡ c → some (supplies-second (k .stage)) h ≡ true
+        go : (c : Bool) → some (supplies-for-none (k .stage)) h ≡ c → some (supplies-for-none (k .stage)) h ≡ true
         go true q = q
         go false q =
             let quiet : (ltb 1 r && (some (λ s. eqb (s .flag) D-GET && has-value 0 s) h && some (λ s. eqb (s .flag) D-GET && has-value 1 s) h)) ≡ false
@@ -236,7 +236,7 @@ module _ (n : ℕ) (k : State) (F : Full n k) where
 
     -- the second group of the vote, by its value
     abbrev second-of : ℕ → List Statement
-    second-of v = pick (ltb 1 r) (pick (ltb v none) (pick (some-D-GET h) (k .first) []) (k .second)) []
+    second-of v = pick (ltb 1 r) (pick (ltb v none) (pick (some-D-GET h) (k .for-value) []) (k .for-none)) []
 
     pub record Second (v : ℕ) : Type 0 where
       pub proper : All (Proper n) (second-of v)
@@ -282,14 +282,14 @@ module _ (n : ℕ) (k : State) (F : Full n k) where
           alike = all-map (λ s p. p .0) h (F .alike);
           more-proper = seconds .proper;
           more-alike = seconds .alike;
-          first = λ s a b c. vote-holds (omega (arith, ltb-true (s .value) none c));
-          second = λ s a b c. never false refl c;
+          for-value = λ s a b c. vote-holds (omega (arith, ltb-true (s .value) none c));
+          for-none = λ s a b c. never false refl c;
         }
 
     -- which of the three it is
-    second-first : (v : ℕ) → v < none → 1 < r → some-D-GET h ≡ true → second-of v ≡ k .first
+    second-for-value : (v : ℕ) → v < none → 1 < r → some-D-GET h ≡ true → second-of v ≡ k .for-value
     unfolding pick
-    second-first v low x y = rw (lt-ltb 1 r x, lt-ltb v none low, y)
+    second-for-value v low x y = rw (lt-ltb 1 r x, lt-ltb v none low, y)
 
     second-nil : (v : ℕ) → v < none → (1 < r → some-D-GET h ≡ true → ⊥) → second-of v ≡ []
     unfolding pick
@@ -300,7 +300,7 @@ module _ (n : ℕ) (k : State) (F : Full n k) where
         go true x false y = rw (x, lt-ltb v none low, y)
         go false x b y = rw x
 
-    second-later : 1 < r → second-of none ≡ k .second
+    second-later : 1 < r → second-of none ≡ k .for-none
     unfolding pick
     second-later x = rw (lt-ltb 1 r x)
 
@@ -312,7 +312,7 @@ module _ (n : ℕ) (k : State) (F : Full n k) where
     five : (s : Statement) → s .kind ≡ kind-V → s .round ≡ r → (v : ℕ) → v < none → every (has-value v) h ≡ true → s .value ≡ v → Backed n s (h ++ second-of v)
     five s a d v low q w =
         rule-5 {c = h} {d = second-of v} a (omega arith) (rw (w, d) (equal-hold v q))
-        (λ z. let x : 1 < r = omega (arith, z .0) in rw (w, d, second-first v low x (z .1)) (kept-equal v q x (z .1) .as-asked))
+        (λ z. let x : 1 < r = omega (arith, z .0) in rw (w, d, second-for-value v low x (z .1)) (kept-equal v q x (z .1) .as-asked))
         (λ z. second-nil v low (λ x y. z (omega arith, y)))
 
     -- rules 6 and 7, where both values are there
@@ -395,20 +395,20 @@ module _ (n : ℕ) (k : State) (F : Full n k) where
         go false p true q = b q (not-other (some (has-value 0) h) (some (has-value 1) h) quiet (has-some 1 q))
         go false p false q = c p q
 
-    -- the kept first group is that of the carried value
+    -- the group kept for a value is that of the carried value
     kept-value : (v w : ℕ) → v < none → w < none → (v ≡ w → ⊥) → some-value v h ≡ true → some (has-value w) h ≡ false
-        → Kept n (k .question) (proposals n r (Only v) Any) (k .first)
-    unfolding kept-first pick
+        → Kept n (k .question) (proposals n r (Only v) Any) (k .for-value)
+    unfolding kept-for-value pick
     kept-value v w lv lw ne x y =
-        let s : some (supplies-first (k .stage)) h ≡ true
-        = some-weaker (λ s. which (Only v) (s .value) && which Any (s .flag)) (supplies-first (k .stage)) h
+        let s : some (supplies-for-value (k .stage)) h ≡ true
+        = some-weaker (λ s. which (Only v) (s .value) && which Any (s .flag)) (supplies-for-value (k .stage)) h
         (all-map (λ s p z. rw e (lt-ltb (s .value) none (omega (arith, eqb-true (s .value) v (both (eqb (s .value) v) true z .0))))) h v-facts) x in
-        let l : leading (supplies-first (k .stage)) h ≡ v
-        = leading-is (supplies-first (k .stage)) v h
-        (all-map (λ s p z. omega (arith, p .0 .value, eqb-false (s .value) w (p .1), ltb-true (s .value) none (sym (ap (λ (q : Stage). supplies-first q s) e) ∙ z))) h
+        let l : leading (supplies-for-value (k .stage)) h ≡ v
+        = leading-is (supplies-for-value (k .stage)) v h
+        (all-map (λ s p z. omega (arith, p .0 .value, eqb-false (s .value) w (p .1), ltb-true (s .value) none (sym (ap (λ (q : Stage). supplies-for-value q s) e) ∙ z))) h
         (all-two V-facts (λ s. has-value w s ≡ false) h v-facts (none-some (has-value w) h y))) s in
-        let g : first-of-round n (k .stage) v ≡ proposals n r (Only v) Any = ap (λ (x : Stage). first-of-round n x v) e in
-        rw g at (rw (s, l) at (F .first))
+        let g : value-group n (k .stage) v ≡ proposals n r (Only v) Any = ap (λ (x : Stage). value-group n x v) e in
+        rw g at (rw (s, l) at (F .for-value))
 
     none-hold : some-value 0 h ≡ false → some-value 1 h ≡ false → Holds (none-votes n r) h
     none-hold x y =
@@ -440,7 +440,7 @@ module _ (n : ℕ) (k : State) (F : Full n k) where
     P-ready coin v =
         Ready n (k .question)
         (pick (ltb v none)
-        (record { kind = kind-P; value = v; flag = D-GET; round = r + 1; first = k .first; second = []; stage = Proposing (record { 0 = r + 1 }) D-GET })
+        (record { kind = kind-P; value = v; flag = D-GET; round = r + 1; first = k .for-value; second = []; stage = Proposing (record { 0 = r + 1 }) D-GET })
         (record { kind = kind-P; value = coin; flag = R-GET; round = r + 1; first = h; second = []; stage = Proposing (record { 0 = r + 1 }) R-GET }))
 
     carried-ready : (coin v w : ℕ) → v < none → w < none → (v ≡ w → ⊥) → some-value v h ≡ true → some (has-value w) h ≡ false → P-ready coin v
@@ -457,8 +457,8 @@ module _ (n : ℕ) (k : State) (F : Full n k) where
           alike = K .alike;
           more-proper = tt;
           more-alike = tt;
-          first = λ s a b c. rw back (K .as-asked);
-          second = λ s a b c. let z : s .flag ≡ R-GET = eqb-true _ _ (both (ltb 1 (r + 1)) _ c .1) in absurd (omega arith);
+          for-value = λ s a b c. rw back (K .as-asked);
+          for-none = λ s a b c. let z : s .flag ≡ R-GET = eqb-true _ _ (both (ltb 1 (r + 1)) _ c .1) in absurd (omega arith);
         })
 
     tossed-ready : (coin : ℕ) → coin < 2 → some-value 0 h ≡ false → some-value 1 h ≡ false → P-ready coin none
@@ -474,8 +474,8 @@ module _ (n : ℕ) (k : State) (F : Full n k) where
           alike = all-map (λ s p. p .0) h (F .alike);
           more-proper = tt;
           more-alike = tt;
-          first = λ s a b c. let z : s .flag ≡ D-GET = eqb-true _ _ (both (ltb 1 (r + 1)) _ c .1) in absurd (omega arith);
-          second = λ s a b c. rw back (none-hold x y);
+          for-value = λ s a b c. let z : s .flag ≡ D-GET = eqb-true _ _ (both (ltb 1 (r + 1)) _ c .1) in absurd (omega arith);
+          for-none = λ s a b c. rw back (none-hold x y);
         }
 
     pub proposals-ready : (coin : ℕ) → coin < 2 → Ready n (k .question) (after-votes r k coin)
@@ -486,7 +486,7 @@ module _ (n : ℕ) (k : State) (F : Full n k) where
     abbrev P-backed : ℕ → ℕ → Type 0
     P-backed coin v =
         (s : Statement) → s .kind ≡ kind-P → s .value ≡ pick (ltb v none) v coin → s .flag ≡ pick (ltb v none) D-GET R-GET → s .round ≡ r + 1
-        → Backed n s (pick (ltb v none) (k .first) h ++ [])
+        → Backed n s (pick (ltb v none) (k .for-value) h ++ [])
 
     pub proposals-backed : (coin : ℕ) → P-backed coin (carried h)
     unfolding pick
@@ -499,7 +499,7 @@ module _ (n : ℕ) (k : State) (F : Full n k) where
             let b' : s .value ≡ v = rw l at b in
             let c' : s .flag ≡ D-GET = rw l at c in
             let d' : s .round - 1 ≡ r = omega arith in
-            rw l (subst (λ (z : List Statement). Backed n s z) (sym (append-nil (k .first))) (rule-3 a (omega (arith, from-1)) c' (rw (d', b') (kept-value v w lv lw ne x y .as-asked))))
+            rw l (subst (λ (z : List Statement). Backed n s z) (sym (append-nil (k .for-value))) (rule-3 a (omega (arith, from-1)) c' (rw (d', b') (kept-value v w lv lw ne x y .as-asked))))
 
         four : some-value 0 h ≡ false → some-value 1 h ≡ false → P-backed coin none
         four x y s a b c d =

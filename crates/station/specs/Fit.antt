@@ -20,7 +20,7 @@ use Rattle.station.specs.declared.Stage.{Stage}
 use Rattle.station.specs.declared.Stage.the-variants.{Gathering, Proposing, Voting}
 use Rattle.station.specs.declared.Station.{Station}
 use Rattle.station.specs.Machine.{stage-step}
-use Rattle.station.specs.Words.{sites, held-by, kept-first, kept-second}
+use Rattle.station.specs.Words.{sites, held-by, kept-for-value, kept-for-none}
 
 -- k words from a place on, all zero
 unfoldable pub zeros : List ℕ → ℕ → ℕ → Bool
@@ -68,10 +68,10 @@ abbrev pub rest-fits : ℕ → ℕ → Station → Bool
 rest-fits n number t =
     stage-fits (t .stage) (getD (t .held .slots) ((number - 1) * 10) 0)
     && leb (t .decision) none
-    && group-fits n (t .identity .question) (kept-first n (t .stage) (held-by t)) (t .groups .first)
-    && group-fits n (t .identity .question) (kept-second n (t .stage) (held-by t)) (t .groups .second)
+    && group-fits n (t .identity .question) (kept-for-value n (t .stage) (held-by t)) (t .groups .value)
+    && group-fits n (t .identity .question) (kept-for-none n (t .stage) (held-by t)) (t .groups .none)
 
 -- "a station whose n or number isn't the given module's, or whose stage, set and held statements don't fit one another"
 unfoldable pub fits : ℕ → ℕ → Station → Bool
 fits n number t =
-    eqb (t .identity .n) n && eqb (t .identity .number) number && (t .closed || (held-fits n number t && rest-fits n number t))
+    eqb (t .identity .n) n && eqb (t .identity .station) number && (t .closed || (held-fits n number t && rest-fits n number t))

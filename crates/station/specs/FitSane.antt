@@ -28,8 +28,8 @@ use Rattle.certificate.specs.Exact.{every-out}
 use Rattle.station.specs.declared.Stage.{Stage}
 use Rattle.station.specs.declared.Stage.the-variants.{Gathering, Proposing, Voting}
 use Rattle.station.specs.declared.Station.{Station}
-use Rattle.station.specs.Machine.{stage-step, held-of, supplies-first, supplies-second, round-in}
-use Rattle.station.specs.Words.{held-in, sites, kept-first, kept-second, first-of-round, leading, no-group, held-by, state-of, Lengths}
+use Rattle.station.specs.Machine.{stage-step, held-of, supplies-for-value, supplies-for-none, round-in}
+use Rattle.station.specs.Words.{held-in, sites, kept-for-value, kept-for-none, value-group, leading, no-group, held-by, state-of, Lengths}
 use Rattle.station.specs.Fit.{zeros, slot-fits, slots-fit, stage-fits, group-fits, held-fits, rest-fits, fits}
 use Rattle.format.specs.ReadBack.{Proper}
 use Rattle.station.specs.Slots.{all-two}
@@ -139,19 +139,19 @@ kept-out n question g ws long few h =
       alike = all-map (λ s e. eqb-true _ _ e) c (every-out (λ s. eqb (s .question) question) c (b .1));
     }
 
-pub first-size : (n : ℕ) (g : Stage) (h : List Statement) → n ≤ 31 → kept-first n g h .size ≤ 16
-unfolding kept-first pick
-first-size n g h top = go (some (supplies-first g) h) g (leading (supplies-first g) h)
+pub for-value-size : (n : ℕ) (g : Stage) (h : List Statement) → n ≤ 31 → kept-for-value n g h .size ≤ 16
+unfolding kept-for-value pick
+for-value-size n g h top = go (some (supplies-for-value g) h) g (leading (supplies-for-value g) h)
   where
-    go : (b : Bool) (g : Stage) (v : ℕ) → pick b (first-of-round n g v) no-group .size ≤ 16
+    go : (b : Bool) (g : Stage) (v : ℕ) → pick b (value-group n g v) no-group .size ≤ 16
     go false g v = omega arith
     go true Gathering v = omega arith
     go true (Proposing r f) v = omega arith
     go true (Voting r) v = omega arith
 
-pub second-size : (n : ℕ) (g : Stage) (h : List Statement) → n ≤ 31 → kept-second n g h .size ≤ 16
-unfolding kept-second pick
-second-size n g h top = go (some (supplies-second g) h)
+pub for-none-size : (n : ℕ) (g : Stage) (h : List Statement) → n ≤ 31 → kept-for-none n g h .size ≤ 16
+unfolding kept-for-none pick
+for-none-size n g h top = go (some (supplies-for-none g) h)
   where
     go : (b : Bool) → pick b (none-votes n (round-in g - 1)) no-group .size ≤ 16
     go false = omega arith
@@ -170,14 +170,14 @@ module _ (n number : ℕ) (t : Station) (top : n ≤ 31) (lo : 1 ≤ number) (hi
   pub fits-sane : fits n number t ≡ true → t .closed ≡ false → Sane n number (state-of t)
   unfolding fits state-of
   fits-sane h shut =
-      let a = both (eqb (t .identity .n) n && eqb (t .identity .number) number) _ h in
+      let a = both (eqb (t .identity .n) n && eqb (t .identity .station) number) _ h in
       let same : t .identity .n ≡ n = eqb-true _ _ (both (eqb (t .identity .n) n) _ (a .0) .0) in
       let b = both (held-fits n number t) (rest-fits n number t) (rw shut at (a .1)) in
       let c = both (ltb (t .held .heard) (2 ^ sites) && ltb (ones (t .held .heard)) (quorum n) && bit (t .held .heard) (number - 1)) _ (b .0) in
       let d = both (ltb (t .held .heard) (2 ^ sites) && ltb (ones (t .held .heard)) (quorum n)) _ (c .0) in
       let e = both (ltb (t .held .heard) (2 ^ sites)) _ (d .0) in
       let u = both (stage-fits (t .stage) (getD (t .held .slots) ((number - 1) * 10) 0) && leb (t .decision) none
-      && group-fits n (t .identity .question) (kept-first n (t .stage) (held-by t)) (t .groups .first)) _ (b .1) in
+      && group-fits n (t .identity .question) (kept-for-value n (t .stage) (held-by t)) (t .groups .value)) _ (b .1) in
       let v = both (stage-fits (t .stage) (getD (t .held .slots) ((number - 1) * 10) 0) && leb (t .decision) none) _ (u .0) in
       let w = both (stage-fits (t .stage) (getD (t .held .slots) ((number - 1) * 10) 0)) _ (v .0) in
       let room : (0 + sites) * 10 ≤ length (t .held .slots) = omega (arith, L .slots) in
@@ -189,10 +189,10 @@ module _ (n number : ℕ) (t : Station) (top : n ≤ 31) (lo : 1 ≤ number) (hi
       let mine : held-of number (held-by t) ≡ true
       = ap (λ (k : ℕ). held-of k (held-by t)) (omega arith)
       ∙ bit-held n (t .identity .question) (stage-step (t .stage)) (t .held .heard) (t .held .slots) sites 0 (number - 1) room (c .1) (omega arith) (omega arith) (d .1) in
-      let one : Kept n (t .identity .question) (kept-first n (t .stage) (held-by t)) (statements (t .groups .first) 0 (kept-first n (t .stage) (held-by t) .size))
-      = kept-out n (t .identity .question) (kept-first n (t .stage) (held-by t)) (t .groups .first) (L .first) (first-size n (t .stage) (held-by t) top) (v .1) in
-      let two : Kept n (t .identity .question) (kept-second n (t .stage) (held-by t)) (statements (t .groups .second) 0 (kept-second n (t .stage) (held-by t) .size))
-      = kept-out n (t .identity .question) (kept-second n (t .stage) (held-by t)) (t .groups .second) (L .second) (second-size n (t .stage) (held-by t) top) (u .1) in
+      let one : Kept n (t .identity .question) (kept-for-value n (t .stage) (held-by t)) (statements (t .groups .value) 0 (kept-for-value n (t .stage) (held-by t) .size))
+      = kept-out n (t .identity .question) (kept-for-value n (t .stage) (held-by t)) (t .groups .value) (L .for-value) (for-value-size n (t .stage) (held-by t) top) (v .1) in
+      let two : Kept n (t .identity .question) (kept-for-none n (t .stage) (held-by t)) (statements (t .groups .none) 0 (kept-for-none n (t .stage) (held-by t) .size))
+      = kept-out n (t .identity .question) (kept-for-none n (t .stage) (held-by t)) (t .groups .none) (L .for-none) (for-none-size n (t .stage) (held-by t) top) (u .1) in
       record {
         still-open = shut;
         rising = R .rising;
@@ -203,8 +203,8 @@ module _ (n number : ℕ) (t : Station) (top : n ≤ 31) (lo : 1 ≤ number) (hi
         rounds = F .0;
         flag = all-map (λ s p e. F .1 s (own s p e)) (held-by t) (R .placed);
         decision = leb-true _ _ (w .1);
-        first = rw same one;
-        second = rw same two;
+        for-value = rw same one;
+        for-none = rw same two;
       }
     where
       own : (s : Statement) → s ≡ statement (t .held .slots) ((s .station - 1) * 10) → s .station ≡ number → s .flag ≡ flag-of (getD (t .held .slots) ((number - 1) * 10) 0)

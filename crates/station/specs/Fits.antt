@@ -22,9 +22,9 @@ use Rattle.sealed.specs.Sealed.{last-for}
 use Rattle.station.specs.declared.Stage.{Stage}
 use Rattle.station.specs.declared.Stage.the-variants.{Gathering, Proposing, Voting}
 use Rattle.station.specs.declared.Station.{Station}
-use Rattle.station.specs.Machine.{State, Outcome, own, began, shut, round-in, stage-step, supplies-first, supplies-second, closes, decision-at, decided, vote-value, follows, after-votes, carried, has-value}
+use Rattle.station.specs.Machine.{State, Outcome, own, began, shut, round-in, stage-step, supplies-for-value, supplies-for-none, closes, decision-at, decided, vote-value, follows, after-votes, carried, has-value}
 use Rattle.station.specs.Words as W
-use Rattle.station.specs.Words.{kept-first, kept-second, first-of-round, leading, no-group, state-of, Lengths}
+use Rattle.station.specs.Words.{kept-for-value, kept-for-none, value-group, leading, no-group, state-of, Lengths}
 use Rattle.station.specs.Fit.{fits}
 use Rattle.station.specs.Calls.{returned, opening, giving, opening-outcome, giving-outcome, no-station}
 use Rattle.format.specs.ReadBack.{Proper}
@@ -38,24 +38,24 @@ use Rattle.station.specs.Returns.{unrefused}
 module _ (n number question d : ℕ) (g : Stage) (s : Statement) (c : List Statement) (big : 2 ≤ n) (p : Proper n s) (mine : s .station ≡ number)
     (low : 1 ≤ s .station) (asked : s .question ≡ question) (steps : step s ≡ stage-step g) (r : InRounds g) (f : FlagOf g s) (e : d ≤ none)
     (cp : All (Proper n) c) (ca : All (λ s. s .question ≡ question) c)
-    (one : supplies-first g s ≡ true → Holds (first-of-round n g (s .value)) c)
-    (two : supplies-second g s ≡ true → Holds (none-votes n (round-in g - 1)) c) where
+    (one : supplies-for-value g s ≡ true → Holds (value-group n g (s .value)) c)
+    (two : supplies-for-none g s ≡ true → Holds (none-votes n (round-in g - 1)) c) where
   nothing : Kept n question no-group []
   nothing = record { as-asked = record { size = refl; rising = tt; each = tt }; proper = tt; alike = tt }
 
-  first-kept : Kept n question (kept-first n g (s ∷ [])) (pick (supplies-first g s) c [])
-  unfolding kept-first some leading pick
-  first-kept = go (supplies-first g s) refl
+  for-value-kept : Kept n question (kept-for-value n g (s ∷ [])) (pick (supplies-for-value g s) c [])
+  unfolding kept-for-value some leading pick
+  for-value-kept = go (supplies-for-value g s) refl
     where
-      go : (b : Bool) → supplies-first g s ≡ b → Kept n question (pick (b || false) (first-of-round n g (pick b (s .value) 2)) no-group) (pick b c [])
+      go : (b : Bool) → supplies-for-value g s ≡ b → Kept n question (pick (b || false) (value-group n g (pick b (s .value) 2)) no-group) (pick b c [])
       go true x = record { as-asked = one x; proper = cp; alike = ca }
       go false x = nothing
 
-  second-kept : Kept n question (kept-second n g (s ∷ [])) (pick (supplies-second g s) c [])
-  unfolding kept-second some pick
-  second-kept = go (supplies-second g s) refl
+  for-none-kept : Kept n question (kept-for-none n g (s ∷ [])) (pick (supplies-for-none g s) c [])
+  unfolding kept-for-none some pick
+  for-none-kept = go (supplies-for-none g s) refl
     where
-      go : (b : Bool) → supplies-second g s ≡ b → Kept n question (pick (b || false) (none-votes n (round-in g - 1)) no-group) (pick b c [])
+      go : (b : Bool) → supplies-for-none g s ≡ b → Kept n question (pick (b || false) (none-votes n (round-in g - 1)) no-group) (pick b c [])
       go true x = record { as-asked = two x; proper = cp; alike = ca }
       go false x = nothing
 
@@ -72,8 +72,8 @@ module _ (n number question d : ℕ) (g : Stage) (s : Statement) (c : List State
         rounds = r;
         flag = ((λ z. f), tt);
         decision = e;
-        first = first-kept;
-        second = second-kept;
+        for-value = for-value-kept;
+        for-none = for-none-kept;
       }
 
 -- ---- decisions are 0, 1 or none
@@ -135,18 +135,18 @@ module _ (n : ℕ) (k : State) (F : Full n k) (coin : ℕ) (bit : coin < 2) wher
 module _ (mac : List ℕ → List ℕ → List ℕ) (eight : (key ws : List ℕ) → length (mac key ws) ≡ 8) where
   -- a statement of the module's own station is proper
   pub own-proper : (m : Module) (question kind value flag round : ℕ) → InRange m
-      → Shape (own (mac (m .key)) (m .number) question kind value flag round) → Proper (m .n) (own (mac (m .key)) (m .number) question kind value flag round)
+      → Shape (own (mac (m .key)) (m .station) question kind value flag round) → Proper (m .n) (own (mac (m .key)) (m .station) question kind value flag round)
   own-proper m question kind value flag round r s =
       record {
-        formed = formed-in (m .n) (own (mac (m .key)) (m .number) question kind value flag round) (record { low = r .low; high = r .high; shape = s });
+        formed = formed-in (m .n) (own (mac (m .key)) (m .station) question kind value flag round) (record { low = r .low; high = r .high; shape = s });
         eight = eight (m .key) _;
       }
 
   pub init-sane : (m : Module) (question proposal : ℕ) → InRange m → proposal < 2
-      → Sane (m .n) (m .number) (began question Gathering none (init-statement mac m question proposal []) [])
+      → Sane (m .n) (m .station) (began question Gathering none (init-statement mac m question proposal []) [])
   unfolding step
   init-sane m question p r v =
-      began-sane (m .n) (m .number) question none Gathering (init-statement mac m question p []) [] (r .at-least-2)
+      began-sane (m .n) (m .station) question none Gathering (init-statement mac m question p []) [] (r .at-least-2)
       (own-proper m question kind-INIT p D-GET 0 r (init refl refl v refl)) refl (r .low) refl refl tt tt (omega arith) tt tt
       (λ e. never false refl e) (λ e. never false refl e)
 
@@ -174,45 +174,45 @@ module _ (mac : List ℕ → List ℕ → List ℕ) (eight : (key ws : List ℕ)
         (next-ready size c .shape (sent-statement mac m t ws coin out) refl refl refl refl)
 
     pub sent-sane : length (k .held) ≡ quorum (m .n) → closes (t .stage) ≡ false
-        → Sane (m .n) (m .number) (began (t .identity .question) (follows (m .n) (t .stage) k coin .stage) (decision-then mac m t ws coin out)
+        → Sane (m .n) (m .station) (began (t .identity .question) (follows (m .n) (t .stage) k coin .stage) (decision-then mac m t ws coin out)
         (sent-statement mac m t ws coin out) (follows (m .n) (t .stage) k coin .first))
     unfolding step
     sent-sane size c =
         let x = follows (m .n) (t .stage) k coin in
         let R = next-ready size c in
-        began-sane (m .n) (m .number) (t .identity .question) (decision-then mac m t ws coin out) (x .stage) (sent-statement mac m t ws coin out) (x .first)
+        began-sane (m .n) (m .station) (t .identity .question) (decision-then mac m t ws coin out) (x .stage) (sent-statement mac m t ws coin out) (x .first)
         (A .range .at-least-2) (sent-proper size c) refl (A .range .low) refl (λ i. step-of (R .kind i) (R .round i)) (R .rounds) (R .flag (sent-statement mac m t ws coin out) refl)
-        (decision-low (t .stage) (t .decision) (k .held) (decision-before (m .n) (m .number) t (sane-before mac m t ws coin out L A))) (R .proper) (R .alike)
-        (R .first (sent-statement mac m t ws coin out) refl refl) (R .second (sent-statement mac m t ws coin out) refl refl)
+        (decision-low (t .stage) (t .decision) (k .held) (decision-before (m .n) (m .station) t (sane-before mac m t ws coin out L A))) (R .proper) (R .alike)
+        (R .for-value (sent-statement mac m t ws coin out) refl refl) (R .for-none (sent-statement mac m t ws coin out) refl refl)
 
-    pub kept-sane : length (k .held) < quorum (m .n) → Sane (m .n) (m .number) k
-    kept-sane few = keep-sane (m .n) (m .number) (state-of t) (main-of ws) (certificate-of ws) (sane-before mac m t ws coin out L A) (A .fitting) (A .new) few
+    pub kept-sane : length (k .held) < quorum (m .n) → Sane (m .n) (m .station) k
+    kept-sane few = keep-sane (m .n) (m .station) (state-of t) (main-of ws) (certificate-of ws) (sane-before mac m t ws coin out L A) (A .fitting) (A .new) few
 
   -- each station that is returned is one of these three
-  shut-fits : (n number : ℕ) (t : State) → t .closed ≡ true → fits n number (W.station-of n number t) ≡ true
-  unfolding fits W.station-of
+  shut-fits : (n number : ℕ) (t : State) → t .closed ≡ true → fits n number (W.as-station n number t) ≡ true
+  unfolding fits W.as-station
   shut-fits n number t e = join (eqb n n && eqb number number) _ (join (eqb n n) _ (eq-eqb n n refl) (eq-eqb number number refl)) (rw e)
 
   pub giving-fits : (m : Module) (t : Station) (ws : List ℕ) (coin : ℕ) (out : List ℕ) → Lengths t
-      → unrefused (giving mac m t ws coin out .number) ≡ true → fits (m .n) (m .number) (giving mac m t ws coin out .station) ≡ true
+      → unrefused (giving mac m t ws coin out .number) ≡ true → fits (m .n) (m .station) (giving mac m t ws coin out .station) ≡ true
   unfolding giving returned
   giving-fits m t ws coin out L = go (giving-outcome mac m t ws coin out) (gives-view mac m t ws coin out L)
     where
-      go : (o : Outcome) → Gives mac m t ws coin out o → unrefused (returned m t out o .number) ≡ true → fits (m .n) (m .number) (returned m t out o .station) ≡ true
+      go : (o : Outcome) → Gives mac m t ws coin out o → unrefused (returned m t out o .number) ≡ true → fits (m .n) (m .station) (returned m t out o .station) ≡ true
       go _ (refuses e) u = never _ e u
       go _ (holds-on A few) u =
-          sane-fits (m .n) (m .number) (after mac m t ws coin out) (A .range .at-most-31) (A .range .low) (A .range .high) (kept-sane m t ws coin out L A few)
+          sane-fits (m .n) (m .station) (after mac m t ws coin out) (A .range .at-most-31) (A .range .low) (A .range .high) (kept-sane m t ws coin out L A few)
       go _ (shuts A size c) u =
-          shut-fits (m .n) (m .number) (shut (mac (m .key)) (m .n) (m .number) (last-for m (t .identity .question)) (after mac m t ws coin out) (decision-then mac m t ws coin out)) refl
-      go _ (goes-on A size c above k) u = sane-fits (m .n) (m .number) _ (A .range .at-most-31) (A .range .low) (A .range .high) (sent-sane m t ws coin out L A size c)
+          shut-fits (m .n) (m .station) (shut (mac (m .key)) (m .n) (m .station) (last-for m (t .identity .question)) (after mac m t ws coin out) (decision-then mac m t ws coin out)) refl
+      go _ (goes-on A size c above k) u = sane-fits (m .n) (m .station) _ (A .range .at-most-31) (A .range .low) (A .range .high) (sent-sane m t ws coin out L A size c)
 
   pub opening-fits : (m : Module) (question v : ℕ) (out : List ℕ) → unrefused (opening mac m question v out .number) ≡ true
-      → fits (m .n) (m .number) (opening mac m question v out .station) ≡ true
+      → fits (m .n) (m .station) (opening mac m question v out .station) ≡ true
   unfolding opening returned
   opening-fits m question v out = go (opening-outcome mac m question v out) (opens-view mac m question v out)
     where
       go : (o : Outcome) → Opens mac m question v out o → unrefused (returned m no-station out o .number) ≡ true
-          → fits (m .n) (m .number) (returned m no-station out o .station) ≡ true
+          → fits (m .n) (m .station) (returned m no-station out o .station) ≡ true
       go _ (no-opening e) u = never _ e u
       go _ (begins room r p a) u =
-          sane-fits (m .n) (m .number) (began question Gathering none (init-statement mac m question v out) []) (r .at-most-31) (r .low) (r .high) (init-sane m question v r p)
+          sane-fits (m .n) (m .station) (began question Gathering none (init-statement mac m question v out) []) (r .at-most-31) (r .low) (r .high) (init-sane m question v r p)

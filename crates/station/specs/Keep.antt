@@ -21,8 +21,8 @@ use Rattle.rules.specs.declared.Which.the-variants.{Any, Only}
 use Rattle.rules.specs.Rules.{Rising, Holds, some, proposals, none-votes, Backed, rule-1, rule-2, rule-3, rule-4, rule-5, rule-6, rule-7}
 use Rattle.station.specs.declared.Stage.{Stage}
 use Rattle.station.specs.declared.Stage.the-variants.{Gathering, Proposing, Voting}
-use Rattle.station.specs.Machine.{State, kind-in, round-in, stage-step, held-of, supplies-first, supplies-second, takes, insert, keeping}
-use Rattle.station.specs.Words.{kept-first, kept-second, first-of-round, leading, no-group}
+use Rattle.station.specs.Machine.{State, kind-in, round-in, stage-step, held-of, supplies-for-value, supplies-for-none, takes, insert, keeping}
+use Rattle.station.specs.Words.{kept-for-value, kept-for-none, value-group, leading, no-group}
 use Rattle.format.specs.ReadBack.{Proper}
 use Rattle.station.specs.Insert.{insert-all, insert-rising, some-insert, leading-new, leading-other, leading-old, lower-some}
 use Rattle.station.specs.Sane.{Kept, InRounds, FlagOf, Sane}
@@ -104,20 +104,20 @@ module _ (n question : ℕ) (g : Stage) (m : Statement) (c : List Statement) (F 
   is-so : (m .kind ≡ kind-in g) × (m .round ≡ round-in g)
   is-so = same-step m g (formed-out n m (F .proper .formed) .shape) i (F .in-step)
 
-  taken-first : supplies-first g m ≡ true → Holds (first-of-round n g (m .value)) (take (quorum n) c)
-  taken-first e = go g e is-so
+  taken-for-value : supplies-for-value g m ≡ true → Holds (value-group n g (m .value)) (take (quorum n) c)
+  taken-for-value e = go g e is-so
     where
-      go : (g : Stage) → supplies-first g m ≡ true → (m .kind ≡ kind-in g) × (m .round ≡ round-in g) → Holds (first-of-round n g (m .value)) (take (quorum n) c)
+      go : (g : Stage) → supplies-for-value g m ≡ true → (m .kind ≡ kind-in g) × (m .round ≡ round-in g) → Holds (value-group n g (m .value)) (take (quorum n) c)
       go Gathering e k = never false refl e
       go (Proposing p x) e k =
           let a = both (ltb 1 (p .0)) _ e in
           rw (← k .1) (proposal-group n m c (k .0) (omega (arith, k .1, ltb-true 1 (p .0) (a .0))) (eqb-true _ _ (a .1)) (F .backed))
       go (Voting p) e k = rw (← k .1) (vote-group n m c (k .0) (ltb-true _ _ e) (F .backed))
 
-  taken-second : supplies-second g m ≡ true → Holds (none-votes n (round-in g - 1)) (take (quorum n) c)
-  taken-second e = go g e is-so
+  taken-for-none : supplies-for-none g m ≡ true → Holds (none-votes n (round-in g - 1)) (take (quorum n) c)
+  taken-for-none e = go g e is-so
     where
-      go : (g : Stage) → supplies-second g m ≡ true → (m .kind ≡ kind-in g) × (m .round ≡ round-in g) → Holds (none-votes n (round-in g - 1)) (take (quorum n) c)
+      go : (g : Stage) → supplies-for-none g m ≡ true → (m .kind ≡ kind-in g) × (m .round ≡ round-in g) → Holds (none-votes n (round-in g - 1)) (take (quorum n) c)
       go Gathering e k = never false refl e
       go (Proposing p x) e k =
           let a = both (ltb 1 (p .0)) _ e in
@@ -151,17 +151,17 @@ module _ (n number : ℕ) (t : State) (m : Statement) (c : List Statement) (S : 
   supplied : (g : Group) → Holds g (take (quorum n) c) → Kept n (t .question) g (take (quorum n) c)
   supplied g h = record { as-asked = h; proper = all-take (Proper n) (quorum n) c (F .certificate); alike = all-take (λ s. s .question ≡ t .question) (quorum n) c (F .alike) }
 
-  pub kept-first-on : Kept n (t .question) (kept-first n (t .stage) (insert m (t .held))) (keeping n t m c .first)
-  unfolding kept-first
-  kept-first-on =
-      offered n (t .question) (supplies-first (t .stage)) (first-of-round n (t .stage)) (t .held) (S .rising) m (take (quorum n) c) (t .first) new (S .first)
-      (λ e. supplied (first-of-round n (t .stage) (m .value)) (taken-first n (t .question) (t .stage) m c F (S .rounds) e))
+  pub kept-for-value-on : Kept n (t .question) (kept-for-value n (t .stage) (insert m (t .held))) (keeping n t m c .for-value)
+  unfolding kept-for-value
+  kept-for-value-on =
+      offered n (t .question) (supplies-for-value (t .stage)) (value-group n (t .stage)) (t .held) (S .rising) m (take (quorum n) c) (t .for-value) new (S .for-value)
+      (λ e. supplied (value-group n (t .stage) (m .value)) (taken-for-value n (t .question) (t .stage) m c F (S .rounds) e))
 
-  pub kept-second-on : Kept n (t .question) (kept-second n (t .stage) (insert m (t .held))) (keeping n t m c .second)
-  unfolding kept-second
-  kept-second-on =
-      offered n (t .question) (supplies-second (t .stage)) (λ v. none-votes n (round-in (t .stage) - 1)) (t .held) (S .rising) m (take (quorum n) c) (t .second) new (S .second)
-      (λ e. supplied (none-votes n (round-in (t .stage) - 1)) (taken-second n (t .question) (t .stage) m c F (S .rounds) e))
+  pub kept-for-none-on : Kept n (t .question) (kept-for-none n (t .stage) (insert m (t .held))) (keeping n t m c .for-none)
+  unfolding kept-for-none
+  kept-for-none-on =
+      offered n (t .question) (supplies-for-none (t .stage)) (λ v. none-votes n (round-in (t .stage) - 1)) (t .held) (S .rising) m (take (quorum n) c) (t .for-none) new (S .for-none)
+      (λ e. supplied (none-votes n (round-in (t .stage) - 1)) (taken-for-none n (t .question) (t .stage) m c F (S .rounds) e))
 
   -- all but the number of statements held
   pub record Grown : Type 0 where
@@ -201,6 +201,6 @@ module _ (n number : ℕ) (t : State) (m : Statement) (c : List Statement) (S : 
         rounds = S .rounds;
         flag = grown .flag;
         decision = S .decision;
-        first = kept-first-on;
-        second = kept-second-on;
+        for-value = kept-for-value-on;
+        for-none = kept-for-none-on;
       }

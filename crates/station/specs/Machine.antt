@@ -45,22 +45,22 @@ pub record State : Type 0 where
   pub closed : Bool
   pub decision : ℕ
   pub held : List Statement
-  pub first : List Statement
-  pub second : List Statement
+  pub for-value : List Statement
+  pub for-none : List Statement
 
 -- ---- which held bundle can supply which group
--- the first kept group: a D-GET proposal's certificate, which a vote for its value needs behind the proposals; a vote's own first group, which
+-- the group kept for a value: a D-GET proposal's certificate, which a vote for its value needs behind the proposals; a vote's own first group, which
 -- the next round's D-GET proposal needs
-abbrev pub supplies-first : Stage → Statement → Bool
-supplies-first Gathering s = false
-supplies-first (Proposing r f) s = ltb 1 (r .0) && eqb (s .flag) D-GET
-supplies-first (Voting r) s = ltb (s .value) none
+abbrev pub supplies-for-value : Stage → Statement → Bool
+supplies-for-value Gathering s = false
+supplies-for-value (Proposing r f) s = ltb 1 (r .0) && eqb (s .flag) D-GET
+supplies-for-value (Voting r) s = ltb (s .value) none
 
--- the second kept group: an R-GET proposal's certificate, which a none vote needs behind the proposals
-abbrev pub supplies-second : Stage → Statement → Bool
-supplies-second Gathering s = false
-supplies-second (Proposing r f) s = ltb 1 (r .0) && eqb (s .flag) R-GET
-supplies-second (Voting r) s = false
+-- the group kept for a none vote: an R-GET proposal's certificate, which a none vote needs behind the proposals
+abbrev pub supplies-for-none : Stage → Statement → Bool
+supplies-for-none Gathering s = false
+supplies-for-none (Proposing r f) s = ltb 1 (r .0) && eqb (s .flag) R-GET
+supplies-for-none (Voting r) s = false
 
 -- "the lowest-numbered station's is taken": a new bundle's, unless a lower-numbered station supplies it already
 abbrev pub takes : (Statement → Bool) → List Statement → Statement → Bool
@@ -80,8 +80,8 @@ keeping n t m c =
       closed = t .closed;
       decision = t .decision;
       held = insert m (t .held);
-      first = pick (takes (supplies-first (t .stage)) (t .held) m) (take (quorum n) c) (t .first);
-      second = pick (takes (supplies-second (t .stage)) (t .held) m) (take (quorum n) c) (t .second);
+      for-value = pick (takes (supplies-for-value (t .stage)) (t .held) m) (take (quorum n) c) (t .for-value);
+      for-none = pick (takes (supplies-for-none (t .stage)) (t .held) m) (take (quorum n) c) (t .for-none);
     }
 
 -- ---- the end of a step
@@ -139,14 +139,14 @@ after-inits n h =
 abbrev pub after-proposals : ℕ → State → Next
 after-proposals r t =
     next kind-V (vote-value (t .held)) D-GET r (t .held)
-    (pick (ltb 1 r) (pick (ltb (vote-value (t .held)) none) (pick (some-D-GET (t .held)) (t .first) []) (t .second)) [])
+    (pick (ltb 1 r) (pick (ltb (vote-value (t .held)) none) (pick (some-D-GET (t .held)) (t .for-value) []) (t .for-none)) [])
     (voting r)
 
 -- "At least one with 0 or 1: P of the next round with it, D-GET. All none: P flagged R-GET with the call's coin."
 abbrev pub after-votes : ℕ → State → ℕ → Next
 after-votes r t coin =
     pick (ltb (carried (t .held)) none)
-    (next kind-P (carried (t .held)) D-GET (r + 1) (t .first) [] (proposing (r + 1) D-GET))
+    (next kind-P (carried (t .held)) D-GET (r + 1) (t .for-value) [] (proposing (r + 1) D-GET))
     (next kind-P coin R-GET (r + 1) (t .held) [] (proposing (r + 1) R-GET))
 
 unfoldable pub follows : ℕ → Stage → State → ℕ → Next
@@ -186,8 +186,8 @@ began question g decision s c =
       closed = false;
       decision = decision;
       held = s ∷ [];
-      first = pick (supplies-first g s) c [];
-      second = pick (supplies-second g s) c [];
+      for-value = pick (supplies-for-value g s) c [];
+      for-none = pick (supplies-for-none g s) c [];
     }
 
 -- "only where a bundle would be written, 12"
@@ -209,7 +209,7 @@ module _ (code : List ℕ → List ℕ) (n number : ℕ) (last : Last) where
 
   abbrev pub shut : State → ℕ → State
   shut t d =
-      record { question = t .question; stage = t .stage; closed = true; decision = d; held = []; first = []; second = [] }
+      record { question = t .question; stage = t .stage; closed = true; decision = d; held = []; for-value = []; for-none = [] }
 
   unfoldable pub ended : State → ℕ → Outcome
   ended t coin =

@@ -85,7 +85,7 @@ pub data Row : Type 0 where
 
 -- station 1's module of 4, which has coded a step of question 1
 abbrev pub module-at : List ℕ → ℕ → Module
-module-at key last = record { key = key; n = 4; number = 1; last = pair 1 last }
+module-at key last = record { key = key; n = 4; station = 1; last = pair 1 last }
 
 abbrev pub Holds : (List ℕ → List ℕ → List ℕ) → List ℕ → Row → Type 0
 Holds mac key (counts n q a b) = (quorum n ≡ q) × ((backing n 0 ≡ a) × (backing n 1 ≡ b))

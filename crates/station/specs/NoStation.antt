@@ -30,13 +30,13 @@ pub refused-undecided : (mac : List ℕ → List ℕ → List ℕ) (m : Module) 
 refused-undecided mac m question v out e = ap (λ (r : Returned). r .station .decision) (opening-refused mac m question v out e) ∙ no-station-undecided
 
 -- it fits no module that is in range
-pub no-station-fits : (m : Module) → module-fits m ≡ true → fits (m .n) (m .number) no-station ≡ false
+pub no-station-fits : (m : Module) → module-fits m ≡ true → fits (m .n) (m .station) no-station ≡ false
 unfolding no-station fits
-no-station-fits m r = is-false (fits (m .n) (m .number) no-station) (λ h. omega (arith, eqb-true 0 (m .n) (both (eqb 0 (m .n)) _ (both (eqb 0 (m .n) && eqb 0 (m .number)) _ h .0) .0), in-range m r .at-least-2))
+no-station-fits m r = is-false (fits (m .n) (m .station) no-station) (λ h. omega (arith, eqb-true 0 (m .n) (both (eqb 0 (m .n)) _ (both (eqb 0 (m .n) && eqb 0 (m .station)) _ h .0) .0), in-range m r .at-least-2))
 
 -- every giving on it is answered 1 or 2
 module _ (mac : List ℕ → List ℕ → List ℕ) (m : Module) (ws : List ℕ) (coin : ℕ) (out : List ℕ) where
-  unfit : (module-fits m && ltb coin 2 && fits (m .n) (m .number) no-station) ≡ false
+  unfit : (module-fits m && ltb coin 2 && fits (m .n) (m .station) no-station) ≡ false
   unfit = is-false _ (λ h. let a = both (module-fits m && ltb coin 2) _ h in never _ (no-station-fits m (both (module-fits m) _ (a .0) .0)) (a .1))
 
   pub no-station-refused : (giving mac m no-station ws coin out .number ≡ short-output) ⊎ (giving mac m no-station ws coin out .number ≡ out-of-range)

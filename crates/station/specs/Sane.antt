@@ -29,7 +29,7 @@ use Rattle.station.specs.declared.Stage.{Stage}
 use Rattle.station.specs.declared.Stage.the-variants.{Gathering, Proposing, Voting}
 use Rattle.station.specs.Machine.{State, stage-step, held-of}
 use Rattle.station.specs.Words as W
-use Rattle.station.specs.Words.{set-of, slot-of, slots-of, all-written, group-words, sites, kept-first, kept-second, held-by, state-of}
+use Rattle.station.specs.Words.{set-of, slot-of, slots-of, all-written, group-words, sites, kept-for-value, kept-for-none, held-by, state-of}
 use Rattle.station.specs.Fit.{zeros, slot-fits, slots-fit, stage-fits, group-fits, fits}
 use Rattle.station.specs.ReadBack.{length-all, statements-back}
 use Rattle.format.specs.ReadBack.{Proper, formed-back, word-back, length-written}
@@ -61,8 +61,8 @@ pub record Sane (n number : ℕ) (t : State) : Type 0 where
   pub rounds : InRounds (t .stage)
   pub flag : All (λ s. s .station ≡ number → FlagOf (t .stage) s) (t .held)
   pub decision : t .decision ≤ none
-  pub first : Kept n (t .question) (kept-first n (t .stage) (t .held)) (t .first)
-  pub second : Kept n (t .question) (kept-second n (t .stage) (t .held)) (t .second)
+  pub for-value : Kept n (t .question) (kept-for-value n (t .stage) (t .held)) (t .for-value)
+  pub for-none : Kept n (t .question) (kept-for-none n (t .stage) (t .held)) (t .for-none)
 
 -- a statement of a list with its station
 pub record At (P : Statement → Type 0) (j : ℕ) : Type 0 where
@@ -212,8 +212,8 @@ group-ok n question g c top k =
 
 -- ---- the words of a sane state
 module _ (n number : ℕ) (t : State) (top : n ≤ 31) (lo : 1 ≤ number) (hi : number ≤ n) (S : Sane n number t) where
-  pub held-read : held-by (W.station-of n number t) ≡ t .held
-  unfolding W.station-of
+  pub held-read : held-by (W.as-station n number t) ≡ t .held
+  unfolding W.as-station
   held-read = held-back n (t .held) top (S .rising) (S .proper)
 
   stage-ok : stage-fits (t .stage) (getD (slots-of (t .held) 1 sites) ((number - 1) * 10) 0) ≡ true
@@ -246,8 +246,8 @@ module _ (n number : ℕ) (t : State) (top : n ≤ 31) (lo : 1 ≤ number) (hi :
       go : At P number → stage-fits (t .stage) (getD (slots-of (t .held) 1 sites) ((number - 1) * 10) 0) ≡ true
       go f = at-own (f .one) (f .of-station) (f .has)
 
-  pub sane-fits : fits n number (W.station-of n number t) ≡ true
-  unfolding fits W.station-of
+  pub sane-fits : fits n number (W.as-station n number t) ≡ true
+  unfolding fits W.as-station
   sane-fits =
       let h = t .held in
       let own-bit : bit (set-of h) (number - 1) ≡ true
@@ -255,8 +255,8 @@ module _ (n number : ℕ) (t : State) (top : n ≤ 31) (lo : 1 ≤ number) (hi :
       let small : set-of h < 2 ^ sites = set-low sites h (S .rising) (all-map (λ s p. omega (arith, formed-out n s (p .formed) .high)) h (S .proper)) in
       let count : ones (set-of h) < quorum n = omega (arith, ones-set h (S .rising), S .few) in
       let slots = slots-ok n (t .question) (stage-step (t .stage)) h top (S .rising) (S .proper) (S .alike) sites 0 (omega arith) in
-      let one = group-ok n (t .question) (kept-first n (t .stage) h) (t .first) top (S .first) in
-      let two = group-ok n (t .question) (kept-second n (t .stage) h) (t .second) top (S .second) in
+      let one = group-ok n (t .question) (kept-for-value n (t .stage) h) (t .for-value) top (S .for-value) in
+      let two = group-ok n (t .question) (kept-for-none n (t .stage) h) (t .for-none) top (S .for-none) in
       join (eqb n n && eqb number number) _ (join (eqb n n) _ (eq-eqb n n refl) (eq-eqb number number refl))
       (right (t .closed) _
       (join (ltb (set-of h) (2 ^ sites) && ltb (ones (set-of h)) (quorum n) && bit (set-of h) (number - 1)
@@ -265,16 +265,16 @@ module _ (n number : ℕ) (t : State) (top : n ≤ 31) (lo : 1 ≤ number) (hi :
       (join (ltb (set-of h) (2 ^ sites) && ltb (ones (set-of h)) (quorum n)) _ (join (ltb (set-of h) (2 ^ sites)) _ (lt-ltb _ _ small) (lt-ltb _ _ count)) own-bit) slots)
       (rw held-read
       (join (stage-fits (t .stage) (getD (slots-of h 1 sites) ((number - 1) * 10) 0) && leb (t .decision) none
-      && group-fits n (t .question) (kept-first n (t .stage) h) (group-words (t .first))) _
+      && group-fits n (t .question) (kept-for-value n (t .stage) h) (group-words (t .for-value))) _
       (join (stage-fits (t .stage) (getD (slots-of h 1 sites) ((number - 1) * 10) 0) && leb (t .decision) none) _
       (join (stage-fits (t .stage) (getD (slots-of h 1 sites) ((number - 1) * 10) 0)) _ stage-ok (le-leb _ _ (S .decision))) one) two))))
 
-  pub state-back : state-of (W.station-of n number t) ≡ t
-  unfolding state-of W.station-of
+  pub state-back : state-of (W.as-station n number t) ≡ t
+  unfolding state-of W.as-station
   state-back =
       let h = held-read in
-      let one : statements (group-words (t .first)) 0 (kept-first n (t .stage) (t .held) .size) ≡ t .first
-      = ap (statements (group-words (t .first)) 0) (sym (S .first .as-asked .size)) ∙ statements-back n (t .first) (replicate (160 - length (t .first) * 10) 0) top (S .first .proper) in
-      let two : statements (group-words (t .second)) 0 (kept-second n (t .stage) (t .held) .size) ≡ t .second
-      = ap (statements (group-words (t .second)) 0) (sym (S .second .as-asked .size)) ∙ statements-back n (t .second) (replicate (160 - length (t .second) * 10) 0) top (S .second .proper) in
-      rw h (λ i. record { question = t .question; stage = t .stage; closed = t .closed; decision = t .decision; held = t .held; first = one i; second = two i })
+      let one : statements (group-words (t .for-value)) 0 (kept-for-value n (t .stage) (t .held) .size) ≡ t .for-value
+      = ap (statements (group-words (t .for-value)) 0) (sym (S .for-value .as-asked .size)) ∙ statements-back n (t .for-value) (replicate (160 - length (t .for-value) * 10) 0) top (S .for-value .proper) in
+      let two : statements (group-words (t .for-none)) 0 (kept-for-none n (t .stage) (t .held) .size) ≡ t .for-none
+      = ap (statements (group-words (t .for-none)) 0) (sym (S .for-none .as-asked .size)) ∙ statements-back n (t .for-none) (replicate (160 - length (t .for-none) * 10) 0) top (S .for-none .proper) in
+      rw h (λ i. record { question = t .question; stage = t .stage; closed = t .closed; decision = t .decision; held = t .held; for-value = one i; for-none = two i })

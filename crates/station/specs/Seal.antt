@@ -36,7 +36,7 @@ use Rattle.station.specs.Written.{all-append}
 pub range-fits : (m : Module) → InRange m → module-fits m ≡ true
 range-fits m r =
     join (size-fits (m .n)) _ (join (leb 2 (m .n)) _ (le-leb _ _ (r .at-least-2)) (le-leb _ _ (r .at-most-31)))
-    (join (leb 1 (m .number)) _ (le-leb _ _ (r .low)) (le-leb _ _ (r .high)))
+    (join (leb 1 (m .station)) _ (le-leb _ _ (r .low)) (le-leb _ _ (r .high)))
 
 -- ---- a bundle written over the lent words
 module _ (n : ℕ) (s : Statement) (c : List Statement) (out : List ℕ) (p : Proper n s) where
@@ -66,7 +66,7 @@ module _ (n : ℕ) (s : Statement) (c : List Statement) (out : List ℕ) (p : Pr
       ap length (take-at (bundle-of s c) (drop (length (bundle-of s c)) out) (bundle-words (length c)) l) ∙ l
 
 module _ (mac : List ℕ → List ℕ → List ℕ) (m : Module) (r : InRange m) (s : Statement) (c : List Statement) (out : List ℕ) (p : Proper (m .n) s)
-    (own : s .station ≡ m .number) (code : s .code ≡ mac (m .key) (covered s)) (later : above (last-for m (s .question)) (s .question) (step s) ≡ true) where
+    (own : s .station ≡ m .station) (code : s .code ≡ mac (m .key) (covered s)) (later : above (last-for m (s .question)) (s .question) (step s) ≡ true) where
   -- what is coded with any eight words behind words 0 and 1
   coded-is : (x : List ℕ) → coded-as (mac (m .key)) m (with-code x s) ≡ record { number = 0; after = advanced m (s .question) (step s); lent = take 10 (drop 1 (over (bundle-of s c) out)) }
   unfolding step
@@ -105,7 +105,7 @@ toss-coin n (Proposing r f) k coin e = never false refl e
 toss-coin n (Voting r) k coin e = go (ltb (carried (k .held)) none) e
   where
     by-votes : Next
-    by-votes = next kind-P (carried (k .held)) D-GET (r .0 + 1) (k .first) [] (proposing (r .0 + 1) D-GET)
+    by-votes = next kind-P (carried (k .held)) D-GET (r .0 + 1) (k .for-value) [] (proposing (r .0 + 1) D-GET)
 
     by-coin : Next
     by-coin = next kind-P coin R-GET (r .0 + 1) (k .held) [] (proposing (r .0 + 1) R-GET)

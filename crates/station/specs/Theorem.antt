@@ -41,7 +41,7 @@ module _ (mac : List ℕ → List ℕ → List ℕ) (key : List ℕ) (n : ℕ) (
 
   -- valid words, given to any open and fitting station of the group on their question
   taken-everywhere : (number : ℕ) (m : Module) (t : Station) (coin : ℕ) (out : List ℕ) → OfGroup mac key n number m → module-fits m ≡ true
-      → fits (m .n) (m .number) t ≡ true → t .closed ≡ false → main-of ws .question ≡ t .identity .question → output-words ≤ length out → coin < 2
+      → fits (m .n) (m .station) t ≡ true → t .closed ≡ false → main-of ws .question ≡ t .identity .question → output-words ≤ length out → coin < 2
       → invalid (giving mac m t ws coin out .number) ≡ false
   unfolding giving returned pick
   taken-everywhere number m t coin out G fit fitting still same room bit = go (eqb (first-failed (give-tests mac m t ws coin out)) 0) refl
@@ -64,7 +64,7 @@ module _ (mac : List ℕ → List ℕ → List ℕ) (key : List ℕ) (n : ℕ) (
           ∙ passed-front (bundle-tests (mac (m .key)) (m .n) (Only (t .identity .question)) ws) (step-tests (state-of t) (main-of ws)) here
 
       go : (b : Bool) → eqb (first-failed (give-tests mac m t ws coin out)) 0 ≡ b
-          → invalid (returned m t out (pick b (taken (mac (m .key)) (m .n) (m .number) (last-for m (t .identity .question)) (state-of t) (main-of ws) (certificate-of ws) coin)
+          → invalid (returned m t out (pick b (taken (mac (m .key)) (m .n) (m .station) (last-for m (t .identity .question)) (state-of t) (main-of ws) (certificate-of ws) coin)
           (refused (first-failed (give-tests mac m t ws coin out)))) .number) ≡ false
       go true e = taken-number mac m t ws coin out (λ k. invalid k ≡ false) refl refl refl refl refl
       go false e =

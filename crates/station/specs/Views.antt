@@ -36,7 +36,7 @@ use Rattle.station.specs.Slots.{all-two}
 use Rattle.station.specs.Insert.{insert-length, conflict-insert}
 use Rattle.station.specs.Sane.{Sane}
 use Rattle.station.specs.FitSane.{fits-sane, eights}
-use Rattle.station.specs.Keep.{Fitting, kept-first-on, kept-second-on, grown}
+use Rattle.station.specs.Keep.{Fitting, kept-for-value-on, kept-for-none-on, grown}
 use Rattle.station.specs.End.{Full}
 
 -- a failed test's number is one of the table's
@@ -59,14 +59,14 @@ passed-front (t ∷ l) r a = rw (a .0) (passed-front l r (a .1))
 pub record InRange (m : Module) : Type 0 where
   pub at-least-2 : 2 ≤ m .n
   pub at-most-31 : m .n ≤ 31
-  pub low : 1 ≤ m .number
-  pub high : m .number ≤ m .n
+  pub low : 1 ≤ m .station
+  pub high : m .station ≤ m .n
 
 pub in-range : (m : Module) → module-fits m ≡ true → InRange m
 in-range m h =
     let a = both (size-fits (m .n)) _ h in
     let b = both (leb 2 (m .n)) _ (a .0) in
-    let c = both (leb 1 (m .number)) _ (a .1) in
+    let c = both (leb 1 (m .station)) _ (a .1) in
     record { at-least-2 = leb-true _ _ (b .0); at-most-31 = leb-true _ _ (b .1); low = leb-true _ _ (c .0); high = leb-true _ _ (c .1) }
 
 module _ (mac : List ℕ → List ℕ → List ℕ) where
@@ -77,7 +77,7 @@ module _ (mac : List ℕ → List ℕ → List ℕ) where
       pub room : output-words ≤ length out
       pub range : InRange m
       pub coin-bit : coin < 2
-      pub fit : fits (m .n) (m .number) t ≡ true
+      pub fit : fits (m .n) (m .station) t ≡ true
       pub still-open : t .closed ≡ false
       pub bundle : Bundle (m .n) ws
       pub codes : All (λ s. verifies (mac (m .key)) s ≡ true) (statements ws 1 (suc (count-in ws)))
@@ -95,13 +95,13 @@ module _ (mac : List ℕ → List ℕ → List ℕ) where
     abbrev pub sent-statement : Statement
     sent-statement =
         let x = follows (m .n) (t .stage) after coin in
-        own (mac (m .key)) (m .number) (t .identity .question) (x .kind) (x .value) (x .flag) (x .round)
+        own (mac (m .key)) (m .station) (t .identity .question) (x .kind) (x .value) (x .flag) (x .round)
 
     pub data Gives : Outcome → Type 0 where
       refuses : {k : ℕ} → unrefused k ≡ false → Gives (refused k)
       holds-on : Accepted → length (after .held) < quorum (m .n) → Gives (keeps kept after)
       shuts : Accepted → length (after .held) ≡ quorum (m .n) → closes (t .stage) ≡ true
-          → Gives (keeps closed-now (shut (mac (m .key)) (m .n) (m .number) (last-for m (t .identity .question)) after decision-then))
+          → Gives (keeps closed-now (shut (mac (m .key)) (m .n) (m .station) (last-for m (t .identity .question)) after decision-then))
       goes-on : {k : ℕ} → Accepted → length (after .held) ≡ quorum (m .n) → closes (t .stage) ≡ false
           → above (last-for m (t .identity .question)) (t .identity .question) (step sent-statement) ≡ true
           → k ≡ pick (ltb (t .decision) none || eqb decision-then none) sent sent-decided
@@ -118,7 +118,7 @@ module _ (mac : List ℕ → List ℕ → List ℕ) where
         pub room : output-words ≤ length out
         pub range : InRange m
         pub coin-bit : coin < 2
-        pub fit : fits (m .n) (m .number) t ≡ true
+        pub fit : fits (m .n) (m .station) t ≡ true
         pub still-open : t .closed ≡ false
         pub bundle : Bundle (m .n) ws
         pub codes : All (λ s. verifies (mac (m .key)) s ≡ true) (statements ws 1 (suc (count-in ws)))
@@ -195,13 +195,13 @@ module _ (mac : List ℕ → List ℕ → List ℕ) where
           }
 
       -- the station as a state, sane; with the bundle, and q statements
-      pub sane-before : Accepted → Sane (m .n) (m .number) (state-of t)
-      sane-before A = fits-sane (m .n) (m .number) t (A .range .at-most-31) (A .range .low) (A .range .high) L (A .fit) (A .still-open)
+      pub sane-before : Accepted → Sane (m .n) (m .station) (state-of t)
+      sane-before A = fits-sane (m .n) (m .station) t (A .range .at-most-31) (A .range .low) (A .range .high) L (A .fit) (A .still-open)
 
       pub full-after : Accepted → length (after .held) ≡ quorum (m .n) → Full (m .n) after
       full-after A size =
           let S = sane-before A in
-          let G = grown (m .n) (m .number) (state-of t) (main-of ws) (certificate-of ws) S (A .fitting) (A .new) in
+          let G = grown (m .n) (m .station) (state-of t) (main-of ws) (certificate-of ws) S (A .fitting) (A .new) in
           record {
             rising = G .rising;
             proper = G .proper;
@@ -209,15 +209,15 @@ module _ (mac : List ℕ → List ℕ → List ℕ) where
             size = size;
             calm = conflict-insert (state-of t .stage) (main-of ws) (state-of t .held) ∙ A .calm;
             rounds = S .rounds;
-            first = kept-first-on (m .n) (m .number) (state-of t) (main-of ws) (certificate-of ws) S (A .fitting) (A .new);
-            second = kept-second-on (m .n) (m .number) (state-of t) (main-of ws) (certificate-of ws) S (A .fitting) (A .new);
+            for-value = kept-for-value-on (m .n) (m .station) (state-of t) (main-of ws) (certificate-of ws) S (A .fitting) (A .new);
+            for-none = kept-for-none-on (m .n) (m .station) (state-of t) (main-of ws) (certificate-of ws) S (A .fitting) (A .new);
           }
 
       few-after : Accepted → length (after .held) ≤ quorum (m .n)
       few-after A = omega (arith, insert-length (main-of ws) (state-of t .held), sane-before A .few)
 
       ended-view : Accepted → length (after .held) ≡ quorum (m .n)
-          → Gives (ended (mac (m .key)) (m .n) (m .number) (last-for m (t .identity .question)) after coin)
+          → Gives (ended (mac (m .key)) (m .n) (m .station) (last-for m (t .identity .question)) after coin)
       unfolding ended pick state-of
       ended-view A size = go (closes (t .stage)) refl
         where
@@ -231,18 +231,18 @@ module _ (mac : List ℕ → List ℕ → List ℕ) where
           sent-on c false e = refuses refl
 
           go : (b : Bool) → closes (t .stage) ≡ b
-              → Gives (pick b (keeps closed-now (shut (mac (m .key)) (m .n) (m .number) (last-for m (t .identity .question)) after decision-then))
-              (moved (mac (m .key)) (m .n) (m .number) (last-for m (t .identity .question)) after (follows (m .n) (t .stage) after coin) decision-then))
+              → Gives (pick b (keeps closed-now (shut (mac (m .key)) (m .n) (m .station) (last-for m (t .identity .question)) after decision-then))
+              (moved (mac (m .key)) (m .n) (m .station) (last-for m (t .identity .question)) after (follows (m .n) (t .stage) after coin) decision-then))
           go true c = shuts A size c
           go false c = sent-on c (above (last-for m (t .identity .question)) (t .identity .question) (step sent-statement)) refl
 
       taken-view : Accepted
-          → Gives (taken (mac (m .key)) (m .n) (m .number) (last-for m (t .identity .question)) (state-of t) (main-of ws) (certificate-of ws) coin)
+          → Gives (taken (mac (m .key)) (m .n) (m .station) (last-for m (t .identity .question)) (state-of t) (main-of ws) (certificate-of ws) coin)
       unfolding taken pick
       taken-view A = go (ltb (length (after .held)) (quorum (m .n))) refl
         where
           go : (b : Bool) → ltb (length (after .held)) (quorum (m .n)) ≡ b
-              → Gives (pick b (keeps kept after) (ended (mac (m .key)) (m .n) (m .number) (last-for m (t .identity .question)) after coin))
+              → Gives (pick b (keeps kept after) (ended (mac (m .key)) (m .n) (m .station) (last-for m (t .identity .question)) after coin))
           go true e = holds-on A (ltb-true _ _ e)
           go false e = ended-view A (omega (arith, ltb-false (length (after .held)) (quorum (m .n)) e, few-after A))
 
@@ -251,7 +251,7 @@ module _ (mac : List ℕ → List ℕ → List ℕ) where
       gives-view = go (eqb (first-failed (give-tests mac m t ws coin out)) 0) refl
         where
           go : (b : Bool) → eqb (first-failed (give-tests mac m t ws coin out)) 0 ≡ b
-              → Gives (pick b (taken (mac (m .key)) (m .n) (m .number) (last-for m (t .identity .question)) (state-of t) (main-of ws) (certificate-of ws) coin)
+              → Gives (pick b (taken (mac (m .key)) (m .n) (m .station) (last-for m (t .identity .question)) (state-of t) (main-of ws) (certificate-of ws) coin)
               (refused (first-failed (give-tests mac m t ws coin out))))
           go true e = taken-view (accepted (eqb-true _ _ e))
           go false e =
@@ -261,7 +261,7 @@ module _ (mac : List ℕ → List ℕ → List ℕ) where
   -- ---- opening
   module _ (m : Module) (question proposal : ℕ) (out : List ℕ) where
     abbrev pub init-statement : Statement
-    init-statement = own (mac (m .key)) (m .number) question kind-INIT proposal D-GET 0
+    init-statement = own (mac (m .key)) (m .station) question kind-INIT proposal D-GET 0
 
     pub data Opens : Outcome → Type 0 where
       no-opening : {k : ℕ} → unrefused k ≡ false → Opens (refused k)
@@ -278,7 +278,7 @@ module _ (mac : List ℕ → List ℕ → List ℕ) where
         begun false e x y z = no-opening refl
 
         go : (b : Bool) → eqb (first-failed (open-tests mac m proposal out)) 0 ≡ b
-            → Opens (pick b (opened (mac (m .key)) (m .n) (m .number) (last-for m question) question proposal) (refused (first-failed (open-tests mac m proposal out))))
+            → Opens (pick b (opened (mac (m .key)) (m .n) (m .station) (last-for m question) question proposal) (refused (first-failed (open-tests mac m proposal out))))
         go true e =
             let p = all-passed (open-tests mac m proposal out) (omega arith, (omega arith, tt)) (eqb-true _ _ e) in
             let a = both (module-fits m) _ (p .1 .0) in
@@ -288,7 +288,7 @@ module _ (mac : List ℕ → List ℕ → List ℕ) where
 -- what is taken is answered 0, 22, 20, 21 or 12
 pub taken-number : (mac : List ℕ → List ℕ → List ℕ) (m : Module) (t : Station) (ws : List ℕ) (coin : ℕ) (out : List ℕ) (P : ℕ → Type 0)
     → P kept → P closed-now → P sent → P sent-decided → P not-above
-    → P (returned m t out (taken (mac (m .key)) (m .n) (m .number) (last-for m (t .identity .question)) (state-of t) (main-of ws) (certificate-of ws) coin) .number)
+    → P (returned m t out (taken (mac (m .key)) (m .n) (m .station) (last-for m (t .identity .question)) (state-of t) (main-of ws) (certificate-of ws) coin) .number)
 unfolding returned pick taken ended
 taken-number mac m t ws coin out P p0 p22 p20 p21 p12 = by (ltb (length (after mac m t ws coin out .held)) (quorum (m .n)))
   where
@@ -296,7 +296,7 @@ taken-number mac m t ws coin out P p0 p22 p20 p21 p12 = by (ltb (length (after m
     x = follows (m .n) (state-of t .stage) (after mac m t ws coin out) coin
 
     s : Statement
-    s = own (mac (m .key)) (m .number) (state-of t .question) (x .kind) (x .value) (x .flag) (x .round)
+    s = own (mac (m .key)) (m .station) (state-of t .question) (x .kind) (x .value) (x .flag) (x .round)
 
     d : ℕ
     d = decision-at (state-of t .stage) (state-of t .decision) (after mac m t ws coin out .held)
@@ -306,12 +306,12 @@ taken-number mac m t ws coin out P p0 p22 p20 p21 p12 = by (ltb (length (after m
     sent-by true false = p21
     sent-by false b = p12
 
-    ended-by : (c : Bool) → P (returned m t out (pick c (keeps closed-now (shut (mac (m .key)) (m .n) (m .number) (last-for m (t .identity .question)) (after mac m t ws coin out) d))
-        (moved (mac (m .key)) (m .n) (m .number) (last-for m (t .identity .question)) (after mac m t ws coin out) x d)) .number)
+    ended-by : (c : Bool) → P (returned m t out (pick c (keeps closed-now (shut (mac (m .key)) (m .n) (m .station) (last-for m (t .identity .question)) (after mac m t ws coin out) d))
+        (moved (mac (m .key)) (m .n) (m .station) (last-for m (t .identity .question)) (after mac m t ws coin out) x d)) .number)
     ended-by true = p22
     ended-by false = sent-by (above (last-for m (t .identity .question)) (s .question) (step s)) (ltb (state-of t .decision) none || eqb d none)
 
-    by : (b : Bool) → P (returned m t out (pick b (keeps kept (after mac m t ws coin out)) (ended (mac (m .key)) (m .n) (m .number) (last-for m (t .identity .question)) (after mac m t ws coin out) coin)) .number)
+    by : (b : Bool) → P (returned m t out (pick b (keeps kept (after mac m t ws coin out)) (ended (mac (m .key)) (m .n) (m .station) (last-for m (t .identity .question)) (after mac m t ws coin out) coin)) .number)
     by true = p0
     by false = ended-by (closes (state-of t .stage))
 
@@ -343,7 +343,7 @@ conflicts mac m t ws coin out L e = go (eqb (first-failed (give-tests mac m t ws
         record { near = nearly mac m t ws coin out L (p .0); clash = not-false _ (p .1) }
 
     go : (b : Bool) → eqb (first-failed (give-tests mac m t ws coin out)) 0 ≡ b
-        → returned m t out (pick b (taken (mac (m .key)) (m .n) (m .number) (last-for m (t .identity .question)) (state-of t) (main-of ws) (certificate-of ws) coin)
+        → returned m t out (pick b (taken (mac (m .key)) (m .n) (m .station) (last-for m (t .identity .question)) (state-of t) (main-of ws) (certificate-of ws) coin)
         (refused (first-failed (give-tests mac m t ws coin out)))) .number ≡ conflicting → Conflicts mac m t ws coin out L
     go true q z =
         absurd (taken-number mac m t ws coin out (λ k. k ≡ conflicting → ⊥) (λ e. omega arith) (λ e. omega arith) (λ e. omega arith) (λ e. omega arith) (λ e. omega arith) z)

@@ -14,7 +14,7 @@ use Rattle.rules.specs.Rules.{group, proposals, none-votes, some}
 use Rattle.station.specs.declared.Stage.{Stage}
 use Rattle.station.specs.declared.Stage.the-variants.{Gathering, Proposing, Voting}
 use Rattle.station.specs.declared.Station.{Station}
-use Rattle.station.specs.Machine.{State, supplies-first, supplies-second, round-in}
+use Rattle.station.specs.Machine.{State, supplies-for-value, supplies-for-none, round-in}
 
 -- "a set of stations heard, one bit for each": station s has bit s − 1, and the slot of ten words with that number
 -- the statements of k slots from slot i on whose bit is set, by rising station
@@ -36,23 +36,23 @@ abbrev pub no-group : Group
 no-group = group 0 0 0 Any Any
 
 -- what the kept groups are, by the stage and the statements held: there exactly where one of these supplies it
-abbrev pub first-of-round : ℕ → Stage → ℕ → Group
-first-of-round n Gathering v = no-group
-first-of-round n (Proposing r f) v = proposals n (r .0 - 1) (Only v) Any
-first-of-round n (Voting r) v = proposals n (r .0) (Only v) Any
+abbrev pub value-group : ℕ → Stage → ℕ → Group
+value-group n Gathering v = no-group
+value-group n (Proposing r f) v = proposals n (r .0 - 1) (Only v) Any
+value-group n (Voting r) v = proposals n (r .0) (Only v) Any
 
-unfoldable pub kept-first : ℕ → Stage → List Statement → Group
-kept-first n g h = pick (some (supplies-first g) h) (first-of-round n g (leading (supplies-first g) h)) no-group
+unfoldable pub kept-for-value : ℕ → Stage → List Statement → Group
+kept-for-value n g h = pick (some (supplies-for-value g) h) (value-group n g (leading (supplies-for-value g) h)) no-group
 
-unfoldable pub kept-second : ℕ → Stage → List Statement → Group
-kept-second n g h = pick (some (supplies-second g) h) (none-votes n (round-in g - 1)) no-group
+unfoldable pub kept-for-none : ℕ → Stage → List Statement → Group
+kept-for-none n g h = pick (some (supplies-for-none g) h) (none-votes n (round-in g - 1)) no-group
 
 -- ---- reading
 -- the declared lengths of a station's arrays, which every value of its type has
 pub record Lengths (t : Station) : Type 0 where
   pub slots : length (t .held .slots) ≡ 310
-  pub first : length (t .groups .first) ≡ 160
-  pub second : length (t .groups .second) ≡ 160
+  pub for-value : length (t .groups .value) ≡ 160
+  pub for-none : length (t .groups .none) ≡ 160
 
 abbrev pub held-by : Station → List Statement
 held-by t = held-in (t .held .heard) (t .held .slots) 0 sites
@@ -65,8 +65,8 @@ state-of t =
       closed = t .closed;
       decision = t .decision;
       held = held-by t;
-      first = statements (t .groups .first) 0 (kept-first (t .identity .n) (t .stage) (held-by t) .size);
-      second = statements (t .groups .second) 0 (kept-second (t .identity .n) (t .stage) (held-by t) .size);
+      for-value = statements (t .groups .value) 0 (kept-for-value (t .identity .n) (t .stage) (held-by t) .size);
+      for-none = statements (t .groups .none) 0 (kept-for-none (t .identity .n) (t .stage) (held-by t) .size);
     }
 
 -- ---- writing
@@ -92,15 +92,15 @@ all-written (s ∷ c) = written s ++ all-written c
 abbrev pub group-words : List Statement → List ℕ
 group-words c = all-written c ++ replicate (160 - length c * 10) 0
 
-unfoldable pub station-of : ℕ → ℕ → State → Station
-station-of n number t =
+unfoldable pub as-station : ℕ → ℕ → State → Station
+as-station n number t =
     record {
-      identity = record { n = n; number = number; question = t .question };
+      identity = record { n = n; station = number; question = t .question };
       stage = t .stage;
       closed = t .closed;
       decision = t .decision;
       held = record { heard = set-of (t .held); slots = slots-of (t .held) 1 sites };
-      groups = record { first = group-words (t .first); second = group-words (t .second) };
+      groups = record { value = group-words (t .for-value); none = group-words (t .for-none) };
     }
 
 -- ---- a bundle: "a head word, one main statement, then the certificate"

@@ -29,7 +29,7 @@ use Rattle.sealed.specs.Sealed.{last-for}
 use Rattle.station.specs.declared.Stage.{Stage}
 use Rattle.station.specs.declared.Stage.the-variants.{Gathering, Proposing, Voting}
 use Rattle.station.specs.declared.Station.{Station}
-use Rattle.station.specs.Machine.{State, Outcome, Next, own, began, shut, supplies-first, supplies-second, takes, closes, those, has-value, first-value, vote-value, carried, follows}
+use Rattle.station.specs.Machine.{State, Outcome, Next, own, began, shut, supplies-for-value, supplies-for-none, takes, closes, those, has-value, first-value, vote-value, carried, follows}
 use Rattle.station.specs.Words as W
 use Rattle.station.specs.Words.{state-of, all-written, group-words, sites, bundle-of, over, Lengths}
 use Rattle.station.specs.Calls.{returned, opening, giving, opening-outcome, giving-outcome, no-station}
@@ -38,7 +38,7 @@ use Rattle.format.specs.ReadBack.{Proper}
 use Rattle.station.specs.Slots.{slots-length}
 use Rattle.station.specs.Insert.{insert-all}
 use Rattle.station.specs.Sane.{Sane, state-back}
-use Rattle.station.specs.FitSane.{first-size, second-size}
+use Rattle.station.specs.FitSane.{for-value-size, for-none-size}
 use Rattle.station.specs.Keep.{all-take}
 use Rattle.station.specs.Pieces.{those-all}
 use Rattle.station.specs.End.{Given}
@@ -53,22 +53,22 @@ all-append P [] d a b = b
 all-append P (s ∷ c) d a b = (a .0, all-append P c d (a .1) b)
 
 -- ---- the lengths of a station that is written from a state
-pub lengths-of : (n number : ℕ) (t : State) → n ≤ 31 → Sane n number t → Lengths (W.station-of n number t)
-unfolding W.station-of
+pub lengths-of : (n number : ℕ) (t : State) → n ≤ 31 → Sane n number t → Lengths (W.as-station n number t)
+unfolding W.as-station
 lengths-of n number t top S =
     record {
       slots = slots-length n (t .held) 1 sites (S .proper);
-      first = group-length (t .first) (S .first .proper) (omega (arith, S .first .as-asked .size, first-size n (t .stage) (t .held) top));
-      second = group-length (t .second) (S .second .proper) (omega (arith, S .second .as-asked .size, second-size n (t .stage) (t .held) top));
+      for-value = group-length (t .for-value) (S .for-value .proper) (omega (arith, S .for-value .as-asked .size, for-value-size n (t .stage) (t .held) top));
+      for-none = group-length (t .for-none) (S .for-none .proper) (omega (arith, S .for-none .as-asked .size, for-none-size n (t .stage) (t .held) top));
     }
   where
     group-length : (c : List Statement) → All (Proper n) c → length c ≤ 16 → length (group-words c) ≡ 160
     group-length c p few =
         length-append (all-written c) (replicate (160 - length c * 10) 0) ∙ omega (arith, length-all n c p, length-replicate {A = ℕ} (160 - length c * 10) 0)
 
-pub shut-lengths : (n number : ℕ) (t : State) → t .held ≡ [] → t .first ≡ [] → t .second ≡ [] → Lengths (W.station-of n number t)
-unfolding W.station-of W.slots-of W.slot-of W.all-written
-shut-lengths n number t a b c = record { slots = rw a; first = rw b; second = rw c }
+pub shut-lengths : (n number : ℕ) (t : State) → t .held ≡ [] → t .for-value ≡ [] → t .for-none ≡ [] → Lengths (W.as-station n number t)
+unfolding W.as-station W.slots-of W.slot-of W.all-written
+shut-lengths n number t a b c = record { slots = rw a; for-value = rw b; for-none = rw c }
 
 -- ---- what is held and kept verifies
 same-self : (l : List ℕ) → same-words l l ≡ true
@@ -82,12 +82,12 @@ own-verifies code number question kind value flag round = same-self (code (cover
 
 pub record Certain (code : List ℕ → List ℕ) (t : State) : Type 0 where
   pub held : All (λ s. verifies code s ≡ true) (t .held)
-  pub first : All (λ s. verifies code s ≡ true) (t .first)
-  pub second : All (λ s. verifies code s ≡ true) (t .second)
+  pub for-value : All (λ s. verifies code s ≡ true) (t .for-value)
+  pub for-none : All (λ s. verifies code s ≡ true) (t .for-none)
   pub given : Given (t .held)
 
 -- what holds of all that is held and kept holds of the certificate that follows
-module _ (P : Statement → Type 0) (n : ℕ) (k : State) (coin : ℕ) (h : All P (k .held)) (f : All P (k .first)) (s : All P (k .second)) where
+module _ (P : Statement → Type 0) (n : ℕ) (k : State) (coin : ℕ) (h : All P (k .held)) (f : All P (k .for-value)) (s : All P (k .for-none)) where
   pub next-all : (g : Stage) → All P (follows n g k coin .first) × All P (follows n g k coin .second)
   unfolding follows pick
   next-all Gathering =
@@ -95,7 +95,7 @@ module _ (P : Statement → Type 0) (n : ℕ) (k : State) (coin : ℕ) (h : All 
       (all-take P (backing n v) (those (has-value v) (k .held)) (all-map (λ x p. p .0) (those (has-value v) (k .held)) (those-all P (has-value v) (k .held) h)), tt)
   next-all (Proposing r x) = (h, go (ltb 1 (r .0)) (ltb (vote-value (k .held)) none) (some-D-GET (k .held)))
     where
-      go : (a b c : Bool) → All P (pick a (pick b (pick c (k .first) []) (k .second)) [])
+      go : (a b c : Bool) → All P (pick a (pick b (pick c (k .for-value) []) (k .for-none)) [])
       go true true true = f
       go true true false = tt
       go true false c = s
@@ -103,10 +103,10 @@ module _ (P : Statement → Type 0) (n : ℕ) (k : State) (coin : ℕ) (h : All 
   next-all (Voting r) = go (ltb (carried (k .held)) none)
     where
       go : (a : Bool) → All P (pick {A = Next} a
-          (record { kind = kind-P; value = carried (k .held); flag = D-GET; round = r .0 + 1; first = k .first; second = []; stage = Proposing (record { 0 = r .0 + 1 }) D-GET })
+          (record { kind = kind-P; value = carried (k .held); flag = D-GET; round = r .0 + 1; first = k .for-value; second = []; stage = Proposing (record { 0 = r .0 + 1 }) D-GET })
           (record { kind = kind-P; value = coin; flag = R-GET; round = r .0 + 1; first = k .held; second = []; stage = Proposing (record { 0 = r .0 + 1 }) R-GET }) .first)
           × All P (pick {A = Next} a
-          (record { kind = kind-P; value = carried (k .held); flag = D-GET; round = r .0 + 1; first = k .first; second = []; stage = Proposing (record { 0 = r .0 + 1 }) D-GET })
+          (record { kind = kind-P; value = carried (k .held); flag = D-GET; round = r .0 + 1; first = k .for-value; second = []; stage = Proposing (record { 0 = r .0 + 1 }) D-GET })
           (record { kind = kind-P; value = coin; flag = R-GET; round = r .0 + 1; first = k .held; second = []; stage = Proposing (record { 0 = r .0 + 1 }) R-GET }) .second)
       go true = (f, tt)
       go false = (h, tt)
@@ -134,8 +134,8 @@ module _ (mac : List ℕ → List ℕ → List ℕ) (m : Module) (t : Station) (
   kept-certain C =
       record {
         held = insert-all (λ s. verifies code s ≡ true) (main-of ws) (state-of t .held) (verified .0) (C .held);
-        first = part (takes (supplies-first (state-of t .stage)) (state-of t .held) (main-of ws)) (state-of t .first) (C .first);
-        second = part (takes (supplies-second (state-of t .stage)) (state-of t .held) (main-of ws)) (state-of t .second) (C .second);
+        for-value = part (takes (supplies-for-value (state-of t .stage)) (state-of t .held) (main-of ws)) (state-of t .for-value) (C .for-value);
+        for-none = part (takes (supplies-for-none (state-of t .stage)) (state-of t .held) (main-of ws)) (state-of t .for-none) (C .for-none);
         given = insert-all (λ s. s .round ≡ 1 → s .kind ≡ kind-P → s .flag ≡ D-GET) (main-of ws) (state-of t .held)
             (backed-given (m .n) (main-of ws) (certificate-of ws) (A .fitting .backed)) (C .given);
       }
@@ -149,7 +149,7 @@ module _ (mac : List ℕ → List ℕ → List ℕ) (m : Module) (t : Station) (
       → (s .round ≡ 1 → s .kind ≡ kind-P → s .flag ≡ D-GET) → Certain code (began question g d s c)
   unfolding pick
   began-certain question d g s c v vs e =
-      record { held = (v, tt); first = part (supplies-first g s); second = part (supplies-second g s); given = (e, tt) }
+      record { held = (v, tt); for-value = part (supplies-for-value g s); for-none = part (supplies-for-none g s); given = (e, tt) }
     where
       part : (b : Bool) → All (λ s. verifies code s ≡ true) (pick b c [])
       part true = vs
@@ -176,10 +176,10 @@ module _ (mac : List ℕ → List ℕ → List ℕ) (m : Module) (t : Station) (
 
     parts-verify : All (λ s. verifies code s ≡ true) (x .first) × All (λ s. verifies code s ≡ true) (x .second)
     parts-verify =
-        next-all (λ s. verifies code s ≡ true) (m .n) (after mac m t ws coin out) coin (certain-after .held) (certain-after .first) (certain-after .second) (t .stage)
+        next-all (λ s. verifies code s ≡ true) (m .n) (after mac m t ws coin out) coin (certain-after .held) (certain-after .for-value) (certain-after .for-none) (t .stage)
 
     s-verifies : verifies code s ≡ true
-    s-verifies = own-verifies code (m .number) (t .identity .question) (x .kind) (x .value) (x .flag) (x .round)
+    s-verifies = own-verifies code (m .station) (t .identity .question) (x .kind) (x .value) (x .flag) (x .round)
 
     pub sent-certain : Certain code (began (t .identity .question) (x .stage) (decision-then mac m t ws coin out) s (x .first))
     sent-certain =
@@ -203,15 +203,15 @@ module _ (mac : List ℕ → List ℕ → List ℕ) (key : List ℕ) (n : ℕ) w
 
   module _ (eight : (key ws : List ℕ) → length (mac key ws) ≡ 8) where
     -- a station written from a sane state of which all is certain
-    good-state : (number i : ℕ) (t : State) → i ≤ 31 → 1 ≤ number → number ≤ i → Sane i number t → Certain (mac key) t → Good number (W.station-of i number t)
+    good-state : (number i : ℕ) (t : State) → i ≤ 31 → 1 ≤ number → number ≤ i → Sane i number t → Certain (mac key) t → Good number (W.as-station i number t)
     good-state number i t top lo hi S C =
         record {
           lengths = lengths-of i number t top S;
           certain = λ e. subst (λ (u : State). Certain (mac key) u) (sym (state-back i number t top lo hi S)) C;
         }
 
-    good-shut : (number i : ℕ) (t : State) → t .closed ≡ true → t .held ≡ [] → t .first ≡ [] → t .second ≡ [] → Good number (W.station-of i number t)
-    unfolding W.station-of
+    good-shut : (number i : ℕ) (t : State) → t .closed ≡ true → t .held ≡ [] → t .for-value ≡ [] → t .for-none ≡ [] → Good number (W.as-station i number t)
+    unfolding W.as-station
     good-shut number i t c h f s = record { lengths = shut-lengths i number t h f s; certain = λ e. never (t .closed) e c }
 
     pub good-opening : (number : ℕ) (m : Module) (question v : ℕ) (out : List ℕ) → OfGroup mac key n number m → unrefused (opening mac m question v out .number) ≡ true
@@ -222,11 +222,11 @@ module _ (mac : List ℕ → List ℕ → List ℕ) (key : List ℕ) (n : ℕ) w
         go : (o : Outcome) → Opens mac m question v out o → unrefused (returned m no-station out o .number) ≡ true → Good number (returned m no-station out o .station)
         go _ (no-opening e) u = never _ e u
         go _ (begins room r p a) u =
-            subst (λ (i : ℕ). Good i (W.station-of (m .n) (m .number) (began question Gathering none (init-statement mac m question v out) []))) (G .same-number)
-            (good-state (m .number) (m .n) (began question Gathering none (init-statement mac m question v out) []) (r .at-most-31) (r .low) (r .high)
+            subst (λ (i : ℕ). Good i (W.as-station (m .n) (m .station) (began question Gathering none (init-statement mac m question v out) []))) (G .same-number)
+            (good-state (m .station) (m .n) (began question Gathering none (init-statement mac m question v out) []) (r .at-most-31) (r .low) (r .high)
             (init-sane mac eight m question v r p)
             (subst (λ (c : List ℕ). Certain (mac c) (began question Gathering none (init-statement mac m question v out) [])) (G .same-key)
-            (record { held = (own-verifies (mac (m .key)) (m .number) question kind-INIT v D-GET 0, tt); first = tt; second = tt; given = ((λ a b. absurd (omega arith)), tt) })))
+            (record { held = (own-verifies (mac (m .key)) (m .station) question kind-INIT v D-GET 0, tt); for-value = tt; for-none = tt; given = ((λ a b. absurd (omega arith)), tt) })))
 
     pub good-giving : (number : ℕ) (t : Station) → Good number t → (m : Module) (ws : List ℕ) (coin : ℕ) (out : List ℕ) → OfGroup mac key n number m
         → unrefused (giving mac m t ws coin out .number) ≡ true → Good number (giving mac m t ws coin out .station)
@@ -239,19 +239,19 @@ module _ (mac : List ℕ → List ℕ → List ℕ) (key : List ℕ) (n : ℕ) w
         of-key : {u : State} → Certain (mac (m .key)) u → Certain (mac key) u
         of-key {u} c = subst (λ (x : List ℕ). Certain (mac x) u) (G .same-key) c
 
-        here : (u : State) → Good (m .number) (W.station-of (m .n) (m .number) u) → Good number (W.station-of (m .n) (m .number) u)
-        here u g = subst (λ (i : ℕ). Good i (W.station-of (m .n) (m .number) u)) (G .same-number) g
+        here : (u : State) → Good (m .station) (W.as-station (m .n) (m .station) u) → Good number (W.as-station (m .n) (m .station) u)
+        here u g = subst (λ (i : ℕ). Good i (W.as-station (m .n) (m .station) u)) (G .same-number) g
 
         go : (o : Outcome) → Gives mac m t ws coin out o → unrefused (returned m t out o .number) ≡ true → Good number (returned m t out o .station)
         go _ (refuses e) u = never _ e u
         go _ (holds-on A few) u =
-            here (after mac m t ws coin out) (good-state (m .number) (m .n) (after mac m t ws coin out) (A .range .at-most-31) (A .range .low) (A .range .high)
+            here (after mac m t ws coin out) (good-state (m .station) (m .n) (after mac m t ws coin out) (A .range .at-most-31) (A .range .low) (A .range .high)
             (kept-sane mac eight m t ws coin out (good .lengths) A few) (of-key (kept-certain mac m t ws coin out A (C A))))
         go _ (shuts A size c) u =
-            here (shut (mac (m .key)) (m .n) (m .number) (last-for m (t .identity .question)) (after mac m t ws coin out) (decision-then mac m t ws coin out))
-            (good-shut (m .number) (m .n) (shut (mac (m .key)) (m .n) (m .number) (last-for m (t .identity .question)) (after mac m t ws coin out) (decision-then mac m t ws coin out)) refl refl refl refl)
+            here (shut (mac (m .key)) (m .n) (m .station) (last-for m (t .identity .question)) (after mac m t ws coin out) (decision-then mac m t ws coin out))
+            (good-shut (m .station) (m .n) (shut (mac (m .key)) (m .n) (m .station) (last-for m (t .identity .question)) (after mac m t ws coin out) (decision-then mac m t ws coin out)) refl refl refl refl)
         go _ (goes-on A size c above k) u =
-            here _ (good-state (m .number) (m .n) _ (A .range .at-most-31) (A .range .low) (A .range .high)
+            here _ (good-state (m .station) (m .n) _ (A .range .at-most-31) (A .range .low) (A .range .high)
             (sent-sane mac eight m t ws coin out (good .lengths) A size c) (of-key (sent-certain mac m t ws coin out A eight (good .lengths) (C A) size c)))
 
     pub reached-good : (number : ℕ) (t : Station) → Reached mac key n number t → Good number t
@@ -288,7 +288,7 @@ module _ (mac : List ℕ → List ℕ → List ℕ) (key : List ℕ) (n : ℕ) w
                 (subst (λ (i : ℕ). Valid (mac key) i (bundle-of s [])) (G .same-n)
                 (subst (λ (c : List ℕ). Valid (mac c) (m .n) (bundle-of s [])) (G .same-key)
                 (bundle-valid (m .n) s [] (r .at-most-31) proper tt (omega arith) (mac (m .key)) (r .at-least-2) tt
-                (own-verifies (mac (m .key)) (m .number) question kind-INIT v D-GET 0) tt (rule-1 refl))))
+                (own-verifies (mac (m .key)) (m .station) question kind-INIT v D-GET 0) tt (rule-1 refl))))
 
     pub giving-written : (number : ℕ) (t : Station) → Reached mac key n number t → (m : Module) (ws : List ℕ) (coin : ℕ) (out : List ℕ) → OfGroup mac key n number m
         → wrote (giving mac m t ws coin out .number) ≡ true → check-by (mac key) n Any (message (giving mac m t ws coin out)) ≡ 0

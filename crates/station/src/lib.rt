@@ -1,5 +1,12 @@
 // The station's types (document 01, "The station"). The definitions stand in specs/.
+use format::MOST_STATIONS;
 use format::Round;
+use format::STATEMENT_WORDS;
+
+// A slot of a statement for each station that a group may have, and as many statements as the largest quorum.
+pub const SLOTS_WORDS: usize = MOST_STATIONS as usize * STATEMENT_WORDS;
+
+pub const KEPT_WORDS: usize = (MOST_STATIONS as usize / 2 + 1) * STATEMENT_WORDS;
 
 // A station is in one of three stages.
 pub enum Stage {
@@ -11,20 +18,20 @@ pub enum Stage {
 // Whose station it is, and on which question.
 pub struct Identity {
     pub n: u32,
-    pub number: u32,
+    pub station: u32,
     pub question: u32,
 }
 
 // The statements of the step: the set of stations heard, one bit for each, and a slot of ten words for each station.
 pub struct Held {
     pub heard: u32,
-    pub slots: [u32; 310],
+    pub slots: [u32; SLOTS_WORDS],
 }
 
-// The certificate groups that a later bundle will need.
+// The certificate groups that a later bundle will need: one with a value, and a none vote.
 pub struct Groups {
-    pub first: [u32; 160],
-    pub second: [u32; 160],
+    pub value: [u32; KEPT_WORDS],
+    pub none: [u32; KEPT_WORDS],
 }
 
 pub struct Station {

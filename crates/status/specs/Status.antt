@@ -19,7 +19,7 @@ decision-on question t = pick (eqb (t .identity .question) question) (t .decisio
 
 -- "n, station number … out of range; a station whose n or number isn't the given module's, or whose stage, set and held statements don't fit one another"
 abbrev pub readable : Module → Station → Bool
-readable m t = module-fits m && fits (m .n) (m .number) t
+readable m t = module-fits m && fits (m .n) (m .station) t
 
 -- what is told of a station that can be read
 abbrev pub told : Station → ℕ → Status

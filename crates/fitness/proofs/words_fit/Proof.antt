@@ -28,11 +28,11 @@ array-read-stage-fits c = search needs
 stage-fits-requires : tie.Need-stage-fits-requires
 stage-fits-requires c κs = search needs
 
-first-fits-requires : tie.Need-first-fits-requires
-first-fits-requires c κs = search needs
+for-value-fits-requires : tie.Need-for-value-fits-requires
+for-value-fits-requires c κs = search needs
 
-second-fits-requires : tie.Need-second-fits-requires
-second-fits-requires c κs = search needs
+for-none-fits-requires : tie.Need-for-none-fits-requires
+for-none-fits-requires c κs = search needs
 
 returns : tie.Need-returns
 returns c =
@@ -42,8 +42,8 @@ returns c =
     let h = g .before in
     let p = h .before .before in
     let a = p .before .before .before .before .before .before .before .args in
-    words-are (a .n) (a .number) (a .t) (h .held-fits .result) (g .stage-fits .result) (f .first-fits .result) (s .second-fits .result) (p .step-in .result .0)
-    (p .step-in .ensures) (h .held-fits .ensures) (g .stage-fits .ensures) (f .first-fits .ensures) (s .second-fits .ensures)
+    words-are (a .n) (a .number) (a .t) (h .held-fits .result) (g .stage-fits .result) (f .for-value-fits .result) (s .for-none-fits .result) (p .step-in .result .0)
+    (p .step-in .ensures) (h .held-fits .ensures) (g .stage-fits .ensures) (f .for-value-fits .ensures) (s .for-none-fits .ensures)
 
 pub words-fit-spec : {M : Type 1} → statement M
 words-fit-spec =
@@ -57,6 +57,6 @@ words-fit-spec =
     mul-stage-fits
     array-read-stage-fits
     stage-fits-requires
-    first-fits-requires
-    second-fits-requires
+    for-value-fits-requires
+    for-none-fits-requires
     returns)

@@ -17,8 +17,8 @@ lengths s =
     let groups = f .1 .0 in
     record {
       slots = length-unmapped ℕ (s .args .t .held .slots) 310 (held .1 .1 .1 .0 .1 .0 .1);
-      first = length-unmapped ℕ (s .args .t .groups .first) 160 (groups .1 .1 .0 .1 .0 .1);
-      second = length-unmapped ℕ (s .args .t .groups .second) 160 (groups .1 .1 .1 .0 .1 .0 .1);
+      for-value = length-unmapped ℕ (s .args .t .groups .value) 160 (groups .1 .1 .0 .1 .0 .1);
+      for-none = length-unmapped ℕ (s .args .t .groups .none) 160 (groups .1 .1 .1 .0 .1 .0 .1);
     }
 
 -- and words of 32 bits
@@ -29,8 +29,8 @@ low-words s =
     let groups = f .1 .0 in
     record {
       slots = λ i. elem-fits-field w32 w32 (s .args .t .held .slots) (held .1 .1 .1 .0 .0) i (held .1 .1 .1 .0 .1 .1) tt .fits;
-      first = λ i. elem-fits-field w32 w32 (s .args .t .groups .first) (groups .1 .1 .0 .0) i (groups .1 .1 .0 .1 .1) tt .fits;
-      second = λ i. elem-fits-field w32 w32 (s .args .t .groups .second) (groups .1 .1 .1 .0 .0) i (groups .1 .1 .1 .0 .1 .1) tt .fits;
+      for-value = λ i. elem-fits-field w32 w32 (s .args .t .groups .value) (groups .1 .1 .0 .0) i (groups .1 .1 .0 .1 .1) tt .fits;
+      for-none = λ i. elem-fits-field w32 w32 (s .args .t .groups .none) (groups .1 .1 .1 .0 .0) i (groups .1 .1 .1 .0 .1 .1) tt .fits;
     }
 
 refusal-requires : tie.Need-refusal-requires

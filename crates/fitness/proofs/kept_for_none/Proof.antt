@@ -1,9 +1,9 @@
 -- Where a held statement supplies the group, it is a quorum of none votes of the round before.
 use Rattle.station.specs.Words.{held-in, sites}
-use Rattle.fitness.specs.Parts.{second-found, second-missing}
+use Rattle.fitness.specs.Parts.{for-none-found, for-none-missing}
 use borrow.Author.Needs.{needs}
-use Rattle.fitness.proofs.kept_second.Statement.{statement}
-use Rattle.fitness.proofs.kept_second.Tie as tie
+use Rattle.fitness.proofs.kept_for_none.Statement.{statement}
+use Rattle.fitness.proofs.kept_for_none.Tie as tie
 
 lowest-supplier-requires : tie.Need-lowest-supplier-requires
 lowest-supplier-requires c κs = search needs
@@ -18,7 +18,7 @@ returns : tie.Need-returns
 returns c =
     let a = c .before .before .before .before .args in
     let s = c .before .before .before .lowest-supplier in
-    second-found (a .n) (a .stage) (held-in (a .heard) (a .slots .now) 0 sites) (s .result .found) (c .votes-for-none .result) (c .before .round-before-in .result .0)
+    for-none-found (a .n) (a .stage) (held-in (a .heard) (a .slots .now) 0 sites) (s .result .found) (c .votes-for-none .result) (c .before .round-before-in .result .0)
     (s .ensures .0) (c .before .round-before-in .ensures) (c .before .before .if1 .taken) (c .votes-for-none .ensures)
 
 no-group-requires : tie.Need-no-group-requires
@@ -28,11 +28,11 @@ returns-2 : tie.Need-returns-2
 returns-2 c =
     let a = c .before .before .before .args in
     let s = c .before .before .lowest-supplier in
-    second-missing (a .n) (a .stage) (held-in (a .heard) (a .slots .now) 0 sites) (s .result .found) (c .no-group .result) (s .ensures .0) (c .before .if1 .left)
+    for-none-missing (a .n) (a .stage) (held-in (a .heard) (a .slots .now) 0 sites) (s .result .found) (c .no-group .result) (s .ensures .0) (c .before .if1 .left)
     (c .no-group .ensures)
 
-pub kept-second-spec : {M : Type 1} → statement M
-kept-second-spec =
+pub kept-for-none-spec : {M : Type 1} → statement M
+kept-for-none-spec =
     tie.close
     (tie.spec
     lowest-supplier-requires

@@ -1,7 +1,7 @@
 -- Each arm is a case of the definition.
 use borrow.Author.Needs.{needs}
-use Rattle.fitness.proofs.first_of_round.Statement.{statement}
-use Rattle.fitness.proofs.first_of_round.Tie as tie
+use Rattle.fitness.proofs.value_group.Statement.{statement}
+use Rattle.fitness.proofs.value_group.Tie as tie
 
 enum-told : tie.Need-enum-told
 enum-told c = search needs
@@ -33,8 +33,8 @@ returns-2 c = rw (c .proposals .ensures, c .before .round-before .ensures, c .be
 returns-3 : tie.Need-returns-3
 returns-3 c = rw (c .proposals2 .ensures, c .before .before .stage2 .given .1)
 
-pub first-of-round-spec : {M : Type 1} → statement M
-first-of-round-spec =
+pub value-group-spec : {M : Type 1} → statement M
+value-group-spec =
     tie.close
     (tie.spec
     enum-told
