@@ -10,7 +10,7 @@ use lib.Dec.{eqb, leb}
 use lib.ListN.{length, getD, take}
 use borrow.Author.Tests.{eqb-true, eqb-false, eq-eqb, leb-true}
 use Rattle.laws.specs.Pick.{pick}
-use Rattle.laws.specs.Bools.{never, both, join}
+use Rattle.laws.specs.Bools.{never, both}
 use Rattle.laws.specs.Count.{count, one-if}
 use Rattle.laws.specs.Refusals.{first-failed}
 use Rattle.format.specs.Numbers.{none, place-of}
@@ -31,7 +31,7 @@ use Rattle.station.specs.Words.{held-in, leading, kept-for-value, kept-for-none
 use Rattle.station.specs.Fit.{zeros, slots-fit, fits}
 use Rattle.station.specs.Calls.{Returned, returned, opening, giving, no-station}
 use Rattle.station.specs.Returns.{unrefused}
-use Rattle.agreement.specs.Demand.{Call, opens, gives, codes, tosses, Entry, Lineage, Found, nothing, found, member, logged, votes, act, modules, answer, coded-in, log, openings, lineage, Presents, Sound, FewFaulty, CodesCame, Given, Decides}
+use Rattle.agreement.specs.Demand.{Call, site, action, View, starting, going-on, apart, view, Entry, Lineage, Found, nothing, found, member, logged, votes, act, modules, answer, log, openings, lineage, Presents, Sound, FewFaulty, CodesCame, Behaves, Brings, Given, Decides}
 
 -- ---- two stations compared: their numbers in one list, and their three arrays
 abbrev flag-in : Stage → ℕ
@@ -168,24 +168,27 @@ module _ (mac : List ℕ → List ℕ → List ℕ) (key : List ℕ) (n : ℕ) w
       implied (same-words (code-at ws (place-of k)) (mac key (covered-at ws (place-of k)))) _
       (below-out (came l ws) ((length ws - 1) / 10) k e (omega arith)) verified
 
+  abbrev brings : List Call → View → Bool
+  brings cs starting = true
+  brings cs (going-on k t ws) = lengths t && below (came (log mac key n cs) ws) ((length ws - 1) / 10)
+  brings cs apart = true
+
+  brings-out : (cs : List Call) (v : View) → brings cs v ≡ true → Brings mac key n cs v
+  brings-out cs starting e = tt
+  brings-out cs (going-on k t ws) e = let h = both (lengths t) _ e in (lengths-out t (h .0), came-out (log mac key n cs) ws (h .1))
+  brings-out cs apart e = tt
+
   unfoldable pub given : List Call → Bool
   given [] = true
-  given (opens i q v out ∷ cs) = given cs && (leb 1 i && leb i n)
-  given (gives i k t ws coin out ∷ cs) = given cs && (lengths t && (below (came (log mac key n cs) ws) ((length ws - 1) / 10) && (leb 1 i && leb i n)))
-  given (codes i ws ∷ cs) = given cs && (leb 1 i && leb i n)
-  given (tosses i ws coin ∷ cs) = given cs && (leb 1 i && leb i n)
+  given (c ∷ cs) = given cs && (brings cs (view (action c)) && (leb 1 (site c) && leb (site c) n))
 
   pub given-out : (cs : List Call) → given cs ≡ true → Given mac key n cs
   unfolding given Given
   given-out [] e = tt
-  given-out (opens i q v out ∷ cs) e = let h = both (given cs) _ e in (ordered _ _ _ _ (h .1), given-out cs (h .0))
-  given-out (gives i k t ws coin out ∷ cs) e =
+  given-out (c ∷ cs) e =
       let h = both (given cs) _ e in
-      let f = both (lengths t) _ (h .1) in
-      let g = both (below (came (log mac key n cs) ws) ((length ws - 1) / 10)) _ (f .1) in
-      (ordered _ _ _ _ (g .1), (lengths-out t (f .0), (came-out (log mac key n cs) ws (g .0), given-out cs (h .0))))
-  given-out (codes i ws ∷ cs) e = let h = both (given cs) _ e in (ordered _ _ _ _ (h .1), given-out cs (h .0))
-  given-out (tosses i ws coin ∷ cs) e = let h = both (given cs) _ e in (ordered _ _ _ _ (h .1), given-out cs (h .0))
+      let f = both (brings cs (view (action c))) _ (h .1) in
+      (ordered _ _ _ _ (f .1), (brings-out cs (view (action c)) (f .0), given-out cs (h .0)))
 
   -- ---- the premise on faulty sites
   abbrev presents : Found → Station → Bool
@@ -196,29 +199,26 @@ module _ (mac : List ℕ → List ℕ → List ℕ) (key : List ℕ) (n : ℕ) w
   presents-out cs i k t nothing z e = never false refl e
   presents-out cs i k t (found l) z e = record { line = l; is = z; now = station-out (l .present) t e }
 
+  abbrev behaves : List Call → ℕ → View → ℕ → Bool
+  behaves cs i starting number = true
+  behaves cs i (going-on k t ws) number = not (unrefused number) || presents (lineage mac key n cs i k) t
+  behaves cs i apart number = not (eqb number 0)
+
+  behaves-out : (cs : List Call) (i : ℕ) (v : View) (number : ℕ) → behaves cs i v number ≡ true → Behaves mac key n cs i v number
+  behaves-out cs i starting number e = tt
+  behaves-out cs i (going-on k t ws) number e = λ u. presents-out cs i k t _ refl (implied (unrefused number) _ e u)
+  behaves-out cs i apart number e = λ z. denied (eqb number 0) e (eq-eqb number 0 z)
+
   unfoldable pub sound : List Call → ℕ → Bool
   sound [] i = true
-  sound (opens j q v out ∷ cs) i = sound cs i
-  sound (gives j k t ws coin out ∷ cs) i =
-      sound cs i && (not (eqb j i && unrefused (answer mac key n cs (gives j k t ws coin out) .number)) || presents (lineage mac key n cs i k) t)
-  sound (codes j ws ∷ cs) i = sound cs i && not (eqb j i && eqb (answer mac key n cs (codes j ws) .number) 0)
-  sound (tosses j ws coin ∷ cs) i = sound cs i && not (eqb j i && eqb (answer mac key n cs (tosses j ws coin) .number) 0)
-
-  given-sound : (j i : ℕ) (u p : Bool) → (not (eqb j i && u) || p) ≡ true → j ≡ i → u ≡ true → p ≡ true
-  given-sound j i u p h e f = implied (eqb j i && u) p h (join (eqb j i) u (eq-eqb j i e) f)
-
-  coded-sound : (j i k c : ℕ) → not (eqb j i && eqb k c) ≡ true → j ≡ i → k ≡ c → ⊥
-  coded-sound j i k c h e f = denied (eqb j i && eqb k c) h (join (eqb j i) _ (eq-eqb j i e) (eq-eqb k c f))
+  sound (c ∷ cs) i = sound cs i && (not (eqb (site c) i) || behaves cs i (view (action c)) (answer mac key n cs c .number))
 
   pub sound-out : (cs : List Call) (i : ℕ) → sound cs i ≡ true → Sound mac key n i cs
   unfolding sound Sound
   sound-out [] i e = tt
-  sound-out (opens j q v out ∷ cs) i e = sound-out cs i e
-  sound-out (gives j k t ws coin out ∷ cs) i e =
+  sound-out (c ∷ cs) i e =
       let h = both (sound cs i) _ e in
-      ((λ p u. presents-out cs i k t _ refl (given-sound j i _ _ (h .1) p u)), sound-out cs i (h .0))
-  sound-out (codes j ws ∷ cs) i e = let h = both (sound cs i) _ e in (coded-sound j i _ _ (h .1), sound-out cs i (h .0))
-  sound-out (tosses j ws coin ∷ cs) i e = let h = both (sound cs i) _ e in (coded-sound j i _ _ (h .1), sound-out cs i (h .0))
+      ((λ z. behaves-out cs i (view (action c)) _ (implied (eqb (site c) i) _ (h .1) (eq-eqb (site c) i z))), sound-out cs i (h .0))
 
   -- all sites are sound but those of a list that is short enough
   abbrev but : List ℕ → List Call → ℕ → Bool
@@ -246,5 +246,5 @@ module _ (mac : List ℕ → List ℕ → List ℕ) (key : List ℕ) (n : ℕ) w
 
 -- ---- all that the tests compute by
 unfoldable pub computes : Unit {0}
-unfolding pick count first-failed ones backing fields-of word-of formed step-of statements same-words verifies well-formed step laid-out all-formed bundle-fits wanted some in-order holds first-group second-group has-second early-toss rest-holds spread groups-hold rule every above making coding-plain coding-coin insert number-of first-value those vote-value decided carried follows ended taken conflict held-in leading kept-for-value kept-for-none state-of set-of slot-of slots-of all-written as-station bundle-of zeros slots-fit fits returned opening giving no-station act modules coded-in log openings lineage below given sound
+unfolding pick count first-failed ones backing fields-of word-of formed step-of statements same-words verifies well-formed step laid-out all-formed bundle-fits wanted some in-order holds first-group second-group has-second early-toss rest-holds spread groups-hold rule every above making coding-plain coding-coin insert number-of first-value those vote-value decided carried follows ended taken conflict held-in leading kept-for-value kept-for-none state-of set-of slot-of slots-of all-written as-station bundle-of zeros slots-fit fits returned opening giving no-station act modules log openings lineage below given sound
 computes = tt

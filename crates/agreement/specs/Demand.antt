@@ -8,7 +8,7 @@ use lib.Dec.{eqb}
 use lib.ListN.{length, getD}
 use Rattle.laws.specs.Pick.{pick}
 use Rattle.laws.specs.Count.{count}
-use Rattle.format.specs.Numbers.{kind-INIT, kind-V, none, statement-words, place-of, conflicting}
+use Rattle.format.specs.Numbers.{kind-INIT, kind-V, none, statement-words, covered-words, place-of, conflicting}
 use Rattle.format.specs.Group.{quorum, backing, most-faulty}
 use Rattle.format.specs.Words.{kind-of, value-of, station-of}
 use Rattle.format.specs.Statement.{Statement, covered-at, code-at, same-words}
@@ -19,30 +19,51 @@ use Rattle.sealed.specs.Sealed.{making, Coded, coding-plain, coding-coin}
 use Rattle.station.specs.declared.Station.{Station}
 use Rattle.station.specs.Calls.{Returned, opening, giving, no-station}
 use Rattle.station.specs.Words.{Lengths}
-use Rattle.station.specs.Returns.{unrefused, wrote}
+use Rattle.station.specs.Returns.{unrefused, wrote, took}
 
 -- ---- the list
--- "Each call names its site and brings any settings, words and lent output"; a giving any station too, and which of the site's openings it means
+-- what a call does: it "brings any settings, words and lent output"; a giving any station too, and which of the site's openings it means
+pub data Action : Type 0 where
+  opens : (question proposal : ℕ) (out : List ℕ) → Action
+  gives : (opening : ℕ) (t : Station) (ws : List ℕ) (coin : ℕ) (out : List ℕ) → Action
+  codes : (ws : List ℕ) → Action
+  tosses : (ws : List ℕ) (coin : ℕ) → Action
+
+-- "Each call names its site"
 pub data Call : Type 0 where
-  opens : (site question proposal : ℕ) (out : List ℕ) → Call
-  gives : (site opening : ℕ) (t : Station) (ws : List ℕ) (coin : ℕ) (out : List ℕ) → Call
-  codes : (site : ℕ) (ws : List ℕ) → Call
-  tosses : (site : ℕ) (ws : List ℕ) (coin : ℕ) → Call
+  call : (site : ℕ) (action : Action) → Call
 
 abbrev pub site : Call → ℕ
-site (opens i q v out) = i
-site (gives i k t ws coin out) = i
-site (codes i ws) = i
-site (tosses i ws coin) = i
+site (call i a) = i
+
+abbrev pub action : Call → Action
+action (call i a) = a
+
+-- what an action is to the stations of its site: it starts one, it goes on with one (that of an opening, as it is brought, which words are given
+-- to), or it codes a statement apart from them. All that follows looks at actions by this view.
+pub data View : Type 0 where
+  starting : View
+  going-on : (opening : ℕ) (t : Station) (ws : List ℕ) → View
+  apart : View
+
+abbrev pub view : Action → View
+view (opens question proposal out) = starting
+view (gives opening t ws coin out) = going-on opening t ws
+view (codes ws) = apart
+view (tosses ws coin) = apart
 
 -- all that a coding returns, as the other calls do
 abbrev pub as-returned : Coded → Returned
 as-returned c = record { number = c .number; count = 0; station = no-station; after = c .after; lent = c .lent }
 
--- words 0 and 1 of a statement that was coded, with the site whose module coded them
+-- words that were coded, with the site whose module coded them
 pub record Entry : Type 0 where
   pub at : ℕ
   pub words : List ℕ
+
+-- the entry of a statement: its words 0 and 1
+abbrev pub is-statement : Entry → Bool
+is-statement e = eqb (length (e .words)) covered-words
 
 -- a station's history: as the last call on it returned it, and the statements that it took, its own included
 pub record Lineage : Type 0 where
@@ -53,14 +74,32 @@ pub data Found : Type 0 where
   nothing : Found
   found : Lineage → Found
 
--- the main statement of the bundle that a call wrote, if it did
-abbrev pub own : Returned → List Statement
-own r = pick (wrote (r .number)) (main-of (r .lent) ∷ []) []
+-- the main statement of the bundle that a call wrote, if it did, and that of the bundle that it was given, if it took it
+abbrev pub written-main : Returned → List Statement
+written-main r = pick (wrote (r .number)) (main-of (r .lent) ∷ []) []
 
--- a giving that is not refused takes the bundle's main statement; the station is then as returned
+abbrev pub given-main : Returned → List ℕ → List Statement
+given-main r ws = pick (took (r .number)) (main-of ws ∷ []) []
+
+-- an opening that is not refused starts a station's history; a giving goes on with it
+abbrev pub opened : Returned → Found
+opened r = found (record { present = r .station; took = written-main r })
+
 abbrev pub gave : Returned → List ℕ → Found → Found
 gave r ws nothing = nothing
-gave r ws (found l) = found (record { present = r .station; took = own r ++ (main-of ws ∷ l .took) })
+gave r ws (found l) = found (record { present = r .station; took = written-main r ++ (given-main r ws ++ l .took) })
+
+-- by the view of a call that its site's station k may be changed by, where `now` says that it is of that site and not refused: how many openings
+-- there are, and the history of station k, where so many openings were before
+abbrev pub counted : View → Bool → ℕ → ℕ
+counted starting now openings = pick now (suc openings) openings
+counted (going-on opening t ws) now openings = openings
+counted apart now openings = openings
+
+abbrev pub went : View → Bool → Returned → ℕ → ℕ → Found → Found
+went starting now r openings k l = pick (now && eqb openings k) (opened r) l
+went (going-on opening t ws) now r openings k l = pick (now && eqb opening k) (gave r ws l) l
+went apart now r openings k l = l
 
 abbrev pub member : ℕ → List ℕ → Bool
 member i [] = false
@@ -72,63 +111,64 @@ logged [] i ws = false
 logged (e ∷ l) i ws = (eqb (e .at) i && same-words (e .words) ws) || logged l i ws
 
 -- "kept q V for v of one round, its own counted": among what a station took, the stations 1 to n with such a vote
+abbrev pub is-vote : ℕ → ℕ → ℕ → ℕ → Statement → Bool
+is-vote question round v i s =
+    eqb (s .kind) kind-V && eqb (s .question) question && eqb (s .round) round && eqb (s .value) v && eqb (s .station) i
+
 abbrev pub votes : List Statement → ℕ → ℕ → ℕ → ℕ → Bool
-votes took question round v i =
-    some (λ s. eqb (s .kind) kind-V && eqb (s .question) question && eqb (s .round) round && eqb (s .value) v && eqb (s .station) i) took
+votes took question round v i = some (is-vote question round v i) took
 
 -- "the site's module coded an INIT with that value on that question"
 abbrev pub proposed : List Entry → ℕ → ℕ → ℕ → Bool
 proposed [] question v i = false
 proposed (e ∷ l) question v i =
-    (eqb (e .at) i && eqb (kind-of (getD (e .words) 0 0)) kind-INIT && eqb (value-of (getD (e .words) 0 0)) v && eqb (getD (e .words) 1 0) question)
+    (is-statement e && eqb (e .at) i && eqb (kind-of (getD (e .words) 0 0)) kind-INIT && eqb (value-of (getD (e .words) 0 0)) v && eqb (getD (e .words) 1 0) question)
     || proposed l question v i
 
+-- what was coded: an opening answered 20, a giving answered 20 or 21 (words 1 and 2 of the bundle), a coding answered 0
+abbrev pub bundle-coded : ℕ → Returned → List Entry
+bundle-coded i r = pick (wrote (r .number)) (record { at = i; words = covered-at (r .lent) (place-of 0) } ∷ []) []
+
+abbrev pub statement-coded : ℕ → Returned → List Entry
+statement-coded i r = pick (eqb (r .number) 0) (record { at = i; words = covered-at (r .lent) 0 } ∷ []) []
+
+abbrev pub coded-in : ℕ → View → Returned → List Entry
+coded-in i starting r = bundle-coded i r
+coded-in i (going-on k t ws) r = bundle-coded i r
+coded-in i apart r = statement-coded i r
+
 module _ (mac : List ℕ → List ℕ → List ℕ) (key : List ℕ) (n : ℕ) where
-  unfoldable pub act : Module → Call → Returned
-  act m (opens i q v out) = opening mac m q v out
-  act m (gives i k t ws coin out) = giving mac m t ws coin out
-  act m (codes i ws) = as-returned (coding-plain mac m ws)
-  act m (tosses i ws coin) = as-returned (coding-coin mac m ws coin)
+  unfoldable pub act : Module → Action → Returned
+  act m (opens question proposal out) = opening mac m question proposal out
+  act m (gives k t ws coin out) = giving mac m t ws coin out
+  act m (codes ws) = as-returned (coding-plain mac m ws)
+  act m (tosses ws coin) = as-returned (coding-coin mac m ws coin)
 
   -- "The list starts, for every n, with the n modules of a group, each made once and with nothing coded"; "Each call gets its site's module as the
   -- last call left it"
   unfoldable pub modules : List Call → ℕ → Module
   modules [] i = making key n i .made
-  modules (c ∷ cs) i = pick (eqb (site c) i) (act (modules cs (site c)) c .after) (modules cs i)
+  modules (c ∷ cs) i = pick (eqb (site c) i) (act (modules cs (site c)) (action c) .after) (modules cs i)
 
   -- what a call returns behind a list
   abbrev pub answer : List Call → Call → Returned
-  answer cs c = act (modules cs (site c)) c
-
-  -- ---- what was coded: an opening answered 20, a giving answered 20 or 21 (words 1 and 2 of the bundle), a coding answered 0
-  unfoldable pub coded-in : Call → Returned → List Entry
-  coded-in (opens i q v out) r = pick (wrote (r .number)) (record { at = i; words = covered-at (r .lent) (place-of 0) } ∷ []) []
-  coded-in (gives i k t ws coin out) r = pick (wrote (r .number)) (record { at = i; words = covered-at (r .lent) (place-of 0) } ∷ []) []
-  coded-in (codes i ws) r = pick (eqb (r .number) 0) (record { at = i; words = covered-at (r .lent) 0 } ∷ []) []
-  coded-in (tosses i ws coin) r = pick (eqb (r .number) 0) (record { at = i; words = covered-at (r .lent) 0 } ∷ []) []
+  answer cs c = act (modules cs (site c)) (action c)
 
   unfoldable pub log : List Call → List Entry
   log [] = []
-  log (c ∷ cs) = coded-in c (answer cs c) ++ log cs
+  log (c ∷ cs) = coded-in (site c) (view (action c)) (answer cs c) ++ log cs
 
   -- ---- a site's stations, one for each opening there that is not refused, counted from 0
+  abbrev pub unrefused-at : List Call → Call → ℕ → Bool
+  unrefused-at cs c i = eqb (site c) i && unrefused (answer cs c .number)
+
   unfoldable pub openings : List Call → ℕ → ℕ
   openings [] i = 0
-  openings (opens j q v out ∷ cs) i = pick (eqb j i && unrefused (answer cs (opens j q v out) .number)) (suc (openings cs i)) (openings cs i)
-  openings (gives j k t ws coin out ∷ cs) i = openings cs i
-  openings (codes j ws ∷ cs) i = openings cs i
-  openings (tosses j ws coin ∷ cs) i = openings cs i
+  openings (c ∷ cs) i = counted (view (action c)) (unrefused-at cs c i) (openings cs i)
 
   unfoldable pub lineage : List Call → ℕ → ℕ → Found
   lineage [] i k = nothing
-  lineage (opens j q v out ∷ cs) i k =
-      let r = answer cs (opens j q v out) in
-      pick (eqb j i && unrefused (r .number) && eqb (openings cs i) k) (found (record { present = r .station; took = own r })) (lineage cs i k)
-  lineage (gives j o t ws coin out ∷ cs) i k =
-      let r = answer cs (gives j o t ws coin out) in
-      pick (eqb j i && unrefused (r .number) && eqb o k) (gave r ws (lineage cs i k)) (lineage cs i k)
-  lineage (codes j ws ∷ cs) i k = lineage cs i k
-  lineage (tosses j ws coin ∷ cs) i k = lineage cs i k
+  lineage (c ∷ cs) i k = went (view (action c)) (unrefused-at cs c i) (answer cs c) (openings cs i) k (lineage cs i k)
 
   pub record Presents (cs : List Call) (i k : ℕ) (t : Station) : Type 0 where
     pub line : Lineage
@@ -137,12 +177,14 @@ module _ (mac : List ℕ → List ℕ → List ℕ) (key : List ℕ) (n : ℕ) w
 
   -- "a site is sound if no coding call on its module is answered 0, and every bundle given there and not refused goes to a station that an opening
   -- there, not refused, returned, as the last call on that station returned it"
+  abbrev pub Behaves : List Call → ℕ → View → ℕ → Type 0
+  Behaves cs i starting number = Unit
+  Behaves cs i (going-on k t ws) number = unrefused number ≡ true → Presents cs i k t
+  Behaves cs i apart number = number ≡ 0 → ⊥
+
   unfoldable pub Sound : ℕ → List Call → Type 0
   Sound i [] = Unit
-  Sound i (opens j q v out ∷ cs) = Sound i cs
-  Sound i (gives j k t ws coin out ∷ cs) = (j ≡ i → unrefused (answer cs (gives j k t ws coin out) .number) ≡ true → Presents cs i k t) × Sound i cs
-  Sound i (codes j ws ∷ cs) = (j ≡ i → answer cs (codes j ws) .number ≡ 0 → ⊥) × Sound i cs
-  Sound i (tosses j ws coin ∷ cs) = (j ≡ i → answer cs (tosses j ws coin) .number ≡ 0 → ⊥) × Sound i cs
+  Sound i (c ∷ cs) = (site c ≡ i → Behaves cs i (view (action c)) (answer cs c .number)) × Sound i cs
 
   -- ---- the premises
   -- "faulty sites are at most half of one less than all, rounded down": so many sites that each other site is sound
@@ -157,13 +199,16 @@ module _ (mac : List ℕ → List ℕ → List ℕ) (key : List ℕ) (n : ℕ) w
       (k : ℕ) → place-of k + statement-words ≤ length ws → same-words (code-at ws (place-of k)) (mac key (covered-at ws (place-of k))) ≡ true
       → logged l (station-of (getD ws (place-of k) 0)) (covered-at ws (place-of k)) ≡ true
 
-  -- each call names a site of the group; a station is a value of its type, with the arrays' declared lengths
+  -- a station is a value of its type, with the arrays' declared lengths
+  abbrev pub Brings : List Call → View → Type 0
+  Brings cs starting = Unit
+  Brings cs (going-on k t ws) = Lengths t × CodesCame (log cs) ws
+  Brings cs apart = Unit
+
+  -- each call names a site of the group
   unfoldable pub Given : List Call → Type 0
   Given [] = Unit
-  Given (opens i q v out ∷ cs) = ((1 ≤ i) × (i ≤ n)) × Given cs
-  Given (gives i k t ws coin out ∷ cs) = ((1 ≤ i) × (i ≤ n)) × (Lengths t × (CodesCame (log cs) ws × Given cs))
-  Given (codes i ws ∷ cs) = ((1 ≤ i) × (i ≤ n)) × Given cs
-  Given (tosses i ws coin ∷ cs) = ((1 ≤ i) × (i ≤ n)) × Given cs
+  Given (c ∷ cs) = ((1 ≤ site c) × (site c ≤ n)) × (Brings cs (view (action c)) × Given cs)
 
   -- ---- the claims
   -- station k of site i decides v on a question
@@ -193,7 +238,7 @@ module _ (mac : List ℕ → List ℕ → List ℕ) (key : List ℕ) (n : ℕ) w
         → backing n (a .present .decision) ≤ count (proposed (log cs) (a .present .identity .question) (a .present .decision)) n
     -- "Under demand 3's premises 10 never occurs at a sound site's station"
     pub no-conflict : (i k : ℕ) (t : Station) (ws : List ℕ) (coin : ℕ) (out : List ℕ) → Sound i cs → Presents cs i k t → CodesCame (log cs) ws
-        → answer cs (gives i k t ws coin out) .number ≡ conflicting → ⊥
+        → answer cs (call i (gives k t ws coin out)) .number ≡ conflicting → ⊥
 
 -- ---- demand 3 under a code function: the claim holds for every n from 2 to 31, every key and every list of calls within the premises
 abbrev pub Demand-3 : (List ℕ → List ℕ → List ℕ) → Type 1

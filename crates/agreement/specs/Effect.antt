@@ -1,8 +1,9 @@
--- What a call does to its site's module and to the log: nothing, or one statement of the site's own, above the module's last pair.
+-- What an action does to its site's module and to the log: no statement and nothing to the module, or one statement of the site's own, above the module's
+-- last pair.
 use mathlib.Core.Path.{_≡_, refl, _∙_, ap}
 use mathlib.Core.Bool.{Bool, true, false, _&&_}
 use mathlib.Core.List.{List, [], _∷_}
-use Prim.Native.Nat.{ℕ, _-_, _<_}
+use Prim.Native.Nat.{ℕ, _<_}
 use native.Mathlib.Omega.{arith}
 use lib.Dec.{eqb, ltb}
 use lib.ListN.{length, getD}
@@ -10,9 +11,9 @@ use borrow.Author.Tests.{eqb-true, eqb-false, ltb-true}
 use Rattle.laws.specs.Pick.{pick}
 use Rattle.laws.specs.Bools.{never, both}
 use Rattle.laws.specs.Refusals.{Test, test, first-failed, all-passed}
-use Rattle.format.specs.Numbers.{statement-words, place-of, out-of-range}
+use Rattle.format.specs.Numbers.{statement-words, out-of-range}
 use Rattle.format.specs.Words.{formed, fields-of}
-use Rattle.format.specs.Statement.{Statement, statement, covered-at, covered, step, well-formed}
+use Rattle.format.specs.Statement.{Statement, statement, covered, step, well-formed}
 use Rattle.format.specs.Layout.{formed-well}
 use Rattle.format.specs.Shape.{Shape, init, proposal, vote, formed-out, formed-in}
 use Rattle.sealed.specs.declared.Module.{Module}
@@ -20,11 +21,11 @@ use Rattle.sealed.specs.Sealed.{above, last-for, advanced, module-fits, is-toss
 use Rattle.station.specs.declared.Station.{Station}
 use Rattle.station.specs.Machine.{Outcome, refused, keeps, sends}
 use Rattle.station.specs.Words.{bundle-of, Lengths}
-use Rattle.station.specs.Calls.{Returned, returned, opening, giving, opening-outcome, giving-outcome, no-station}
+use Rattle.station.specs.Calls.{returned, opening, giving, opening-outcome, giving-outcome, no-station}
 use Rattle.format.specs.ReadBack.{Proper}
 use Rattle.station.specs.Views.{Opens, no-opening, begins, opens-view, Gives, refuses, holds-on, shuts, goes-on, gives-view}
 use Rattle.station.specs.Returns.{unrefused, wrote, wrote-unrefused, sent-wrote}
-use Rattle.agreement.specs.Demand.{Call, opens, gives, codes, tosses, site, Entry, act, coded-in, as-returned}
+use Rattle.agreement.specs.Demand.{Action, opens, gives, codes, tosses, view, Entry, act, bundle-coded, statement-coded, coded-in, as-returned}
 
 abbrev pub entry : ℕ → Statement → Entry
 entry i s = record { at = i; words = covered s }
@@ -37,15 +38,16 @@ refused-silent k e = go (wrote k) refl
     go false x = x
 
 module _ (mac : List ℕ → List ℕ → List ℕ) (eight : (key ws : List ℕ) → length (mac key ws) ≡ 8) (key : List ℕ) (n : ℕ) where
-  pub data Effect (m : Module) (c : Call) : Type 0 where
-    silent : coded-in mac key n c (act mac key n m c) ≡ [] → act mac key n m c .after ≡ m → Effect m c
+  -- what a module codes at a call of site i
+  abbrev pub coded-at : Module → ℕ → Action → List Entry
+  coded-at m i a = coded-in i (view a) (act mac key n m a)
+
+  pub data Effect (m : Module) (i : ℕ) (a : Action) : Type 0 where
+    silent : coded-at m i a ≡ [] → act mac key n m a .after ≡ m → Effect m i a
     speaks : (s : Statement) → Proper (m .n) s → s .station ≡ m .station → above (last-for m (s .question)) (s .question) (step s) ≡ true
-        → coded-in mac key n c (act mac key n m c) ≡ entry (site c) s ∷ [] → act mac key n m c .after ≡ advanced m (s .question) (step s) → Effect m c
+        → coded-at m i a ≡ entry i s ∷ [] → act mac key n m a .after ≡ advanced m (s .question) (step s) → Effect m i a
 
   -- what an outcome of opening or giving leaves in the log, and in the module
-  abbrev logs : ℕ → Returned → List Entry
-  logs i r = pick (wrote (r .number)) (record { at = i; words = covered-at (r .lent) (place-of 0) } ∷ []) []
-
   abbrev pub log-of : ℕ → Outcome → List Entry
   log-of i (refused k) = []
   log-of i (keeps k u) = []
@@ -61,7 +63,7 @@ module _ (mac : List ℕ → List ℕ → List ℕ) (eight : (key ws : List ℕ)
   Numbered (keeps k u) = wrote k ≡ false
   Numbered (sends k s c u) = wrote k ≡ true
 
-  logs-is : (i : ℕ) (m : Module) (t : Station) (out : List ℕ) (o : Outcome) → Numbered o → logs i (returned m t out o) ≡ log-of i o
+  logs-is : (i : ℕ) (m : Module) (t : Station) (out : List ℕ) (o : Outcome) → Numbered o → bundle-coded i (returned m t out o) ≡ log-of i o
   unfolding pick returned bundle-of
   logs-is i m t out (refused k) e = rw e
   logs-is i m t out (keeps k u) e = rw e
@@ -79,11 +81,11 @@ module _ (mac : List ℕ → List ℕ → List ℕ) (eight : (key ws : List ℕ)
     open-numbered _ (no-opening {k} w) = refused-silent k w
     open-numbered _ (begins room r p a) = refl
 
-    pub open-coded : coded-in mac key n (opens i q v out) (act mac key n m (opens i q v out)) ≡ log-of i (opening-outcome mac m q v out)
-    unfolding act coded-in opening
+    pub open-coded : coded-at m i (opens q v out) ≡ log-of i (opening-outcome mac m q v out)
+    unfolding act opening
     open-coded = logs-is i m no-station out (opening-outcome mac m q v out) (open-numbered (opening-outcome mac m q v out) (opens-view mac m q v out))
 
-    pub open-after : act mac key n m (opens i q v out) .after ≡ after-of m (opening-outcome mac m q v out)
+    pub open-after : act mac key n m (opens q v out) .after ≡ after-of m (opening-outcome mac m q v out)
     unfolding act opening
     open-after = after-is m no-station out (opening-outcome mac m q v out)
 
@@ -95,22 +97,19 @@ module _ (mac : List ℕ → List ℕ → List ℕ) (eight : (key ws : List ℕ)
     give-numbered _ (shuts A size c) = refl
     give-numbered _ (goes-on A size c a w) = ap wrote w ∙ sent-wrote _
 
-    pub give-coded : coded-in mac key n (gives i k t ws coin out) (act mac key n m (gives i k t ws coin out)) ≡ log-of i (giving-outcome mac m t ws coin out)
-    unfolding act coded-in giving
+    pub give-coded : coded-at m i (gives k t ws coin out) ≡ log-of i (giving-outcome mac m t ws coin out)
+    unfolding act giving
     give-coded = logs-is i m t out (giving-outcome mac m t ws coin out) (give-numbered (giving-outcome mac m t ws coin out) (gives-view mac m t ws coin out L))
 
-    pub give-after : act mac key n m (gives i k t ws coin out) .after ≡ after-of m (giving-outcome mac m t ws coin out)
+    pub give-after : act mac key n m (gives k t ws coin out) .after ≡ after-of m (giving-outcome mac m t ws coin out)
     unfolding act giving
     give-after = after-is m t out (giving-outcome mac m t ws coin out)
 
   -- ---- coding, plain and with the coin: the statement s, by the refusal found
-  abbrev coding-logs : ℕ → Returned → List Entry
-  coding-logs i r = pick (eqb (r .number) 0) (record { at = i; words = covered-at (r .lent) 0 } ∷ []) []
-
   pub data Coding (m : Module) (s : Statement) (ws : List ℕ) (i refusal : ℕ) : Type 0 where
-    not-coded : (refusal ≡ 0 → ⊥) → coding-logs i (as-returned (coding (mac (m .key)) m s ws refusal)) ≡ [] → coding (mac (m .key)) m s ws refusal .after ≡ m
+    not-coded : (refusal ≡ 0 → ⊥) → statement-coded i (as-returned (coding (mac (m .key)) m s ws refusal)) ≡ [] → coding (mac (m .key)) m s ws refusal .after ≡ m
         → Coding m s ws i refusal
-    is-coded : refusal ≡ 0 → coding-logs i (as-returned (coding (mac (m .key)) m s ws refusal)) ≡ entry i (signed (mac (m .key)) s) ∷ []
+    is-coded : refusal ≡ 0 → statement-coded i (as-returned (coding (mac (m .key)) m s ws refusal)) ≡ entry i (signed (mac (m .key)) s) ∷ []
         → coding (mac (m .key)) m s ws refusal .after ≡ advanced m (s .question) (step s) → Coding m s ws i refusal
 
   coding-view : (m : Module) (s : Statement) (ws : List ℕ) (i refusal : ℕ) → Coding m s ws i refusal
@@ -140,21 +139,21 @@ module _ (mac : List ℕ → List ℕ → List ℕ) (eight : (key ws : List ℕ)
   unfolding well-formed
   signed-proper m s f = record { formed = f; eight = eight (m .key) (covered s) }
 
-  pub plain-effect : (m : Module) (i : ℕ) (ws : List ℕ) → Effect m (codes i ws)
-  unfolding act coded-in coding-plain step
+  pub plain-effect : (m : Module) (i : ℕ) (ws : List ℕ) → Effect m i (codes ws)
+  unfolding act coding-plain step
   plain-effect m i ws = go (coding-view m (statement ws 0) ws i _)
     where
       refusal : ℕ
       refusal = first-failed (test (module-fits m) out-of-range ∷ coding-tests m ws (by-plain (statement ws 0 .kind) (statement ws 0 .flag)))
 
-      go : Coding m (statement ws 0) ws i refusal → Effect m (codes i ws)
+      go : Coding m (statement ws 0) ws i refusal → Effect m i (codes ws)
       go (not-coded z l a) = silent l a
       go (is-coded z l a) =
           let c = codable m ws (by-plain (statement ws 0 .kind) (statement ws 0 .flag)) (test (module-fits m) out-of-range) (omega arith) z .1 in
           speaks (signed (mac (m .key)) (statement ws 0)) (signed-proper m (statement ws 0) (c .formed)) (c .mine) (c .later) l a
 
-  pub toss-effect : (m : Module) (i : ℕ) (ws : List ℕ) (coin : ℕ) → Effect m (tosses i ws coin)
-  unfolding act coded-in coding-coin step
+  pub toss-effect : (m : Module) (i : ℕ) (ws : List ℕ) (coin : ℕ) → Effect m i (tosses ws coin)
+  unfolding act coding-coin step
   toss-effect m i ws coin = go (coding-view m (with-value coin (statement ws 0)) ws i _)
     where
       refusal : ℕ
@@ -165,7 +164,7 @@ module _ (mac : List ℕ → List ℕ → List ℕ) (eight : (key ws : List ℕ)
       tossed s (proposal a b c d e) t low = proposal a b c low e
       tossed s (vote a b c d e) t low = absurd (omega (arith, eqb-true (s .kind) 1 (both (eqb (s .kind) 1) _ t .0)))
 
-      go : Coding m (with-value coin (statement ws 0)) ws i refusal → Effect m (tosses i ws coin)
+      go : Coding m (with-value coin (statement ws 0)) ws i refusal → Effect m i (tosses ws coin)
       go (not-coded z l a) = silent l a
       go (is-coded z l a) =
           let c = codable m ws (by-coin (statement ws 0 .kind) (statement ws 0 .flag)) (test (module-fits m && ltb coin 2) out-of-range) (omega arith) z in

@@ -11,7 +11,7 @@ use Rattle.laws.specs.Count.{count}
 use Rattle.format.specs.Numbers.{kind-P, kind-V, none, D-GET, R-GET}
 use Rattle.station.specs.declared.Stage.the-variants.{Gathering}
 use Rattle.station.specs.declared.Station.{Station}
-use Rattle.agreement.specs.Demand.{Call, opens, gives, codes, tosses, member, votes, proposed, log, Sound, FewFaulty, Given, Decides, Claim}
+use Rattle.agreement.specs.Demand.{opens, gives, codes, tosses, Call, call, member, votes, proposed, log, Sound, FewFaulty, Given, Decides, Claim}
 use Rattle.agreement.specs.Prefix.{sound-before}
 use Rattle.agreement.specs.Theorem.{claim}
 use Rattle.agreement.specs.Computed.{computes, last, written, numbers, line, present, given, given-out, few, others-out, few-out, decides, decides-out}
@@ -25,7 +25,7 @@ out = replicate 331 0
 
 -- the list with one call more: a site gives words to its first station, as the last call on that station returned it
 abbrev pub give : ℕ → List ℕ → ℕ → List Call → List Call
-give i ws coin cs = gives i 0 (present toy [] 3 cs i 0) ws coin out ∷ cs
+give i ws coin cs = call i (gives 0 (present toy [] 3 cs i 0) ws coin out) ∷ cs
 
 -- the bundle that the last call of a list wrote; all the words that it left in its output
 abbrev pub bundle : List Call → List ℕ
@@ -53,11 +53,11 @@ forged =
 -- ---- the list, call by call, each with the number that it answers
 -- 20: site 1 opens on question 1 with 0
 abbrev pub calls-1 : List Call
-calls-1 = opens 1 1 0 out ∷ []
+calls-1 = call 1 (opens 1 0 out) ∷ []
 
 -- 20: and so does site 2
 abbrev pub calls-2 : List Call
-calls-2 = opens 2 1 0 out ∷ calls-1
+calls-2 = call 2 (opens 1 0 out) ∷ calls-1
 
 -- 5: site 1 is given site 2's INIT with its last code word damaged
 abbrev pub damaged : List ℕ
@@ -68,7 +68,7 @@ calls-3 = give 1 damaged 0 calls-2
 
 -- 0: site 3 has its module code a P of round 1 with 1, which no INIT backs
 abbrev pub calls-4 : List Call
-calls-4 = codes 3 (of-3 kind-P 1 D-GET 1) ∷ calls-3
+calls-4 = call 3 (codes (of-3 kind-P 1 D-GET 1)) ∷ calls-3
 
 -- 20: site 1 is given site 2's INIT, and sends P 0
 abbrev pub calls-5 : List Call
@@ -88,7 +88,7 @@ calls-8 = give 2 (bundle calls-5) 0 calls-7
 
 -- 0: site 3 has its module code a V none of round 1
 abbrev pub calls-9 : List Call
-calls-9 = codes 3 (of-3 kind-V none D-GET 1) ∷ calls-8
+calls-9 = call 3 (codes (of-3 kind-V none D-GET 1)) ∷ calls-8
 
 -- 20: site 1 is given that vote; its certificate mixes site 1's own P 0 with site 3's P 1. Site 1 takes it, decides nothing, and sends P 0 of round 2
 abbrev pub poison : List ℕ
@@ -103,7 +103,7 @@ calls-11 = give 2 (bundle calls-7) 1 calls-10
 
 -- 0: site 3 tosses 1 for an R-GET P of round 2
 abbrev pub calls-12 : List Call
-calls-12 = tosses 3 (of-3 kind-P 0 R-GET 2) 1 ∷ calls-11
+calls-12 = call 3 (tosses (of-3 kind-P 0 R-GET 2) 1) ∷ calls-11
 
 -- 20: site 1 is given site 2's P of round 2, and sends V 0
 abbrev pub calls-13 : List Call
@@ -119,15 +119,15 @@ calls-15 = give 1 (bundle calls-14) 1 calls-14
 
 -- 12: site 2 brings its station of before its decision, and is given the same V again
 abbrev pub calls-16 : List Call
-calls-16 = gives 2 0 (present toy [] 3 calls-10 2 0) (bundle calls-7) 1 out ∷ calls-15
+calls-16 = call 2 (gives 0 (present toy [] 3 calls-10 2 0) (bundle calls-7) 1 out) ∷ calls-15
 
 -- 20: site 1 opens on question 2 with 1
 abbrev pub calls-17 : List Call
-calls-17 = opens 1 2 1 out ∷ calls-16
+calls-17 = call 1 (opens 2 1 out) ∷ calls-16
 
 -- 20: site 3 brings the forged station, and is given that INIT
 abbrev pub example : List Call
-example = gives 3 0 forged (bundle calls-17) 1 out ∷ calls-17
+example = call 3 (gives 0 forged (bundle calls-17) 1 out) ∷ calls-17
 
 -- the numbers, the newest first as the calls are
 abbrev pub answers : List ℕ

@@ -4,7 +4,7 @@ use mathlib.Core.Path.{_≡_, refl, sym, _∙_, ap, subst}
 use mathlib.Core.Bool.{Bool, true, false, _&&_}
 use mathlib.Core.Logic.{_⊎_, inl, inr}
 use mathlib.Core.List.{List, [], _∷_, _++_, List·Memᴰ·head, List·Memᴰ·tail}
-use Prim.Native.Nat.{ℕ, suc, _+_, _-_, _*_, _≤_, _<_}
+use Prim.Native.Nat.{ℕ, suc, _+_, _*_, _≤_, _<_}
 use native.Mathlib.Omega.{arith}
 use lib.Dec.{eqb, ltb}
 use lib.ListN.{length, take}
@@ -15,7 +15,7 @@ use Rattle.laws.specs.Refusals.{All, all-map}
 use Rattle.laws.specs.Count.{count}
 use Rattle.format.specs.Numbers.{kind-INIT, kind-P, kind-V, none, D-GET, R-GET}
 use Rattle.format.specs.Group.{quorum}
-use Rattle.format.specs.Statement.{Statement, statement, statements, step}
+use Rattle.format.specs.Statement.{Statement, statements, step}
 use Rattle.format.specs.Bundle.{count-in, main-of, certificate-of}
 use Rattle.format.specs.Layout.{all-well}
 use Rattle.rules.specs.Rules.{some, some-value, which}

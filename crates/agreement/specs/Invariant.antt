@@ -2,7 +2,7 @@
 -- what a sound site's module coded is justified.
 use mathlib.Core.Path.{_≡_, refl, sym, _∙_, ap, subst}
 use mathlib.Core.Bool.{Bool, true, false}
-use mathlib.Core.List.{List, [], _∷_}
+use mathlib.Core.List.{List, [], _∷_, _++_}
 use Prim.Native.Nat.{ℕ, _≤_}
 use lib.Dec.{eqb}
 use borrow.Author.Tests.{eqb-true, eqb-false, le-leb}
@@ -16,11 +16,12 @@ use Rattle.sealed.specs.declared.Module.{Module}
 use Rattle.sealed.specs.Sealed.{above, last-for, advanced, making}
 use Rattle.sealed.specs.Rises.{stays-below, coded-below}
 use Rattle.format.specs.ReadBack.{Proper, word-back}
+use Rattle.station.specs.Written.{all-append}
 use Rattle.agreement.specs.Log.{OtherPair, Distinct}
 use Rattle.agreement.specs.Safe.{Just, Split}
 use Rattle.agreement.specs.Just.{bare, just-more, split-more, bare-just}
 use Rattle.agreement.specs.Effect.{entry}
-use Rattle.agreement.specs.Line.{reads}
+use Rattle.agreement.specs.Line.{reads, reads-append, AtSite}
 use Rattle.agreement.specs.Demand.{Entry, member}
 
 -- a statement whose pair is not above a module's last: the module codes nothing more of that question and step
@@ -32,6 +33,14 @@ pub covered-back : (n : ℕ) (s : Statement) → n ≤ 31 → Proper n s → sta
 covered-back n s top p =
     let b = word-back n s top (p .formed) in
     λ i. record { kind = b .kind i; value = b .value i; flag = b .flag i; station = b .station i; round = b .round i; question = s .question; code = [] }
+
+-- the entry of a statement: it is read again, and is of its site
+pub entry-read : (n i : ℕ) (s : Statement) → n ≤ 31 → Proper n s → reads (entry i s ∷ []) ≡ bare s ∷ []
+unfolding reads pick
+entry-read n i s top p = ap (λ (x : Statement). x ∷ []) (covered-back n s top p)
+
+pub entry-at : (n i : ℕ) (s : Statement) → n ≤ 31 → Proper n s → s .station ≡ i → All AtSite (entry i s ∷ [])
+entry-at n i s top p mine = ((λ e. sym (ap (λ (x : Statement). x .station) (covered-back n s top p) ∙ mine)), tt)
 
 bare-formed : (n : ℕ) (s : Statement) → Formed n s → Formed n (bare s)
 bare-formed n s f = record { low = f .low; high = f .high; shape = same (f .shape) }
@@ -52,7 +61,7 @@ module _ (key : List ℕ) (n : ℕ) (faulty : List ℕ) where
     pub mods : (i : ℕ) → 1 ≤ i → i ≤ n → Mine i (f i)
     pub bound : All (λ s. Below (f (s .station)) s) (reads l)
     pub formed : All (Formed n) (reads l)
-    pub sites : All (λ e. e .at ≡ statement (e .words) 0 .station) l
+    pub sites : All AtSite l
     pub distinct : Distinct (reads l)
     pub just : All (λ s. member (s .station) faulty ≡ false → Just n (reads l) s) (reads l)
     pub split : All (λ s. member (s .station) faulty ≡ false → s .kind ≡ kind-V → s .value ≡ none → Split n (reads l) (s .question) (s .round)) (reads l)
@@ -67,19 +76,21 @@ module _ (key : List ℕ) (n : ℕ) (faulty : List ℕ) where
           rw (le-leb 2 n low, le-leb n 31 top, le-leb 1 i lo, le-leb i n hi)
           (record { same-key = refl; same-n = refl; same-number = refl })
 
-  pub unchanged : (f g : ℕ → Module) (l : List Entry) → ((i : ℕ) → f i ≡ g i) → LogInv f l → LogInv g l
-  unchanged f g l e I =
+  -- a call that codes no statement and leaves its module as it was, whatever else it codes
+  pub unchanged : (f g : ℕ → Module) (es l : List Entry) → reads es ≡ [] → All AtSite es → ((i : ℕ) → f i ≡ g i) → LogInv f l → LogInv g (es ++ l)
+  unchanged f g es l none-there at e I =
+      let same : reads l ≡ reads (es ++ l) = sym (reads-append es l ∙ ap (λ (x : List Statement). x ++ reads l) none-there) in
       record {
         mods = λ i lo hi. subst (λ (m : Module). Mine i m) (e i) (I .mods i lo hi);
-        bound = all-map (λ s b. subst (λ (m : Module). Below m s) (e (s .station)) b) (reads l) (I .bound);
-        formed = I .formed;
-        sites = I .sites;
-        distinct = I .distinct;
-        just = I .just;
-        split = I .split;
+        bound = subst (λ (x : List Statement). All (λ s. Below (g (s .station)) s) x) same (all-map (λ s b. subst (λ (m : Module). Below m s) (e (s .station)) b) (reads l) (I .bound));
+        formed = subst (λ (x : List Statement). All (Formed n) x) same (I .formed);
+        sites = all-append AtSite es l at (I .sites);
+        distinct = subst Distinct same (I .distinct);
+        just = subst (λ (x : List Statement). All (λ s. member (s .station) faulty ≡ false → Just n x s) x) same (I .just);
+        split = subst (λ (x : List Statement). All (λ s. member (s .station) faulty ≡ false → s .kind ≡ kind-V → s .value ≡ none → Split n x (s .question) (s .round)) x) same (I .split);
       }
 
-  module _ (f g : ℕ → Module) (l : List Entry) (j : ℕ) (s : Statement) (top : n ≤ 31) (lo : 1 ≤ j) (hi : j ≤ n) (I : LogInv f l) (p : Proper n s) (mine : s .station ≡ j)
+  module _ (f g : ℕ → Module) (es l : List Entry) (j : ℕ) (s : Statement) (one : reads es ≡ bare s ∷ []) (at : All AtSite es) (top : n ≤ 31) (lo : 1 ≤ j) (hi : j ≤ n) (I : LogInv f l) (p : Proper n s) (mine : s .station ≡ j)
       (high : above (last-for (f j) (s .question)) (s .question) (step s) ≡ true) (now : g j ≡ advanced (f j) (s .question) (step s)) (others : (i : ℕ) → (i ≡ j → ⊥) → g i ≡ f i)
       (sj : member j faulty ≡ false → Just n (reads l) s)
       (ss : member j faulty ≡ false → s .kind ≡ kind-V → s .value ≡ none → Split n (reads l) (s .question) (s .round)) where
@@ -123,18 +134,17 @@ module _ (key : List ℕ) (n : ℕ) (faulty : List ℕ) where
     abbrev l2 : List Statement
     l2 = bare s ∷ reads l
 
-    reads-on : reads (entry j s ∷ l) ≡ l2
-    unfolding reads
-    reads-on = ap (λ (x : Statement). x ∷ reads l) (covered-back n s top p)
+    reads-on : reads (es ++ l) ≡ l2
+    reads-on = reads-append es l ∙ ap (λ (x : List Statement). x ++ reads l) one
 
-    pub log-add : LogInv g (entry j s ∷ l)
+    pub log-add : LogInv g (es ++ l)
     log-add =
         record {
           mods = mods-on;
           bound = subst (λ (x : List Statement). All (λ t. Below (g (t .station)) t) x) (sym reads-on)
               (subst (λ (i : ℕ). Below (g i) (bare s)) (sym mine) now-below, all-map below-on (reads l) (I .bound));
           formed = subst (λ (x : List Statement). All (Formed n) x) (sym reads-on) (bare-formed n s shape-s, I .formed);
-          sites = (sym (ap (λ (x : Statement). x .station) (covered-back n s top p) ∙ mine), I .sites);
+          sites = all-append AtSite es l at (I .sites);
           distinct = subst Distinct (sym reads-on) (all-map under (reads l) (I .bound), I .distinct);
           just = subst (λ (x : List Statement). All (λ t. member (t .station) faulty ≡ false → Just n x t) x) (sym reads-on) (
             (λ h. just-more n (bare s) (reads l) (bare s) (bare-just n (reads l) s (sj (ap (λ (i : ℕ). member i faulty) (sym mine) ∙ h)))),

@@ -1,11 +1,12 @@
 -- What is known of a sound site's station: all that it took was coded and is justified, and its decision is what its votes say.
 use mathlib.Core.Path.{_≡_, refl, sym, _∙_, ap, subst}
 use mathlib.Core.Bool.{Bool, true, false, _&&_, _||_}
-use mathlib.Core.List.{List, [], _∷_, List·Memᴰ·head, List·Memᴰ·tail}
+use mathlib.Core.List.{List, [], _∷_, _++_, List·Memᴰ·head, List·Memᴰ·tail}
 use Prim.Native.Nat.{ℕ, zero, suc, _+_, _-_, _*_, _^_, _≤_, _<_}
 use native.Mathlib.Omega.{arith}
 use lib.Dec.{eqb}
 use lib.ListN.{length, getD, take, drop}
+use Rattle.laws.specs.Pick.{pick}
 use Rattle.laws.specs.Bools.{never, both}
 use Rattle.laws.specs.Refusals.{All, all-map}
 use Rattle.laws.specs.Count.{count}
@@ -22,31 +23,49 @@ use Rattle.station.specs.Machine.{stage-step}
 use Rattle.station.specs.Words as W
 use Rattle.station.specs.Words.{state-of, Lengths}
 use Rattle.station.specs.Fit.{fits}
-use Rattle.station.specs.End.{known}
 use Rattle.station.specs.Written.{Certain}
 use Rattle.agreement.specs.Log.{In}
 use Rattle.agreement.specs.Safe.{Just}
 use Rattle.agreement.specs.Just.{Coded, just-more, coded-more}
 use Rattle.agreement.specs.Took.{NowHeld}
-use Rattle.agreement.specs.Demand.{Entry, votes, logged, CodesCame}
+use Rattle.agreement.specs.Demand.{Entry, is-statement, votes, logged, CodesCame}
 
--- the statements of a log
+-- the statements of a log: what other words were coded is left out
 unfoldable pub reads : List Entry → List Statement
 reads [] = []
-reads (e ∷ l) = statement (e .words) 0 ∷ reads l
+reads (e ∷ l) = pick (is-statement e) (statement (e .words) 0 ∷ reads l) (reads l)
+
+pub reads-append : (a b : List Entry) → reads (a ++ b) ≡ reads a ++ reads b
+unfolding reads pick
+reads-append [] b = refl
+reads-append (e ∷ a) b = go (is-statement e) (reads-append a b)
+  where
+    go : (x : Bool) → reads (a ++ b) ≡ reads a ++ reads b
+        → pick x (statement (e .words) 0 ∷ reads (a ++ b)) (reads (a ++ b)) ≡ pick x (statement (e .words) 0 ∷ reads a) (reads a) ++ reads b
+    go true h = ap (λ (l : List Statement). statement (e .words) 0 ∷ l) h
+    go false h = h
+
+-- a statement's entry is of the site that it names
+abbrev pub AtSite : Entry → Type 0
+AtSite e = is-statement e ≡ true → e .at ≡ statement (e .words) 0 .station
 
 -- ---- words whose codes came from the log
 in-reads : (l : List Entry) (i : ℕ) (w q : ℕ) → logged l i (w ∷ q ∷ []) ≡ true → In (statement (w ∷ q ∷ []) 0) (reads l)
-unfolding reads
+unfolding reads pick
 in-reads [] i w q h = never false refl h
 in-reads (e ∷ l) i w q h = go (eqb (e .at) i && same-words (e .words) (w ∷ q ∷ [])) refl h (in-reads l i w q)
   where
     go : (b : Bool) → (eqb (e .at) i && same-words (e .words) (w ∷ q ∷ [])) ≡ b → (b || logged l i (w ∷ q ∷ [])) ≡ true
-        → (logged l i (w ∷ q ∷ []) ≡ true → In (statement (w ∷ q ∷ []) 0) (reads l)) → In (statement (w ∷ q ∷ []) 0) (statement (e .words) 0 ∷ reads l)
+        → (logged l i (w ∷ q ∷ []) ≡ true → In (statement (w ∷ q ∷ []) 0) (reads l))
+        → In (statement (w ∷ q ∷ []) 0) (pick (is-statement e) (statement (e .words) 0 ∷ reads l) (reads l))
     go true x y ih =
         let s : e .words ≡ w ∷ q ∷ [] = same-out (e .words) (w ∷ q ∷ []) (both (eqb (e .at) i) _ x .1) in
-        List·Memᴰ·head (ap (λ (z : List ℕ). statement z 0) (sym s))
-    go false x y ih = List·Memᴰ·tail (ih y)
+        rw s (List·Memᴰ·head refl)
+    go false x y ih = further (is-statement e) (ih y)
+      where
+        further : (b : Bool) → In (statement (w ∷ q ∷ []) 0) (reads l) → In (statement (w ∷ q ∷ []) 0) (pick b (statement (e .words) 0 ∷ reads l) (reads l))
+        further true h = List·Memᴰ·tail h
+        further false h = h
 
 -- word 0 of a well-formed statement is a word
 low-word : (n : ℕ) (ws : List ℕ) (at : ℕ) → well-formed n (statement ws at) ≡ true → getD ws at 0 < 2 ^ 32

@@ -9,13 +9,11 @@ use lib.Dec.{eqb}
 use borrow.Author.Tests.{eqb-true, ne-eqb}
 use Rattle.laws.specs.Pick.{pick}
 use Rattle.laws.specs.Bools.{right}
-use Rattle.laws.specs.Count.{count}
 use Rattle.format.specs.Statement.{Statement}
-use Rattle.format.specs.Bundle.{main-of}
 use Rattle.rules.specs.Rules.{some}
 use Rattle.station.specs.Calls.{Returned}
 use Rattle.agreement.specs.Counting.{count-mono}
-use Rattle.agreement.specs.Demand.{Call, opens, gives, codes, tosses, Lineage, Found, nothing, found, own, gave, votes, answer, openings, lineage, Sound, FewFaulty, Given, Decides}
+use Rattle.agreement.specs.Demand.{Call, action, View, starting, going-on, apart, view, Lineage, Found, nothing, found, written-main, given-main, opened, gave, counted, went, votes, answer, unrefused-at, openings, lineage, Sound, FewFaulty, Given, Decides}
 
 -- what is among some statements is among more of them
 some-behind : (p : Statement → Bool) (new l : List Statement) → some p l ≡ true → some p (new ++ l) ≡ true
@@ -49,9 +47,9 @@ given-on : (b : Bool) (r : Returned) (ws : List ℕ) (f : Found) (l : Lineage) �
 unfolding pick
 given-on true r ws f l e =
     record {
-      line = record { present = r .station; took = own r ++ (main-of ws ∷ l .took) };
+      line = record { present = r .station; took = written-main r ++ (given-main r ws ++ l .took) };
       is = ap (gave r ws) e;
-      more = λ p h. some-behind p (own r) _ (some-behind p (main-of ws ∷ []) (l .took) h);
+      more = λ p h. some-behind p (written-main r) _ (some-behind p (given-main r ws) (l .took) h);
     }
 given-on false r ws f l e = record { line = l; is = e; more = λ p h. h }
 
@@ -64,22 +62,27 @@ and-false : (b : Bool) → (b && false) ≡ false
 and-false true = refl
 and-false false = refl
 
+-- both, by the view of the call
+there-by : (v : View) (now : Bool) (r : Returned) (o k : ℕ) (f : Found) (l : Lineage) → ((l : Lineage) → f ≡ found l → k < o) → went v now r o k f ≡ found l → k < counted v now o
+there-by starting now r o k f l h e = opened-there now o k (opened r) f l h e
+there-by (going-on j t ws) now r o k f l h e = given-there (now && eqb j k) r ws f l h e
+there-by apart now r o k f l h e = h l e
+
+on-by : (v : View) (now : Bool) (r : Returned) (o k : ℕ) (f : Found) (l : Lineage) → f ≡ found l → k < o → Grown (went v now r o k f) l
+on-by starting now r o k f l e below = passed-by (now && eqb o k) (opened r) f l e (rw (ne-eqb o k (λ z. omega arith), and-false))
+on-by (going-on j t ws) now r o k f l e below = given-on (now && eqb j k) r ws f l e
+on-by apart now r o k f l e below = record { line = l; is = e; more = λ p h. h }
+
 module _ (mac : List ℕ → List ℕ → List ℕ) (key : List ℕ) (n : ℕ) where
   pub given-before : (later cs : List Call) → Given mac key n (later ++ cs) → Given mac key n cs
   unfolding Given
   given-before [] cs g = g
-  given-before (opens j q v out ∷ later) cs g = given-before later cs (g .1)
-  given-before (gives j o t ws coin out ∷ later) cs g = given-before later cs (g .1 .1 .1)
-  given-before (codes j ws ∷ later) cs g = given-before later cs (g .1)
-  given-before (tosses j ws coin ∷ later) cs g = given-before later cs (g .1)
+  given-before (c ∷ later) cs g = given-before later cs (g .1 .1)
 
   pub sound-before : (i : ℕ) (later cs : List Call) → Sound mac key n i (later ++ cs) → Sound mac key n i cs
   unfolding Sound
   sound-before i [] cs s = s
-  sound-before i (opens j q v out ∷ later) cs s = sound-before i later cs s
-  sound-before i (gives j o t ws coin out ∷ later) cs s = sound-before i later cs (s .1)
-  sound-before i (codes j ws ∷ later) cs s = sound-before i later cs (s .1)
-  sound-before i (tosses j ws coin ∷ later) cs s = sound-before i later cs (s .1)
+  sound-before i (c ∷ later) cs s = sound-before i later cs (s .1)
 
   pub few-before : (later cs : List Call) → FewFaulty mac key n (later ++ cs) → FewFaulty mac key n cs
   few-before later cs f = record { faulty = f .faulty; few = f .few; others = λ i a b h. sound-before i later cs (f .others i a b h) }
@@ -88,17 +91,12 @@ module _ (mac : List ℕ → List ℕ → List ℕ) (key : List ℕ) (n : ℕ) w
   numbered : (i k : ℕ) (cs : List Call) (l : Lineage) → lineage mac key n cs i k ≡ found l → k < openings mac key n cs i
   unfolding lineage openings
   numbered i k [] l e = absurd (let z : _≡_ {A = ℕ} 0 1 = cc in omega arith)
-  numbered i k (opens j q v out ∷ cs) l e = opened-there _ _ k _ _ l (numbered i k cs) e
-  numbered i k (gives j o t ws coin out ∷ cs) l e = given-there _ (answer mac key n cs (gives j o t ws coin out)) ws _ l (numbered i k cs) e
-  numbered i k (codes j ws ∷ cs) l e = numbered i k cs l e
-  numbered i k (tosses j ws coin ∷ cs) l e = numbered i k cs l e
+  numbered i k (c ∷ cs) l e = there-by (view (action c)) (unrefused-at mac key n cs c i) (answer mac key n cs c) (openings mac key n cs i) k (lineage mac key n cs i k) l (numbered i k cs) e
 
   onward : (c : Call) (cs : List Call) (i k : ℕ) (l : Lineage) → lineage mac key n cs i k ≡ found l → Grown (lineage mac key n (c ∷ cs) i k) l
   unfolding lineage
-  onward (opens j q v out) cs i k l e = passed-by _ _ _ l e (rw (ne-eqb (openings mac key n cs i) k (λ z. omega (arith, numbered i k cs l e)), and-false))
-  onward (gives j o t ws coin out) cs i k l e = given-on _ (answer mac key n cs (gives j o t ws coin out)) ws _ l e
-  onward (codes j ws) cs i k l e = record { line = l; is = e; more = λ p h. h }
-  onward (tosses j ws coin) cs i k l e = record { line = l; is = e; more = λ p h. h }
+  onward c cs i k l e =
+      on-by (view (action c)) (unrefused-at mac key n cs c i) (answer mac key n cs c) (openings mac key n cs i) k (lineage mac key n cs i k) l e (numbered i k cs l e)
 
   decides-on : (c : Call) (cs : List Call) (i k question v : ℕ) → Decides mac key n cs i k question v → Decides mac key n (c ∷ cs) i k question v
   decides-on c cs i k question v d =

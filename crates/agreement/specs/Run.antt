@@ -1,14 +1,15 @@
 -- Every list of calls that meets the premises keeps the invariant of the log and what is known of sound sites' stations.
 use mathlib.Core.Path.{_≡_, refl, sym, _∙_, ap, subst}
-use mathlib.Core.Bool.{Bool, true, false, not, _&&_, _||_}
+use mathlib.Core.Bool.{Bool, true, false, _&&_, _||_}
 use mathlib.Core.List.{List, [], _∷_, _++_, append-assoc, List·Memᴰ·head}
-use Prim.Native.Nat.{ℕ, _+_, _-_, _≤_, _<_}
+use Prim.Native.Nat.{ℕ, _≤_, _<_}
 use native.Mathlib.Omega.{arith}
 use lib.Dec.{eqb, ltb}
 use lib.ListN.{length, drop}
 use borrow.Author.Tests.{eqb-true, eq-eqb, ne-eqb}
 use Rattle.laws.specs.Pick.{pick}
 use Rattle.laws.specs.Bools.{never, both, join, left}
+use Rattle.laws.specs.Refusals.{All}
 use Rattle.laws.specs.Count.{count}
 use Rattle.format.specs.Numbers.{kind-INIT, kind-V, none, D-GET, kept, sent, sent-decided, closed-now}
 use Rattle.format.specs.Group.{quorum}
@@ -27,17 +28,17 @@ use Rattle.station.specs.Calls.{Returned, returned, opening, giving, opening-ou
 use Rattle.format.specs.ReadBack.{Proper, statement-drop, statement-back}
 use Rattle.station.specs.Keep.{steps-0}
 use Rattle.station.specs.Views.{InRange, init-statement, Opens, no-opening, begins, opens-view, Gives, refuses, holds-on, shuts, goes-on, gives-view, sent-statement, Accepted, after, decision-then}
-use Rattle.station.specs.Returns.{unrefused, wrote, wrote-unrefused, sent-wrote}
+use Rattle.station.specs.Returns.{unrefused, wrote, took, wrote-unrefused, sent-wrote, sent-took}
 use Rattle.station.specs.Fits.{own-proper, init-sane, sent-proper}
 use Rattle.station.specs.Written.{own-verifies, lengths-of}
 use Rattle.agreement.specs.Safe.{Just, Split}
 use Rattle.agreement.specs.Just.{bare, backed-just}
 use Rattle.agreement.specs.Took.{none-there, enough-before}
-use Rattle.agreement.specs.Effect.{entry, Effect, silent, speaks, log-of, after-of, open-coded, open-after, give-coded, give-after, plain-effect, toss-effect}
-use Rattle.agreement.specs.Line.{reads, Line, line-more}
+use Rattle.agreement.specs.Effect.{entry, coded-at, Effect, silent, speaks, log-of, after-of, open-coded, open-after, give-coded, give-after}
+use Rattle.agreement.specs.Line.{reads, reads-append, AtSite, Line, line-more}
 use Rattle.agreement.specs.Giving.{open-line, kept-line, shut-line, sent-line, sent-just, sent-split}
-use Rattle.agreement.specs.Invariant.{Mine, LogInv, unchanged, log-add, covered-back}
-use Rattle.agreement.specs.Demand.{Call, opens, gives, codes, tosses, site, Entry, Lineage, Found, nothing, found, own, gave, member, votes, act, modules, answer, coded-in, log, openings, lineage, Presents, CodesCame}
+use Rattle.agreement.specs.Invariant.{Mine, LogInv, unchanged, log-add, entry-read, entry-at}
+use Rattle.agreement.specs.Demand.{Action, opens, gives, Call, call, site, action, apart, view, Entry, Lineage, Found, found, written-main, given-main, opened, gave, member, votes, act, modules, answer, log, openings, lineage, Presents, CodesCame}
 
 -- the main statement of a written bundle, read again
 main-written : (n : ℕ) (s : Statement) (c : List Statement) (out : List ℕ) → n ≤ 31 → Proper n s → statement (over (bundle-of s c) out) 1 ≡ s
@@ -119,15 +120,19 @@ module _ (mac : List ℕ → List ℕ → List ℕ) (eight : (key ws : List ℕ)
     abbrev m : Module
     m = modules mac key n cs (site c)
 
-    module-same : act mac key n m c .after ≡ m → (i : ℕ) → modules mac key n cs i ≡ modules mac key n (c ∷ cs) i
+    -- what the call coded
+    abbrev new : List Entry
+    new = coded-at mac eight key n m (site c) (action c)
+
+    module-same : act mac key n m (action c) .after ≡ m → (i : ℕ) → modules mac key n cs i ≡ modules mac key n (c ∷ cs) i
     unfolding modules pick
     module-same e i = go (eqb (site c) i) refl
       where
-        go : (b : Bool) → eqb (site c) i ≡ b → modules mac key n cs i ≡ pick b (act mac key n m c .after) (modules mac key n cs i)
+        go : (b : Bool) → eqb (site c) i ≡ b → modules mac key n cs i ≡ pick b (act mac key n m (action c) .after) (modules mac key n cs i)
         go true x = ap (modules mac key n cs) (sym (eqb-true (site c) i x)) ∙ sym e
         go false x = refl
 
-    module-now : modules mac key n (c ∷ cs) (site c) ≡ act mac key n m c .after
+    module-now : modules mac key n (c ∷ cs) (site c) ≡ act mac key n m (action c) .after
     unfolding modules pick
     module-now = rw (eq-eqb (site c) (site c) refl)
 
@@ -135,37 +140,45 @@ module _ (mac : List ℕ → List ℕ → List ℕ) (eight : (key ws : List ℕ)
     unfolding modules pick
     module-other i ne = rw (ne-eqb (site c) i (λ e. ne (sym e)))
 
-    log-is : (l : List Entry) → coded-in mac key n c (act mac key n m c) ≡ l → log mac key n (c ∷ cs) ≡ l ++ log mac key n cs
+    log-is : log mac key n (c ∷ cs) ≡ new ++ log mac key n cs
     unfolding log
-    log-is l e = ap (λ (x : List Entry). x ++ log mac key n cs) e
+    log-is = refl
 
     module _ (lo : 1 ≤ site c) (hi : site c ≤ n) (I : LogInv key n faulty (modules mac key n cs) (log mac key n cs)) where
-      -- nothing was coded
-      quiet : coded-in mac key n c (act mac key n m c) ≡ [] → act mac key n m c .after ≡ m → LogInv key n faulty (modules mac key n (c ∷ cs)) (log mac key n (c ∷ cs))
-      quiet e a =
-          subst (λ (l : List Entry). LogInv key n faulty (modules mac key n (c ∷ cs)) l) (sym (log-is [] e))
-          (unchanged key n faulty (modules mac key n cs) (modules mac key n (c ∷ cs)) (log mac key n cs) (module-same a) I)
+      -- no statement was coded
+      quiet : reads new ≡ [] → All AtSite new → act mac key n m (action c) .after ≡ m → LogInv key n faulty (modules mac key n (c ∷ cs)) (log mac key n (c ∷ cs))
+      quiet e at a =
+          subst (λ (l : List Entry). LogInv key n faulty (modules mac key n (c ∷ cs)) l) (sym log-is)
+          (unchanged key n faulty (modules mac key n cs) (modules mac key n (c ∷ cs)) new (log mac key n cs) e at (module-same a) I)
+
+      reads-quiet : reads new ≡ [] → reads (log mac key n (c ∷ cs)) ≡ reads (log mac key n cs)
+      reads-quiet e = ap reads log-is ∙ reads-append new (log mac key n cs) ∙ ap (λ (x : List Statement). x ++ reads (log mac key n cs)) e
 
       -- one statement was coded
       spoke : (s : Statement) → Proper (m .n) s → s .station ≡ m .station → above (last-for m (s .question)) (s .question) (step s) ≡ true
-          → coded-in mac key n c (act mac key n m c) ≡ entry (site c) s ∷ [] → act mac key n m c .after ≡ advanced m (s .question) (step s)
+          → reads new ≡ bare s ∷ [] → All AtSite new → act mac key n m (action c) .after ≡ advanced m (s .question) (step s)
           → (member (site c) faulty ≡ false → Just n (reads (log mac key n cs)) s)
           → (member (site c) faulty ≡ false → s .kind ≡ kind-V → s .value ≡ none → Rattle.agreement.specs.Safe.Split n (reads (log mac key n cs)) (s .question) (s .round))
           → LogInv key n faulty (modules mac key n (c ∷ cs)) (log mac key n (c ∷ cs))
-      spoke s p mine high e a sj ss =
+      spoke s p mine high e at a sj ss =
           let M = I .mods (site c) lo hi in
-          subst (λ (l : List Entry). LogInv key n faulty (modules mac key n (c ∷ cs)) l) (sym (log-is (entry (site c) s ∷ []) e))
-          (log-add key n faulty (modules mac key n cs) (modules mac key n (c ∷ cs)) (log mac key n cs) (site c) s top lo hi I
+          subst (λ (l : List Entry). LogInv key n faulty (modules mac key n (c ∷ cs)) l) (sym log-is)
+          (log-add key n faulty (modules mac key n cs) (modules mac key n (c ∷ cs)) new (log mac key n cs) (site c) s e at top lo hi I
           (subst (λ (x : ℕ). Proper x s) (M .same-n) p) (mine ∙ M .same-number) high (module-now ∙ a) module-other sj ss)
 
-      reads-quiet : coded-in mac key n c (act mac key n m c) ≡ [] → reads (log mac key n (c ∷ cs)) ≡ reads (log mac key n cs)
-      reads-quiet e = ap reads (log-is [] e)
+      reads-spoke : (s : Statement) → reads new ≡ bare s ∷ [] → reads (log mac key n (c ∷ cs)) ≡ bare s ∷ reads (log mac key n cs)
+      reads-spoke s e = ap reads log-is ∙ reads-append new (log mac key n cs) ∙ ap (λ (x : List Statement). x ++ reads (log mac key n cs)) e
 
-      reads-spoke : (s : Statement) → Proper (m .n) s → coded-in mac key n c (act mac key n m c) ≡ entry (site c) s ∷ [] → reads (log mac key n (c ∷ cs)) ≡ bare s ∷ reads (log mac key n cs)
+      -- the entries of the calls that there are: none, or that of one statement
+      none-read : new ≡ [] → (reads new ≡ []) × All AtSite new
       unfolding reads
-      reads-spoke s p e =
+      none-read e = rw e (refl, tt)
+
+      one-read : (s : Statement) → Proper (m .n) s → s .station ≡ m .station → new ≡ entry (site c) s ∷ [] → (reads new ≡ bare s ∷ []) × All AtSite new
+      one-read s p mine e =
           let M = I .mods (site c) lo hi in
-          ap reads (log-is (entry (site c) s ∷ []) e) ∙ ap (λ (x : Statement). x ∷ reads (log mac key n cs)) (covered-back n s top (subst (λ (x : ℕ). Proper x s) (M .same-n) p))
+          let q : Proper n s = subst (λ (x : ℕ). Proper x s) (M .same-n) p in
+          rw e (entry-read n (site c) s top q, entry-at n (site c) s top q (mine ∙ M .same-number))
 
   -- the stations of a site whose call was a coding, and of the others
   keep-lines : (c : Call) (cs : List Call) (I : Inv cs) → ((i k : ℕ) → lineage mac key n (c ∷ cs) i k ≡ lineage mac key n cs i k) → Lines (reads (log mac key n cs)) (lineage mac key n (c ∷ cs))
@@ -187,38 +200,35 @@ module _ (mac : List ℕ → List ℕ → List ℕ) (eight : (key ws : List ℕ)
   middle false b c e = refl
 
   -- ---- coding
-  by-coding : (c : Call) (cs : List Call) → 1 ≤ site c → site c ≤ n → Inv cs → Effect mac eight key n (modules mac key n cs (site c)) c
+  by-coding : (c : Call) (cs : List Call) → 1 ≤ site c → site c ≤ n → Inv cs → Effect mac eight key n (modules mac key n cs (site c)) (site c) (action c)
       → ((i k : ℕ) → lineage mac key n (c ∷ cs) i k ≡ lineage mac key n cs i k)
-      → ((s : Statement) → coded-in mac key n c (answer mac key n cs c) ≡ entry (site c) s ∷ [] → member (site c) faulty ≡ false → ⊥) → Inv (c ∷ cs)
+      → ((s : Statement) → new c cs ≡ entry (site c) s ∷ [] → member (site c) faulty ≡ false → ⊥) → Inv (c ∷ cs)
   by-coding c cs lo hi I (silent e a) same never-coded =
+      let r = none-read c cs lo hi (I .logs) e in
       record {
-        logs = quiet c cs lo hi (I .logs) e a;
-        lines = subst (λ (l : List Statement). Lines l (lineage mac key n (c ∷ cs))) (sym (reads-quiet c cs lo hi (I .logs) e)) (keep-lines c cs I same);
+        logs = quiet c cs lo hi (I .logs) (r .0) (r .1) a;
+        lines = subst (λ (l : List Statement). Lines l (lineage mac key n (c ∷ cs))) (sym (reads-quiet c cs lo hi (I .logs) (r .0))) (keep-lines c cs I same);
       }
   by-coding c cs lo hi I (speaks s p mine high e a) same never-coded =
+      let r = one-read c cs lo hi (I .logs) s p mine e in
       record {
-        logs = spoke c cs lo hi (I .logs) s p mine high e a (λ h. absurd (never-coded s e h)) (λ h. absurd (never-coded s e h));
-        lines = subst (λ (l : List Statement). Lines l (lineage mac key n (c ∷ cs))) (sym (reads-spoke c cs lo hi (I .logs) s p e))
+        logs = spoke c cs lo hi (I .logs) s p mine high (r .0) (r .1) a (λ h. absurd (never-coded s e h)) (λ h. absurd (never-coded s e h));
+        lines = subst (λ (l : List Statement). Lines l (lineage mac key n (c ∷ cs))) (sym (reads-spoke c cs lo hi (I .logs) s (r .0)))
             (lines-more (bare s) (reads (log mac key n cs)) (lineage mac key n (c ∷ cs)) (keep-lines c cs I same));
       }
 
-  pub codes-step : (i : ℕ) (ws : List ℕ) (cs : List Call) → 1 ≤ i → i ≤ n → Inv cs → (member i faulty ≡ false → answer mac key n cs (codes i ws) .number ≡ 0 → ⊥) → Inv (codes i ws ∷ cs)
-  unfolding lineage coded-in
-  codes-step i ws cs lo hi I none-coded =
-      by-coding (codes i ws) cs lo hi I (plain-effect mac eight key n (modules mac key n cs i) i ws) (λ j k. refl)
-      (λ s e h. none-coded h (eqb-true _ _ (coded-only (eqb (answer mac key n cs (codes i ws) .number) 0) _ (entry i s) e)))
-
-  pub tosses-step : (i : ℕ) (ws : List ℕ) (coin : ℕ) (cs : List Call) → 1 ≤ i → i ≤ n → Inv cs → (member i faulty ≡ false → answer mac key n cs (tosses i ws coin) .number ≡ 0 → ⊥)
-      → Inv (tosses i ws coin ∷ cs)
-  unfolding lineage coded-in
-  tosses-step i ws coin cs lo hi I none-coded =
-      by-coding (tosses i ws coin) cs lo hi I (toss-effect mac eight key n (modules mac key n cs i) i ws coin) (λ j k. refl)
-      (λ s e h. none-coded h (eqb-true _ _ (coded-only (eqb (answer mac key n cs (tosses i ws coin) .number) 0) _ (entry i s) e)))
+  -- what stands apart from the stations, by its effect
+  pub apart-step : (i : ℕ) (a : Action) (cs : List Call) → view a ≡ apart → Effect mac eight key n (modules mac key n cs i) i a → 1 ≤ i → i ≤ n → Inv cs
+      → (member i faulty ≡ false → answer mac key n cs (call i a) .number ≡ 0 → ⊥) → Inv (call i a ∷ cs)
+  unfolding lineage
+  apart-step i a cs is-apart effect lo hi I none-coded =
+      by-coding (call i a) cs lo hi I effect (λ j k. rw is-apart)
+      (λ s e h. none-coded h (eqb-true _ _ (coded-only (eqb (answer mac key n cs (call i a) .number) 0) _ (entry i s) (rw is-apart at e))))
 
   -- ---- opening
   module _ (j q v : ℕ) (out : List ℕ) (cs : List Call) (lo : 1 ≤ j) (hi : j ≤ n) (I : Inv cs) where
     abbrev c : Call
-    c = opens j q v out
+    c = call j (opens q v out)
 
     abbrev mj : Module
     mj = modules mac key n cs j
@@ -226,7 +236,7 @@ module _ (mac : List ℕ → List ℕ → List ℕ) (eight : (key ws : List ℕ)
     -- the stations, by what the call returned
     abbrev lines-by : Returned → ℕ → ℕ → Found
     lines-by r i k =
-        pick (eqb j i && unrefused (r .number) && eqb (openings mac key n cs i) k) (found (record { present = r .station; took = own r })) (lineage mac key n cs i k)
+        pick (eqb j i && unrefused (r .number) && eqb (openings mac key n cs i) k) (opened r) (lineage mac key n cs i k)
 
     lines-are : (r : Returned) → answer mac key n cs c ≡ r → (l : List Statement) → Lines l (lines-by r) → Lines l (lineage mac key n (c ∷ cs))
     unfolding lineage
@@ -250,10 +260,10 @@ module _ (mac : List ℕ → List ℕ → List ℕ) (eight : (key ws : List ℕ)
 
         refused-so : (k : ℕ) → opening-outcome mac mj q v out ≡ refused k → unrefused k ≡ false → Inv (c ∷ cs)
         refused-so k e w =
-            let quiet-log : coded-in mac key n c (answer mac key n cs c) ≡ [] = open-coded mac eight key n mj j q v out ∙ ap (log-of mac eight key n j) e in
+            let quiet-log = none-read c cs lo hi (I .logs) (open-coded mac eight key n mj j q v out ∙ ap (log-of mac eight key n j) e) in
             record {
-              logs = quiet c cs lo hi (I .logs) quiet-log (open-after mac eight key n mj j q v out ∙ ap (after-of mac eight key n mj) e);
-              lines = subst (λ (l : List Statement). Lines l (lineage mac key n (c ∷ cs))) (sym (reads-quiet c cs lo hi (I .logs) quiet-log))
+              logs = quiet c cs lo hi (I .logs) (quiet-log .0) (quiet-log .1) (open-after mac eight key n mj j q v out ∙ ap (after-of mac eight key n mj) e);
+              lines = subst (λ (l : List Statement). Lines l (lineage mac key n (c ∷ cs))) (sym (reads-quiet c cs lo hi (I .logs) (quiet-log .0)))
                   (lines-are (returned mj no-station out (refused k)) (answer-is (refused k) e) (reads (log mac key n cs))
                   (λ i x line a b h f. I .lines i x line a b h (not-picked (eqb j i && unrefused k && eqb (openings mac key n cs i) x) _ _ _ (middle (eqb j i) (unrefused k) _ w) f)));
             }
@@ -264,12 +274,12 @@ module _ (mac : List ℕ → List ℕ → List ℕ) (eight : (key ws : List ℕ)
             let s = init-statement mac mj q v out in
             let o = sends sent s [] (began q Gathering none s []) in
             let proper : Proper (mj .n) s = own-proper mac eight mj q kind-INIT v D-GET 0 r (init refl refl p refl) in
-            let coded : coded-in mac key n c (answer mac key n cs c) ≡ entry j s ∷ [] = open-coded mac eight key n mj j q v out ∙ ap (log-of mac eight key n j) e in
+            let coded = one-read c cs lo hi (I .logs) s proper refl (open-coded mac eight key n mj j q v out ∙ ap (log-of mac eight key n j) e) in
             let to-n : (l : List Statement) → Just (mj .n) l s → Just n l s = λ l x. subst (λ (z : ℕ). Just z l s) (mine .same-n) x in
             record {
-              logs = spoke c cs lo hi (I .logs) s proper refl a coded (open-after mac eight key n mj j q v out ∙ ap (after-of mac eight key n mj) e)
+              logs = spoke c cs lo hi (I .logs) s proper refl a (coded .0) (coded .1) (open-after mac eight key n mj j q v out ∙ ap (after-of mac eight key n mj) e)
                   (λ h. to-n (reads (log mac key n cs)) (init-just mac eight mj q v out (reads (log mac key n cs)) r p (reads (log mac key n cs)))) (λ h x y. absurd (omega arith));
-              lines = subst (λ (l : List Statement). Lines l (lineage mac key n (c ∷ cs))) (sym (reads-spoke c cs lo hi (I .logs) s proper coded))
+              lines = subst (λ (l : List Statement). Lines l (lineage mac key n (c ∷ cs))) (sym (reads-spoke c cs lo hi (I .logs) s (coded .0)))
                   (lines-are (returned mj no-station out o) (answer-is o e) (bare s ∷ reads (log mac key n cs))
                   (λ i x line a b h f. picked i x line a b h (eqb j i && true && eqb (openings mac key n cs i) x) refl f));
             }
@@ -302,9 +312,9 @@ module _ (mac : List ℕ → List ℕ → List ℕ) (eight : (key ws : List ℕ)
   -- ---- giving
   module _ (j o : ℕ) (t : Station) (ws : List ℕ) (coin : ℕ) (out : List ℕ) (cs : List Call) (lo : 1 ≤ j) (hi : j ≤ n) (I : Inv cs) (len : Lengths t)
       (came : CodesCame mac key n (log mac key n cs) ws)
-      (sound : member j faulty ≡ false → unrefused (answer mac key n cs (gives j o t ws coin out) .number) ≡ true → Presents mac key n cs j o t) where
+      (sound : member j faulty ≡ false → unrefused (answer mac key n cs (call j (gives o t ws coin out)) .number) ≡ true → Presents mac key n cs j o t) where
     abbrev g : Call
-    g = gives j o t ws coin out
+    g = call j (gives o t ws coin out)
 
     abbrev mg : Module
     mg = modules mac key n cs j
@@ -344,9 +354,9 @@ module _ (mac : List ℕ → List ℕ → List ℕ) (eight : (key ws : List ℕ)
 
     -- the stations behind a giving that is not refused
     placed : (r : Returned) (l : List Statement) → Lines l (lineage mac key n cs)
-        → (member j faulty ≡ false → Whose) → ((W : Whose) → member j faulty ≡ false → Line mac key n l j (r .station) (own r ++ (main-of ws ∷ W .line .took))) → Lines l (given-by r)
+        → (member j faulty ≡ false → Whose) → ((W : Whose) → member j faulty ≡ false → Line mac key n l j (r .station) (written-main r ++ (given-main r ws ++ W .line .took))) → Lines l (given-by r)
     unfolding pick
-    placed r l stays who new i k line a b h f = go (eqb j i && unrefused (r .number) && eqb o k) refl f
+    placed r l stays who next i k line a b h f = go (eqb j i && unrefused (r .number) && eqb o k) refl f
       where
         go : (x : Bool) → (eqb j i && unrefused (r .number) && eqb o k) ≡ x → pick x (gave r ws (lineage mac key n cs i k)) (lineage mac key n cs i k) ≡ found line
             → Line mac key n l i (line .present) (line .took)
@@ -361,17 +371,17 @@ module _ (mac : List ℕ → List ℕ → List ℕ) (eight : (key ws : List ℕ)
             at-own hj ji ok =
                 let W = who hj in
                 let was : lineage mac key n cs i k ≡ found (W .line) = sym (λ x. lineage mac key n cs (ji x) (ok x)) ∙ W .is in
-                let now : found (record { present = r .station; took = own r ++ (main-of ws ∷ W .line .took) }) ≡ found line = sym (ap (gave r ws) was) ∙ f in
+                let now : found (record { present = r .station; took = written-main r ++ (given-main r ws ++ W .line .took) }) ≡ found line = sym (ap (gave r ws) was) ∙ f in
                 subst (λ (x : Lineage). Line mac key n l i (x .present) (x .took)) (same-line _ line now)
-                (subst (λ (x : ℕ). Line mac key n l x (r .station) (own r ++ (main-of ws ∷ W .line .took))) ji (new W hj))
+                (subst (λ (x : ℕ). Line mac key n l x (r .station) (written-main r ++ (given-main r ws ++ W .line .took))) ji (next W hj))
 
     abbrev coded-g : Outcome → Type 0
-    coded-g x = coded-in mac key n g (answer mac key n cs g) ≡ log-of mac eight key n j x
+    coded-g x = new g cs ≡ log-of mac eight key n j x
 
     log-g : (x : Outcome) → giving-outcome mac mg t ws coin out ≡ x → coded-g x
     log-g x e = give-coded mac eight key n mg j o t ws coin out len ∙ ap (log-of mac eight key n j) e
 
-    after-g : (x : Outcome) → giving-outcome mac mg t ws coin out ≡ x → act mac key n mg g .after ≡ after-of mac eight key n mg x
+    after-g : (x : Outcome) → giving-outcome mac mg t ws coin out ≡ x → act mac key n mg (action g) .after ≡ after-of mac eight key n mg x
     after-g x e = give-after mac eight key n mg j o t ws coin out len ∙ ap (after-of mac eight key n mg) e
 
     came-g : CodesCame mac (mg .key) (mg .n) (log mac key n cs) ws
@@ -383,16 +393,22 @@ module _ (mac : List ℕ → List ℕ → List ℕ) (eight : (key ws : List ℕ)
     -- a call that coded nothing
     silent-inv : (x : Outcome) → giving-outcome mac mg t ws coin out ≡ x → log-of mac eight key n j x ≡ [] → after-of mac eight key n mg x ≡ mg → Lines before (given-by (returned mg t out x)) → Inv (g ∷ cs)
     silent-inv x e nil same h =
+        let r = none-read g cs lo hi (I .logs) (log-g x e ∙ nil) in
         record {
-          logs = quiet g cs lo hi (I .logs) (log-g x e ∙ nil) (after-g x e ∙ same);
-          lines = subst (λ (l : List Statement). Lines l (lineage mac key n (g ∷ cs))) (sym (reads-quiet g cs lo hi (I .logs) (log-g x e ∙ nil)))
+          logs = quiet g cs lo hi (I .logs) (r .0) (r .1) (after-g x e ∙ same);
+          lines = subst (λ (l : List Statement). Lines l (lineage mac key n (g ∷ cs))) (sym (reads-quiet g cs lo hi (I .logs) (r .0)))
               (given-are (returned mg t out x) (returned-is x e) before h);
         }
 
     -- the sent statement, as the lent words have it
-    own-is : (k : ℕ) (s : Statement) (c : List Statement) (u : State) → wrote k ≡ true → Proper (mg .n) s → mg .n ≤ 31 → own (returned mg t out (sends k s c u)) ≡ s ∷ []
+    main-is : (k : ℕ) (s : Statement) (c : List Statement) (u : State) → wrote k ≡ true → Proper (mg .n) s → mg .n ≤ 31 → written-main (returned mg t out (sends k s c u)) ≡ s ∷ []
     unfolding returned pick
-    own-is k s c u e p small = rw e (ap (λ (y : Statement). y ∷ []) (main-written (mg .n) s c out small p))
+    main-is k s c u e p small = rw e (ap (λ (y : Statement). y ∷ []) (main-written (mg .n) s c out small p))
+
+    -- the given statement, where the number says that it is taken
+    given-is : (k : ℕ) → took k ≡ true → pick (took k) (main-of ws ∷ []) [] ≡ main-of ws ∷ []
+    unfolding pick
+    given-is k e = rw e
 
     pub give-step : Inv (g ∷ cs)
     unfolding returned pick
@@ -433,20 +449,22 @@ module _ (mac : List ℕ → List ℕ → List ℕ) (eight : (key ws : List ℕ)
                 let u = began (t .identity .question) (x .stage) (decision-then mac mg t ws coin out) s (x .first) in
                 let o' = sends k s (x .first ++ x .second) u in
                 let proper : Proper (mg .n) s = sent-proper mac eight mg t ws coin out len A size more in
-                let coded : coded-in mac key n g (answer mac key n cs g) ≡ entry j s ∷ [] = log-g o' e in
+                let coded = one-read g cs lo hi (I .logs) s proper refl (log-g o' e) in
                 let wr : wrote k ≡ true = ap wrote w ∙ sent-wrote (ltb (t .decision) none || eqb (decision-then mac mg t ws coin out) none) in
+                let tk : took k ≡ true = ap took w ∙ sent-took (ltb (t .decision) none || eqb (decision-then mac mg t ws coin out) none) in
                 let un : unrefused (answer mac key n cs g .number) ≡ true = number-g o' e (wrote-unrefused k wr) in
                 let T : Station = W.as-station (mg .n) (mg .station) u in
                 record {
-                  logs = spoke g cs lo hi (I .logs) s proper refl a coded (after-g o' e)
+                  logs = spoke g cs lo hi (I .logs) s proper refl a (coded .0) (coded .1) (after-g o' e)
                       (λ h. let H = whose h un in
                       subst (λ (z : ℕ). Just z before s) (mine-g .same-n) (sent-just mac eight mg t ws coin out (log mac key n cs) (H .line .took) (H .known) A came-g size more))
                       (λ h y z. let H = whose h un in
                       subst (λ (z : ℕ). Split z before (s .question) (s .round)) (mine-g .same-n) (sent-split mac eight mg t ws coin out (log mac key n cs) (H .line .took) (H .known) A came-g size more y z));
-                  lines = subst (λ (l : List Statement). Lines l (lineage mac key n (g ∷ cs))) (sym (reads-spoke g cs lo hi (I .logs) s proper coded))
+                  lines = subst (λ (l : List Statement). Lines l (lineage mac key n (g ∷ cs))) (sym (reads-spoke g cs lo hi (I .logs) s (coded .0)))
                       (given-are (returned mg t out o') (returned-is o' e) (bare s ∷ before)
                       (placed (returned mg t out o') (bare s ∷ before) (lines-more (bare s) before (lineage mac key n cs) (I .lines)) (λ h. whose h un)
-                      (λ H h. subst (λ (y : List Statement). Line mac key n (bare s ∷ before) j T (y ++ (main-of ws ∷ H .line .took))) (sym (own-is k s (x .first ++ x .second) u wr proper (A .range .at-most-31)))
+                      (λ H h. subst (λ (y : List Statement). Line mac key n (bare s ∷ before) j T (y ++ (given-main (returned mg t out o') ws ++ H .line .took))) (sym (main-is k s (x .first ++ x .second) u wr proper (A .range .at-most-31)))
+                      (subst (λ (y : List Statement). Line mac key n (bare s ∷ before) j T (s ∷ (y ++ H .line .took))) (sym (given-is k tk))
                       (of-mine j mg mine-g (bare s ∷ before) T (s ∷ (main-of ws ∷ H .line .took))
-                      (sent-line mac eight mg t ws coin out (log mac key n cs) (H .line .took) (H .known) A came-g size more)))));
+                      (sent-line mac eight mg t ws coin out (log mac key n cs) (H .line .took) (H .known) A came-g size more))))));
                 }

@@ -26,6 +26,7 @@ use Rattle.station.specs.declared.Stage.the-variants.{Gathering, Proposing, Vot
 use Rattle.station.specs.declared.Station.{Station}
 use Rattle.station.specs.Machine.{conflict, has-value, kind-in, round-in, stage-step}
 use Rattle.station.specs.Words.{state-of}
+use Rattle.station.specs.Calls.{Returned}
 use Rattle.format.specs.ReadBack.{Proper}
 use Rattle.station.specs.Sane.{Sane}
 use Rattle.station.specs.FitSane.{fits-sane}
@@ -39,11 +40,12 @@ use Rattle.agreement.specs.Log.{In, is, has, has-out, has-at, Supp, all-
 use Rattle.agreement.specs.Safe as Safe
 use Rattle.agreement.specs.Safe.{Just, Split, LogOk, Decided}
 use Rattle.agreement.specs.Just.{bare, Coded, backed-just}
-use Rattle.agreement.specs.Took.{is-vote, vote-out, one-more, none-there}
-use Rattle.agreement.specs.Line.{reads, all-came, Enough, OpenLine, Line}
+use Rattle.agreement.specs.Took.{vote-out, one-more, none-there}
+use Rattle.agreement.specs.Effect.{plain-effect, toss-effect}
+use Rattle.agreement.specs.Line.{reads, AtSite, all-came, Enough, OpenLine, Line}
 use Rattle.agreement.specs.Invariant.{Mine, start}
-use Rattle.agreement.specs.Run.{Inv, codes-step, tosses-step, open-step, give-step}
-use Rattle.agreement.specs.Demand.{Call, opens, gives, codes, tosses, site, Entry, Lineage, Found, found, gave, member, votes, proposed, act, modules, answer, log, lineage, Presents, Sound, FewFaulty, CodesCame, Given, Decides, Claim, Demand-3}
+use Rattle.agreement.specs.Run.{Inv, apart-step, open-step, give-step}
+use Rattle.agreement.specs.Demand.{is-vote, opens, gives, codes, tosses, Call, call, site, action, View, starting, going-on, apart, view, Entry, is-statement, Lineage, Found, found, opened, gave, went, member, votes, proposed, act, modules, answer, log, openings, lineage, Presents, Sound, FewFaulty, CodesCame, Given, Decides, Claim, Demand-3}
 
 -- ---- the premise on numbers
 member-few : (l : List ℕ) (n : ℕ) → count (λ i. member i l) n ≤ length l
@@ -118,14 +120,16 @@ module _ (mac : List ℕ → List ℕ → List ℕ) (eight : (key ws : List ℕ)
   inv : (faulty : List ℕ) (cs : List Call) → Given mac key n cs → AllSound faulty cs → Inv mac eight key n low top faulty cs
   unfolding Given Sound log lineage modules
   inv faulty [] g s = record { logs = start key n faulty low top; lines = λ i k line a b h e. absurd (let z : _≡_ {A = ℕ} 0 1 = cc in omega arith) }
-  inv faulty (opens j q v out ∷ cs) g s = open-step mac eight key n low top faulty j q v out cs (g .0 .0) (g .0 .1) (inv faulty cs (g .1) (λ i a b h. s i a b h))
-  inv faulty (gives j o t ws coin out ∷ cs) g s =
-      give-step mac eight key n low top faulty j o t ws coin out cs (g .0 .0) (g .0 .1) (inv faulty cs (g .1 .1 .1) (λ i a b h. s i a b h .1)) (g .1 .0) (g .1 .1 .0)
+  inv faulty (call j (opens q v out) ∷ cs) g s = open-step mac eight key n low top faulty j q v out cs (g .0 .0) (g .0 .1) (inv faulty cs (g .1 .1) (λ i a b h. s i a b h .1))
+  inv faulty (call j (gives o t ws coin out) ∷ cs) g s =
+      give-step mac eight key n low top faulty j o t ws coin out cs (g .0 .0) (g .0 .1) (inv faulty cs (g .1 .1) (λ i a b h. s i a b h .1)) (g .1 .0 .0) (g .1 .0 .1)
       (λ h u. s j (g .0 .0) (g .0 .1) h .0 refl u)
-  inv faulty (codes j ws ∷ cs) g s =
-      codes-step mac eight key n low top faulty j ws cs (g .0 .0) (g .0 .1) (inv faulty cs (g .1) (λ i a b h. s i a b h .1)) (λ h e. s j (g .0 .0) (g .0 .1) h .0 refl e)
-  inv faulty (tosses j ws coin ∷ cs) g s =
-      tosses-step mac eight key n low top faulty j ws coin cs (g .0 .0) (g .0 .1) (inv faulty cs (g .1) (λ i a b h. s i a b h .1)) (λ h e. s j (g .0 .0) (g .0 .1) h .0 refl e)
+  inv faulty (call j (codes ws) ∷ cs) g s =
+      apart-step mac eight key n low top faulty j (codes ws) cs refl (plain-effect mac eight key n (modules mac key n cs j) j ws) (g .0 .0) (g .0 .1) (inv faulty cs (g .1 .1) (λ i a b h. s i a b h .1))
+      (λ h e. s j (g .0 .0) (g .0 .1) h .0 refl e)
+  inv faulty (call j (tosses ws coin) ∷ cs) g s =
+      apart-step mac eight key n low top faulty j (tosses ws coin) cs refl (toss-effect mac eight key n (modules mac key n cs j) j ws coin) (g .0 .0) (g .0 .1) (inv faulty cs (g .1 .1) (λ i a b h. s i a b h .1))
+      (λ h e. s j (g .0 .0) (g .0 .1) h .0 refl e)
 
   -- a station belongs to a site of the group
   by-site : (j i : ℕ) (x y : Bool) (a b : Found) (line : Lineage) → (1 ≤ j) × (j ≤ n) → (b ≡ found line → (1 ≤ i) × (i ≤ n)) → pick (eqb j i && x && y) a b ≡ found line
@@ -138,15 +142,18 @@ module _ (mac : List ℕ → List ℕ → List ℕ) (eight : (key ws : List ℕ)
       go false z true w e = never (eqb j i) z (both (eqb j i) x (both (eqb j i && x) y w .0) .0)
       go false z false w e = ih e
 
+  by-view : (v : View) (j i : ℕ) (x : Bool) (r : Returned) (o k : ℕ) (f : Found) (line : Lineage) → (1 ≤ j) × (j ≤ n) → (f ≡ found line → (1 ≤ i) × (i ≤ n))
+      → went v (eqb j i && x) r o k f ≡ found line → (1 ≤ i) × (i ≤ n)
+  by-view starting j i x r o k f line range ih e = by-site j i x (eqb o k) (opened r) f line range ih e
+  by-view (going-on h t ws) j i x r o k f line range ih e = by-site j i x (eqb h k) (gave r ws f) f line range ih e
+  by-view apart j i x r o k f line range ih e = ih e
+
   in-group : (cs : List Call) → Given mac key n cs → (i k : ℕ) (line : Lineage) → lineage mac key n cs i k ≡ found line → (1 ≤ i) × (i ≤ n)
   unfolding Given lineage
   in-group [] g i k line e = absurd (let z : _≡_ {A = ℕ} 0 1 = cc in omega arith)
-  in-group (opens j q v out ∷ cs) g i k line e = by-site j i _ _ _ _ line (g .0) (in-group cs (g .1) i k line) e
-  in-group (gives j o t ws coin out ∷ cs) g i k line e =
-      by-site j i (unrefused (answer mac key n cs (gives j o t ws coin out) .number)) (eqb o k) (gave (answer mac key n cs (gives j o t ws coin out)) ws (lineage mac key n cs i k)) (lineage mac key n cs i k) line (g .0)
-      (in-group cs (g .1 .1 .1) i k line) e
-  in-group (codes j ws ∷ cs) g i k line e = in-group cs (g .1) i k line e
-  in-group (tosses j ws coin ∷ cs) g i k line e = in-group cs (g .1) i k line e
+  in-group (c ∷ cs) g i k line e =
+      by-view (view (action c)) (site c) i (unrefused (answer mac key n cs c .number)) (answer mac key n cs c) (openings mac key n cs i) k (lineage mac key n cs i k) line (g .0)
+      (in-group cs (g .1 .1) i k line) e
 
   -- ---- from the invariant to the claims
   module _ (faulty : List ℕ) (few : length faulty ≤ most-faulty n) (cs : List Call) (I : Inv mac eight key n low top faulty cs) where
@@ -219,26 +226,32 @@ module _ (mac : List ℕ → List ℕ → List ℕ) (eight : (key ws : List ℕ)
     agree g i j k o q v w hi hj d e = Safe.agreement n sound l bad-few low log-ok q v w (decided g i k q v hi d) (decided g j o q w hj e)
 
     -- a coded INIT was proposed
-    proposed-in : (es : List Entry) → All (λ e. e .at ≡ statement (e .words) 0 .station) es → (q v i : ℕ) → has (reads es) kind-INIT q 0 v i ≡ true → proposed es q v i ≡ true
-    unfolding reads has some
+    proposed-in : (es : List Entry) → All AtSite es → (q v i : ℕ) → has (reads es) kind-INIT q 0 v i ≡ true → proposed es q v i ≡ true
+    unfolding reads has some pick
     proposed-in [] a q v i h = h
-    proposed-in (e ∷ es) a q v i h = go (is kind-INIT q 0 v i (statement (e .words) 0)) refl h (proposed-in es (a .1) q v i)
+    proposed-in (e ∷ es) a q v i h = by-kind (is-statement e) refl h (proposed-in es (a .1) q v i)
       where
         here : Bool
-        here = eqb (e .at) i && eqb (kind-of (getD (e .words) 0 0)) kind-INIT && eqb (value-of (getD (e .words) 0 0)) v && eqb (getD (e .words) 1 0) q
+        here = is-statement e && eqb (e .at) i && eqb (kind-of (getD (e .words) 0 0)) kind-INIT && eqb (value-of (getD (e .words) 0 0)) v && eqb (getD (e .words) 1 0) q
 
-        go : (b : Bool) → is kind-INIT q 0 v i (statement (e .words) 0) ≡ b → (b || has (reads es) kind-INIT q 0 v i) ≡ true → (has (reads es) kind-INIT q 0 v i ≡ true → proposed es q v i ≡ true)
-            → (here || proposed es q v i) ≡ true
-        go true x y ih =
+        go : is-statement e ≡ true → (b : Bool) → is kind-INIT q 0 v i (statement (e .words) 0) ≡ b → (b || has (reads es) kind-INIT q 0 v i) ≡ true
+            → (has (reads es) kind-INIT q 0 v i ≡ true → proposed es q v i ≡ true) → (here || proposed es q v i) ≡ true
+        go w true x y ih =
             let s = statement (e .words) 0 in
             let c = both (eqb (s .station) i) _ x in
             let d = both (eqb (s .kind) kind-INIT) _ (c .1) in
             let f = both (eqb (s .question) q) _ (d .1) in
             let g = both (eqb (s .round) 0) _ (f .1) in
             left here _
-            (join (eqb (e .at) i && eqb (s .kind) kind-INIT && eqb (s .value) v) _
-            (join (eqb (e .at) i && eqb (s .kind) kind-INIT) _ (join (eqb (e .at) i) _ (eq-eqb _ _ (a .0 ∙ eqb-true _ _ (c .0))) (d .0)) (g .1)) (f .0))
-        go false x y ih = right here _ (ih y)
+            (join (is-statement e && eqb (e .at) i && eqb (s .kind) kind-INIT && eqb (s .value) v) _
+            (join (is-statement e && eqb (e .at) i && eqb (s .kind) kind-INIT) _
+            (join (is-statement e && eqb (e .at) i) _ (join (is-statement e) _ w (eq-eqb _ _ (a .0 w ∙ eqb-true _ _ (c .0)))) (d .0)) (g .1)) (f .0))
+        go w false x y ih = right here _ (ih y)
+
+        by-kind : (b : Bool) → is-statement e ≡ b → has (pick b (statement (e .words) 0 ∷ reads es) (reads es)) kind-INIT q 0 v i ≡ true
+            → (has (reads es) kind-INIT q 0 v i ≡ true → proposed es q v i ≡ true) → (here || proposed es q v i) ≡ true
+        by-kind true w h ih = go w (is kind-INIT q 0 v i (statement (e .words) 0)) refl h ih
+        by-kind false w h ih = right here _ (ih h)
 
     back : Given mac key n cs → (i k q v : ℕ) → member i faulty ≡ false → Decides mac key n cs i k q v → backing n v ≤ count (proposed (log mac key n cs) q v) n
     back g i k q v h d =
@@ -349,7 +362,7 @@ module _ (mac : List ℕ → List ℕ → List ℕ) (eight : (key ws : List ℕ)
                 let e : f .one .value ≡ v = eqb-true _ _ (y .1) in
                 rw (f .has .1 .1 .1, f .has .1 .1 .0, e) at (f .has .0 .taken (f .has .1 .0) (omega (arith, f .has .1 .1 .0)) (eqb-true _ _ (y .0)))
 
-      never-10 : answer mac key n cs (gives i k t ws coin out) .number ≡ conflicting → ⊥
+      never-10 : answer mac key n cs (call i (gives k t ws coin out)) .number ≡ conflicting → ⊥
       unfolding act
       never-10 e =
           let c = conflicts mac m t ws coin out (known-here .lengths) e in

@@ -2,7 +2,7 @@
 use mathlib.Core.Path.{_≡_, refl, _∙_, ap, subst}
 use mathlib.Core.Bool.{Bool, true, false, _&&_, _||_}
 use mathlib.Core.List.{List, [], _∷_}
-use Prim.Native.Nat.{ℕ, zero, suc, _+_, _-_, _*_, _≤_, _<_}
+use Prim.Native.Nat.{ℕ, zero, suc, _+_, _*_, _≤_, _<_}
 use native.Mathlib.Omega.{arith}
 use lib.Dec.{eqb}
 use lib.ListN.{length}
@@ -24,12 +24,9 @@ use Rattle.station.specs.Keep.{steps-V}
 use Rattle.agreement.specs.Counting.{count-mono}
 use Rattle.agreement.specs.Log.{In, some-in}
 use Rattle.agreement.specs.Just.{rising-count}
-use Rattle.agreement.specs.Demand.{votes}
+use Rattle.agreement.specs.Demand.{is-vote, votes}
 
--- the test that `votes` counts by
-abbrev pub is-vote : ℕ → ℕ → ℕ → ℕ → Statement → Bool
-is-vote q r v i s = eqb (s .kind) kind-V && eqb (s .question) q && eqb (s .round) r && eqb (s .value) v && eqb (s .station) i
-
+-- what the test that `votes` counts by says
 pub record Vote (q r v i : ℕ) (s : Statement) : Type 0 where
   pub kind : s .kind ≡ kind-V
   pub question : s .question ≡ q

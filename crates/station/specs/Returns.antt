@@ -7,18 +7,19 @@ use lib.Dec.{eqb}
 use Rattle.laws.specs.Pick.{pick}
 use Rattle.format.specs.Numbers.{kept, sent, sent-decided, closed-now}
 
--- a number that is no refusal, and whether a bundle was written with it
+-- a number that is no refusal; whether a bundle was written with it; and whether a giving so answered took the given main statement
 pub record Class : Type 0 where
   pub number : ℕ
   pub writes : Bool
+  pub takes : Bool
 
-abbrev pub classed : ℕ → Bool → Class
-classed k w = record { number = k; writes = w }
+abbrev pub classed : ℕ → Bool → Bool → Class
+classed k w t = record { number = k; writes = w; takes = t }
 
 -- "0: kept, step not ended"; "20: sent: bundle written"; "21: sent, and first decided in this call"; "22: closed in this call". Every other number is a
 -- refusal
 abbrev pub classes : List Class
-classes = classed kept false ∷ classed sent true ∷ classed sent-decided true ∷ classed closed-now false ∷ []
+classes = classed kept false true ∷ classed sent true true ∷ classed sent-decided true true ∷ classed closed-now false true ∷ []
 
 -- whether the number stands there, with what a test asks
 abbrev pub listed : (Class → Bool) → List Class → ℕ → Bool
@@ -30,6 +31,9 @@ unrefused k = listed (λ r. true) classes k
 
 abbrev pub wrote : ℕ → Bool
 wrote k = listed (λ r. r .writes) classes k
+
+abbrev pub took : ℕ → Bool
+took k = listed (λ r. r .takes) classes k
 
 -- what is written is not refused
 pub wrote-unrefused : (k : ℕ) → wrote k ≡ true → unrefused k ≡ true
@@ -48,3 +52,9 @@ pub sent-wrote : (b : Bool) → wrote (pick b sent sent-decided) ≡ true
 unfolding pick
 sent-wrote true = refl
 sent-wrote false = refl
+
+-- and with it the given statement was taken
+pub sent-took : (b : Bool) → took (pick b sent sent-decided) ≡ true
+unfolding pick
+sent-took true = refl
+sent-took false = refl

@@ -48,7 +48,7 @@ use Rattle.station.specs.Demand.{message, OfGroup, Reached, by-opening, 
 use Rattle.station.specs.Fits.{backed, own-proper, init-sane, next-ready, sent-proper, sent-sane, kept-sane}
 use Rattle.station.specs.Bundles.{bundle-valid, backed-few, ws-length}
 
-pub all-append : (P : Statement → Type 0) (c d : List Statement) → All P c → All P d → All P (c ++ d)
+pub all-append : {A : Type 0} (P : A → Type 0) (c d : List A) → All P c → All P d → All P (c ++ d)
 all-append P [] d a b = b
 all-append P (s ∷ c) d a b = (a .0, all-append P c d (a .1) b)
 
