@@ -31,7 +31,8 @@ use Rattle.station.specs.Words.{held-in, leading, kept-for-value, kept-for-none
 use Rattle.station.specs.Fit.{zeros, slots-fit, fits}
 use Rattle.station.specs.Calls.{Returned, returned, opening, giving, no-station}
 use Rattle.station.specs.Returns.{unrefused}
-use Rattle.agreement.specs.Demand.{Call, site, action, View, starting, going-on, apart, view, Entry, Lineage, Found, nothing, found, member, logged, votes, act, modules, answer, log, openings, lineage, Presents, Sound, FewFaulty, CodesCame, Behaves, Brings, Given, Decides}
+use Rattle.agreement.specs.Maths.Votes.{votes}
+use Rattle.agreement.specs.Demand.{Call, site, action, View, starting, going-on, apart, view, Entry, Lineage, Found, nothing, found, member, logged, act, modules, answer, log, openings, lineage, Presents, Sound, FewFaulty, CodesCame, Behaves, Brings, Given, Decides}
 
 -- ---- two stations compared: their numbers in one list, and their three arrays
 abbrev flag-in : Stage → ℕ

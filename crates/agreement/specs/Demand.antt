@@ -8,18 +8,18 @@ use lib.Dec.{eqb}
 use lib.ListN.{length, getD}
 use Rattle.laws.specs.Pick.{pick}
 use Rattle.laws.specs.Count.{count}
-use Rattle.format.specs.Numbers.{kind-INIT, kind-V, none, statement-words, covered-words, place-of, conflicting}
+use Rattle.format.specs.Numbers.{kind-INIT, none, statement-words, covered-words, place-of, conflicting}
 use Rattle.format.specs.Group.{quorum, backing, most-faulty}
 use Rattle.format.specs.Words.{kind-of, value-of, station-of}
 use Rattle.format.specs.Statement.{Statement, covered-at, code-at, same-words}
 use Rattle.format.specs.Bundle.{main-of}
-use Rattle.rules.specs.Rules.{some}
 use Rattle.sealed.specs.declared.Module.{Module}
 use Rattle.sealed.specs.Sealed.{making, Coded, coding-plain, coding-coin}
 use Rattle.station.specs.declared.Station.{Station}
 use Rattle.station.specs.Calls.{Returned, opening, giving, no-station}
 use Rattle.station.specs.Words.{Lengths}
 use Rattle.station.specs.Returns.{unrefused, wrote, took}
+use Rattle.agreement.specs.Maths.Votes.{votes}
 
 -- ---- the list
 -- what a call does: it "brings any settings, words and lent output"; a giving any station too, and which of the site's openings it means
@@ -109,14 +109,6 @@ member i (j ∷ l) = eqb i j || member i l
 abbrev pub logged : List Entry → ℕ → List ℕ → Bool
 logged [] i ws = false
 logged (e ∷ l) i ws = (eqb (e .at) i && same-words (e .words) ws) || logged l i ws
-
--- "kept q V for v of one round, its own counted": among what a station took, the stations 1 to n with such a vote
-abbrev pub is-vote : ℕ → ℕ → ℕ → ℕ → Statement → Bool
-is-vote question round v i s =
-    eqb (s .kind) kind-V && eqb (s .question) question && eqb (s .round) round && eqb (s .value) v && eqb (s .station) i
-
-abbrev pub votes : List Statement → ℕ → ℕ → ℕ → ℕ → Bool
-votes took question round v i = some (is-vote question round v i) took
 
 -- "the site's module coded an INIT with that value on that question"
 abbrev pub proposed : List Entry → ℕ → ℕ → ℕ → Bool

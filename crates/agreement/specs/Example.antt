@@ -11,7 +11,8 @@ use Rattle.laws.specs.Count.{count}
 use Rattle.format.specs.Numbers.{kind-P, kind-V, none, D-GET, R-GET}
 use Rattle.station.specs.declared.Stage.the-variants.{Gathering}
 use Rattle.station.specs.declared.Station.{Station}
-use Rattle.agreement.specs.Demand.{opens, gives, codes, tosses, Call, call, member, votes, proposed, log, Sound, FewFaulty, Given, Decides, Claim}
+use Rattle.agreement.specs.Maths.Votes.{votes}
+use Rattle.agreement.specs.Demand.{opens, gives, codes, tosses, Call, call, member, proposed, log, Sound, FewFaulty, Given, Decides, Claim}
 use Rattle.agreement.specs.Prefix.{sound-before}
 use Rattle.agreement.specs.Theorem.{claim}
 use Rattle.agreement.specs.Computed.{computes, last, written, numbers, line, present, given, given-out, few, others-out, few-out, decides, decides-out}

@@ -17,9 +17,9 @@ use Rattle.sealed.specs.Sealed.{above, last-for, advanced, making}
 use Rattle.sealed.specs.Rises.{stays-below, coded-below}
 use Rattle.format.specs.ReadBack.{Proper, word-back}
 use Rattle.station.specs.Written.{all-append}
-use Rattle.agreement.specs.Log.{OtherPair, Distinct}
-use Rattle.agreement.specs.Safe.{Just, Split}
-use Rattle.agreement.specs.Just.{bare, just-more, split-more, bare-just}
+use Rattle.agreement.specs.Maths.Log.{OtherPair, Distinct}
+use Rattle.agreement.specs.Maths.Safe.{Just, Split}
+use Rattle.agreement.specs.Maths.Just.{bare, just-more, split-more, bare-just}
 use Rattle.agreement.specs.Effect.{entry}
 use Rattle.agreement.specs.Line.{reads, reads-append, AtSite}
 use Rattle.agreement.specs.Demand.{Entry, member}

@@ -1,10 +1,6 @@
 pub mod Demand
-pub mod Counting
-pub mod Log
-pub mod Safe
-pub mod Just
+pub mod Maths
 pub mod Effect
-pub mod Took
 pub mod Line
 pub mod Giving
 pub mod Invariant

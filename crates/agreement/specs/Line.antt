@@ -1,4 +1,4 @@
--- What is known of a sound site's station: all that it took was coded and is justified, and its decision is what its votes say.
+-- Words whose codes came from the log were coded; and what is known of a sound site's station, carried from its state to its words and back.
 use mathlib.Core.Path.{_≡_, refl, sym, _∙_, ap, subst}
 use mathlib.Core.Bool.{Bool, true, false, _&&_, _||_}
 use mathlib.Core.List.{List, [], _∷_, _++_, List·Memᴰ·head, List·Memᴰ·tail}
@@ -8,27 +8,27 @@ use lib.Dec.{eqb}
 use lib.ListN.{length, getD, take, drop}
 use Rattle.laws.specs.Pick.{pick}
 use Rattle.laws.specs.Bools.{never, both}
-use Rattle.laws.specs.Refusals.{All, all-map}
+use Rattle.laws.specs.Refusals.{All}
 use Rattle.laws.specs.Count.{count}
 use Rattle.format.specs.Numbers.{none}
 use Rattle.format.specs.Group.{quorum}
 use Rattle.format.specs.Words.{fields-of, formed, station-of}
-use Rattle.format.specs.Statement.{Statement, statement, statements, covered-at, covered, same-words, verifies, step, well-formed}
+use Rattle.format.specs.Statement.{Statement, statement, statements, covered-at, covered, same-words, verifies, well-formed}
 use Rattle.format.specs.Bundle.{all-formed}
 use Rattle.format.specs.Layout.{covered-read, same-out}
 use Rattle.format.specs.Shape.{formed-out, small}
 use Rattle.certificate.specs.Codes.{two-words}
 use Rattle.station.specs.declared.Station.{Station}
-use Rattle.station.specs.Machine.{stage-step}
+use Rattle.station.specs.Machine.{State}
 use Rattle.station.specs.Words as W
 use Rattle.station.specs.Words.{state-of, Lengths}
-use Rattle.station.specs.Fit.{fits}
-use Rattle.station.specs.Written.{Certain}
-use Rattle.agreement.specs.Log.{In}
-use Rattle.agreement.specs.Safe.{Just}
-use Rattle.agreement.specs.Just.{Coded, just-more, coded-more}
-use Rattle.agreement.specs.Took.{NowHeld}
-use Rattle.agreement.specs.Demand.{Entry, is-statement, votes, logged, CodesCame}
+use Rattle.station.specs.Sane.{Sane, state-back}
+use Rattle.station.specs.Written.{lengths-of}
+use Rattle.agreement.specs.Maths.Votes.{votes}
+use Rattle.agreement.specs.Maths.Log.{In}
+use Rattle.agreement.specs.Maths.Just.{Coded}
+use Rattle.agreement.specs.Maths.Standing.{Enough, Open, Standing, standing-more}
+use Rattle.agreement.specs.Demand.{Entry, is-statement, logged, CodesCame}
 
 -- the statements of a log: what other words were coded is left out
 unfoldable pub reads : List Entry → List Statement
@@ -103,48 +103,41 @@ module _ (mac : List ℕ → List ℕ → List ℕ) (key : List ℕ) (n : ℕ) (
             (subst (λ (z : ℕ). All (λ s. verifies (mac key) s ≡ true) (statements ws z k)) e (v .1))),
       )
 
--- ---- a sound site's station
-pub record Enough (n : ℕ) (took : List Statement) (question v : ℕ) : Type 0 where
-  pub round : ℕ
-  pub enough : quorum n ≤ count (votes took question round v) n
+-- ---- a sound site's station: its words stand for a state of which all is known
+pub record Line (n : ℕ) (l : List Statement) (i : ℕ) (t : Station) (took : List Statement) : Type 0 where
+  pub lengths : Lengths t
+  pub standing : Standing n l i (state-of t) took
 
-module _ (mac : List ℕ → List ℕ → List ℕ) (key : List ℕ) (n : ℕ) where
-  pub record OpenLine (l : List Statement) (i : ℕ) (t : Station) (took : List Statement) : Type 0 where
-    pub fit : fits n i t ≡ true
-    pub certain : Certain (mac key) (state-of t)
-    pub among : All (λ s. In s took) (state-of t .held)
-    pub for-value-coded : All (Coded n l) (state-of t .for-value)
-    pub for-none-coded : All (Coded n l) (state-of t .for-none)
-    pub upto : All (λ s. step s ≤ stage-step (t .stage)) took
-    pub now-held : NowHeld (stage-step (t .stage)) (state-of t .held) took
+pub line-more : (n : ℕ) (u : Statement) (l : List Statement) (i : ℕ) (t : Station) (took : List Statement) → Line n l i t took → Line n (u ∷ l) i t took
+line-more n u l i t took L = record { lengths = L .lengths; standing = standing-more n u l i (state-of t) took (L .standing) }
 
-  pub record Line (l : List Statement) (i : ℕ) (t : Station) (took : List Statement) : Type 0 where
-    pub lengths : Lengths t
-    pub facts : All (λ s. Coded n l s × Just n l s) took
-    pub asked : All (λ s. s .question ≡ t .identity .question) took
-    pub low : t .decision ≤ none
-    pub named : (v : ℕ) → v < none → t .decision ≡ v → Enough n took (t .identity .question) v
-    pub names : (v r : ℕ) → v < none → quorum n ≤ count (votes took (t .identity .question) r v) n → t .decision < none
-    pub while-open : t .closed ≡ false → OpenLine l i t took
+-- what is said of the state, said of the words
+module _ (n : ℕ) (l : List Statement) (i : ℕ) (t : Station) (took : List Statement) (L : Line n l i t took) where
+  pub line-asked : All (λ s. s .question ≡ t .identity .question) took
+  unfolding state-of
+  line-asked = L .standing .asked
 
-  -- it stays so as the log grows
-  pub line-more : (u : Statement) (l : List Statement) (i : ℕ) (t : Station) (took : List Statement) → Line l i t took → Line (u ∷ l) i t took
-  line-more u l i t took L =
-      record {
-        lengths = L .lengths;
-        facts = all-map (λ s p. (coded-more n u l s (p .0), just-more n u l s (p .1))) took (L .facts);
-        asked = L .asked;
-        low = L .low;
-        named = L .named;
-        names = L .names;
-        while-open = λ e. let o = L .while-open e in
-            record {
-              fit = o .fit;
-              certain = o .certain;
-              among = o .among;
-              for-value-coded = all-map (coded-more n u l) (state-of t .for-value) (o .for-value-coded);
-              for-none-coded = all-map (coded-more n u l) (state-of t .for-none) (o .for-none-coded);
-              upto = o .upto;
-              now-held = o .now-held;
-            };
-      }
+  pub line-low : t .decision ≤ none
+  unfolding state-of
+  line-low = L .standing .low
+
+  pub line-named : (v : ℕ) → v < none → t .decision ≡ v → Enough n took (t .identity .question) v
+  unfolding state-of
+  line-named = L .standing .named
+
+  pub line-names : (v r : ℕ) → v < none → quorum n ≤ count (votes took (t .identity .question) r v) n → t .decision < none
+  unfolding state-of
+  line-names = L .standing .names
+
+  pub line-open : t .closed ≡ false → Open n l i (state-of t) took
+  unfolding state-of
+  line-open = L .standing .while-open
+
+-- and back: a state as a station
+pub open-line : (n number : ℕ) (l : List Statement) (u : State) (took : List Statement) → n ≤ 31 → 1 ≤ number → number ≤ n → Sane n number u → Standing n l number u took
+    → Line n l number (W.as-station n number u) took
+open-line n number l u took top lo hi S K =
+    record {
+      lengths = lengths-of n number u top S;
+      standing = subst (λ (x : State). Standing n l number x took) (sym (state-back n number u top lo hi S)) K;
+    }

@@ -12,8 +12,9 @@ use Rattle.laws.specs.Bools.{right}
 use Rattle.format.specs.Statement.{Statement}
 use Rattle.rules.specs.Rules.{some}
 use Rattle.station.specs.Calls.{Returned}
-use Rattle.agreement.specs.Counting.{count-mono}
-use Rattle.agreement.specs.Demand.{Call, action, View, starting, going-on, apart, view, Lineage, Found, nothing, found, written-main, given-main, opened, gave, counted, went, votes, answer, unrefused-at, openings, lineage, Sound, FewFaulty, Given, Decides}
+use Rattle.agreement.specs.Maths.Counting.{count-mono}
+use Rattle.agreement.specs.Maths.Votes.{votes}
+use Rattle.agreement.specs.Demand.{Call, action, View, starting, going-on, apart, view, Lineage, Found, nothing, found, written-main, given-main, opened, gave, counted, went, answer, unrefused-at, openings, lineage, Sound, FewFaulty, Given, Decides}
 
 -- what is among some statements is among more of them
 some-behind : (p : Statement → Bool) (new l : List Statement) → some p l ≡ true → some p (new ++ l) ≡ true

@@ -30,15 +30,16 @@ use Rattle.station.specs.Keep.{steps-0}
 use Rattle.station.specs.Views.{InRange, init-statement, Opens, no-opening, begins, opens-view, Gives, refuses, holds-on, shuts, goes-on, gives-view, sent-statement, Accepted, after, decision-then}
 use Rattle.station.specs.Returns.{unrefused, wrote, took, wrote-unrefused, sent-wrote, sent-took}
 use Rattle.station.specs.Fits.{own-proper, init-sane, sent-proper}
-use Rattle.station.specs.Written.{own-verifies, lengths-of}
-use Rattle.agreement.specs.Safe.{Just, Split}
-use Rattle.agreement.specs.Just.{bare, backed-just}
-use Rattle.agreement.specs.Took.{none-there, enough-before}
+use Rattle.agreement.specs.Maths.Safe.{Just, Split}
+use Rattle.agreement.specs.Maths.Just.{bare, backed-just}
+use Rattle.agreement.specs.Maths.Standing.{Standing}
+use Rattle.agreement.specs.Maths.Took.{none-there, enough-before}
 use Rattle.agreement.specs.Effect.{entry, coded-at, Effect, silent, speaks, log-of, after-of, open-coded, open-after, give-coded, give-after}
-use Rattle.agreement.specs.Line.{reads, reads-append, AtSite, Line, line-more}
-use Rattle.agreement.specs.Giving.{open-line, kept-line, shut-line, sent-line, sent-just, sent-split}
+use Rattle.agreement.specs.Line.{reads, reads-append, AtSite, Line, line-more, open-line}
+use Rattle.agreement.specs.Giving.{kept-line, shut-line, sent-line, sent-just, sent-split}
 use Rattle.agreement.specs.Invariant.{Mine, LogInv, unchanged, log-add, entry-read, entry-at}
-use Rattle.agreement.specs.Demand.{Action, opens, gives, Call, call, site, action, apart, view, Entry, Lineage, Found, found, written-main, given-main, opened, gave, member, votes, act, modules, answer, log, openings, lineage, Presents, CodesCame}
+use Rattle.agreement.specs.Maths.Votes.{votes}
+use Rattle.agreement.specs.Demand.{Action, opens, gives, Call, call, site, action, apart, view, Entry, Lineage, Found, found, written-main, given-main, opened, gave, member, act, modules, answer, log, openings, lineage, Presents, CodesCame}
 
 -- the main statement of a written bundle, read again
 main-written : (n : ℕ) (s : Statement) (c : List Statement) (out : List ℕ) → n ≤ 31 → Proper n s → statement (over (bundle-of s c) out) 1 ≡ s
@@ -63,54 +64,60 @@ module _ (mac : List ℕ → List ℕ → List ℕ) (eight : (key ws : List ℕ)
   unfolding step
   init-step = steps-0 kind-INIT 0 refl
 
-  pub init-line : Line mac (m .key) (m .n) l2 (m .station) (W.as-station (m .n) (m .station) (began q Gathering none s [])) (s ∷ [])
-  unfolding W.as-station some pick
-  init-line =
-      let S = init-sane mac eight m q v r p in
+  init-standing : Standing (m .n) l2 (m .station) (began q Gathering none s []) (s ∷ [])
+  unfolding some pick
+  init-standing =
       record {
-        lengths = lengths-of (m .n) (m .station) (began q Gathering none s []) (r .at-most-31) S;
         facts = ((record { mem = List·Memᴰ·head refl; low = r .low; high = r .high }, init-just l2), tt);
         asked = (refl, tt);
         low = omega arith;
         named = λ w low e. absurd (omega arith);
         names = λ w k low enough. absurd (none-yet w k enough);
         while-open = λ e.
-            open-line mac (m .key) (m .n) (m .station) l2 (s ∷ []) (began q Gathering none s []) (r .at-most-31) (r .low) (r .high) S
-            (record { held = (own-verifies (mac (m .key)) (m .station) q kind-INIT v D-GET 0, tt); for-value = tt; for-none = tt; given = ((λ a b. absurd (omega arith)), tt) })
-            (List·Memᴰ·head refl, tt) tt tt (omega (arith, init-step), tt)
-            ((λ z. left (has-value (s .value) s && eqb (s .station) (s .station)) false (join (has-value (s .value) s) _ (eq-eqb (s .value) (s .value) refl) (eq-eqb (s .station) (s .station) refl))), tt);
+            record {
+              sane = init-sane mac eight m q v r p;
+              given = ((λ a b. absurd (omega arith)), tt);
+              among = (List·Memᴰ·head refl, tt);
+              for-value-coded = tt;
+              for-none-coded = tt;
+              upto = (omega (arith, init-step), tt);
+              now-held = (
+                (λ z. left (has-value (s .value) s && eqb (s .station) (s .station)) false
+                    (join (has-value (s .value) s) _ (eq-eqb (s .value) (s .value) refl) (eq-eqb (s .station) (s .station) refl))),
+                tt,
+              );
+            };
       }
     where
       none-yet : (w k : ℕ) → quorum (m .n) ≤ count (votes (s ∷ []) q k w) (m .n) → ⊥
       none-yet w k enough = omega (arith, enough-before q k w (m .n) (quorum (m .n)) s [] (λ e. omega (arith, init-step)) enough, none-there (m .n))
 
+  pub init-line : Line (m .n) l2 (m .station) (W.as-station (m .n) (m .station) (began q Gathering none s [])) (s ∷ [])
+  init-line = open-line (m .n) (m .station) l2 (began q Gathering none s []) (s ∷ []) (r .at-most-31) (r .low) (r .high) (init-sane mac eight m q v r p) init-standing
+
 module _ (mac : List ℕ → List ℕ → List ℕ) (eight : (key ws : List ℕ) → length (mac key ws) ≡ 8) (key : List ℕ) (n : ℕ) (low : 2 ≤ n) (top : n ≤ 31) (faulty : List ℕ) where
   -- a site's module is the group's: what holds by its words holds by the group's
   of-mine : (i : ℕ) (m : Module) → Mine key n faulty i m → (l : List Statement) (t : Station) (took : List Statement)
-      → Line mac (m .key) (m .n) l (m .station) t took → Line mac key n l i t took
-  of-mine i m M l t took L =
-      subst (λ (x : List ℕ). Line mac x n l i t took) (M .same-key)
-      (subst (λ (x : ℕ). Line mac (m .key) x l i t took) (M .same-n) (subst (λ (x : ℕ). Line mac (m .key) (m .n) l x t took) (M .same-number) L))
+      → Line (m .n) l (m .station) t took → Line n l i t took
+  of-mine i m M l t took L = subst (λ (x : ℕ). Line x l i t took) (M .same-n) (subst (λ (x : ℕ). Line (m .n) l x t took) (M .same-number) L)
 
   to-mine : (i : ℕ) (m : Module) → Mine key n faulty i m → (l : List Statement) (t : Station) (took : List Statement)
-      → Line mac key n l i t took → Line mac (m .key) (m .n) l (m .station) t took
-  to-mine i m M l t took L =
-      subst (λ (x : ℕ). Line mac (m .key) (m .n) l x t took) (sym (M .same-number))
-      (subst (λ (x : ℕ). Line mac (m .key) x l i t took) (sym (M .same-n)) (subst (λ (x : List ℕ). Line mac x n l i t took) (sym (M .same-key)) L))
+      → Line n l i t took → Line (m .n) l (m .station) t took
+  to-mine i m M l t took L = subst (λ (x : ℕ). Line (m .n) l x t took) (sym (M .same-number)) (subst (λ (x : ℕ). Line x l i t took) (sym (M .same-n)) L)
 
   came-mine : (i : ℕ) (m : Module) → Mine key n faulty i m → (l : List Entry) (ws : List ℕ) → CodesCame mac key n l ws → CodesCame mac (m .key) (m .n) l ws
   came-mine i m M l ws c = subst (λ (x : List ℕ). CodesCame mac x n l ws) (sym (M .same-key)) c
 
   -- what is known of the stations of sites that are not named faulty
   abbrev Lines : List Statement → (ℕ → ℕ → Found) → Type 0
-  Lines l f = (i k : ℕ) (line : Lineage) → 1 ≤ i → i ≤ n → member i faulty ≡ false → f i k ≡ found line → Line mac key n l i (line .present) (line .took)
+  Lines l f = (i k : ℕ) (line : Lineage) → 1 ≤ i → i ≤ n → member i faulty ≡ false → f i k ≡ found line → Line n l i (line .present) (line .took)
 
   pub record Inv (cs : List Call) : Type 0 where
     pub logs : LogInv key n faulty (modules mac key n cs) (log mac key n cs)
     pub lines : Lines (reads (log mac key n cs)) (lineage mac key n cs)
 
   lines-more : (u : Statement) (l : List Statement) (f : ℕ → ℕ → Found) → Lines l f → Lines (u ∷ l) f
-  lines-more u l f h i k line a b c e = line-more mac key n u l i (line .present) (line .took) (h i k line a b c e)
+  lines-more u l f h i k line a b c e = line-more n u l i (line .present) (line .took) (h i k line a b c e)
 
   same-line : (a b : Lineage) → found a ≡ found b → a ≡ b
   same-line a b e = cc
@@ -158,7 +165,7 @@ module _ (mac : List ℕ → List ℕ → List ℕ) (eight : (key ws : List ℕ)
       spoke : (s : Statement) → Proper (m .n) s → s .station ≡ m .station → above (last-for m (s .question)) (s .question) (step s) ≡ true
           → reads new ≡ bare s ∷ [] → All AtSite new → act mac key n m (action c) .after ≡ advanced m (s .question) (step s)
           → (member (site c) faulty ≡ false → Just n (reads (log mac key n cs)) s)
-          → (member (site c) faulty ≡ false → s .kind ≡ kind-V → s .value ≡ none → Rattle.agreement.specs.Safe.Split n (reads (log mac key n cs)) (s .question) (s .round))
+          → (member (site c) faulty ≡ false → s .kind ≡ kind-V → s .value ≡ none → Rattle.agreement.specs.Maths.Safe.Split n (reads (log mac key n cs)) (s .question) (s .round))
           → LogInv key n faulty (modules mac key n (c ∷ cs)) (log mac key n (c ∷ cs))
       spoke s p mine high e at a sj ss =
           let M = I .mods (site c) lo hi in
@@ -289,21 +296,21 @@ module _ (mac : List ℕ → List ℕ → List ℕ) (eight : (key ws : List ℕ)
                   present = W.as-station (mj .n) (mj .station) (began q Gathering none (init-statement mac mj q v out) []);
                   took = statement (over (bundle-of (init-statement mac mj q v out) []) out) 1 ∷ [];
                 })) (lineage mac key n cs i x) ≡ found line
-                → Line mac key n (bare (init-statement mac mj q v out) ∷ reads (log mac key n cs)) i (line .present) (line .took)
+                → Line n (bare (init-statement mac mj q v out) ∷ reads (log mac key n cs)) i (line .present) (line .took)
             picked i x line a b h true z f =
                 let s = init-statement mac mj q v out in
                 let proper : Proper (mj .n) s = own-proper mac eight mj q kind-INIT v D-GET 0 r (init refl refl p refl) in
                 let ji : j ≡ i = eqb-true j i (both (eqb j i) true (both (eqb j i && true) _ z .0) .0) in
                 let same = same-line _ line f in
                 let T = W.as-station (mj .n) (mj .station) (began q Gathering none s []) in
-                let L : Line mac key n (bare s ∷ reads (log mac key n cs)) j T (s ∷ [])
+                let L : Line n (bare s ∷ reads (log mac key n cs)) j T (s ∷ [])
                 = of-mine j mj mine (bare s ∷ reads (log mac key n cs)) T (s ∷ []) (init-line mac eight mj q v out (reads (log mac key n cs)) r p) in
-                let L1 : Line mac key n (bare s ∷ reads (log mac key n cs)) j T (statement (over (bundle-of s []) out) 1 ∷ [])
-                = subst (λ (y : Statement). Line mac key n (bare s ∷ reads (log mac key n cs)) j T (y ∷ [])) (sym (written-is proper (r .at-most-31))) L in
-                subst (λ (y : Lineage). Line mac key n (bare s ∷ reads (log mac key n cs)) i (y .present) (y .took)) same
-                (subst (λ (y : ℕ). Line mac key n (bare s ∷ reads (log mac key n cs)) y T (statement (over (bundle-of s []) out) 1 ∷ [])) ji L1)
+                let L1 : Line n (bare s ∷ reads (log mac key n cs)) j T (statement (over (bundle-of s []) out) 1 ∷ [])
+                = subst (λ (y : Statement). Line n (bare s ∷ reads (log mac key n cs)) j T (y ∷ [])) (sym (written-is proper (r .at-most-31))) L in
+                subst (λ (y : Lineage). Line n (bare s ∷ reads (log mac key n cs)) i (y .present) (y .took)) same
+                (subst (λ (y : ℕ). Line n (bare s ∷ reads (log mac key n cs)) y T (statement (over (bundle-of s []) out) 1 ∷ [])) ji L1)
             picked i x line a b h false z f =
-                line-more mac key n (bare (init-statement mac mj q v out)) (reads (log mac key n cs)) i (line .present) (line .took) (I .lines i x line a b h f)
+                line-more n (bare (init-statement mac mj q v out)) (reads (log mac key n cs)) i (line .present) (line .took) (I .lines i x line a b h f)
 
         go : (o : Outcome) → opening-outcome mac mj q v out ≡ o → Opens mac mj q v out o → Inv (c ∷ cs)
         go _ e (no-opening {k} w) = refused-so k e w
@@ -340,7 +347,7 @@ module _ (mac : List ℕ → List ℕ → List ℕ) (eight : (key ws : List ℕ)
     pub record Whose : Type 0 where
       pub line : Lineage
       pub is : lineage mac key n cs j o ≡ found line
-      pub known : Line mac (mg .key) (mg .n) before (mg .station) t (line .took)
+      pub known : Line (mg .n) before (mg .station) t (line .took)
 
     whose : member j faulty ≡ false → unrefused (answer mac key n cs g .number) ≡ true → Whose
     whose h u =
@@ -349,17 +356,17 @@ module _ (mac : List ℕ → List ℕ → List ℕ) (eight : (key ws : List ℕ)
           line = p .line;
           is = p .is;
           known = to-mine j mg mine-g before t (p .line .took)
-              (subst (λ (x : Station). Line mac key n before j x (p .line .took)) (p .now) (I .lines j o (p .line) lo hi h (p .is)));
+              (subst (λ (x : Station). Line n before j x (p .line .took)) (p .now) (I .lines j o (p .line) lo hi h (p .is)));
         }
 
     -- the stations behind a giving that is not refused
     placed : (r : Returned) (l : List Statement) → Lines l (lineage mac key n cs)
-        → (member j faulty ≡ false → Whose) → ((W : Whose) → member j faulty ≡ false → Line mac key n l j (r .station) (written-main r ++ (given-main r ws ++ W .line .took))) → Lines l (given-by r)
+        → (member j faulty ≡ false → Whose) → ((W : Whose) → member j faulty ≡ false → Line n l j (r .station) (written-main r ++ (given-main r ws ++ W .line .took))) → Lines l (given-by r)
     unfolding pick
     placed r l stays who next i k line a b h f = go (eqb j i && unrefused (r .number) && eqb o k) refl f
       where
         go : (x : Bool) → (eqb j i && unrefused (r .number) && eqb o k) ≡ x → pick x (gave r ws (lineage mac key n cs i k)) (lineage mac key n cs i k) ≡ found line
-            → Line mac key n l i (line .present) (line .took)
+            → Line n l i (line .present) (line .took)
         go false z f = stays i k line a b h f
         go true z f =
             let y = both (eqb j i && unrefused (r .number)) (eqb o k) z in
@@ -367,13 +374,13 @@ module _ (mac : List ℕ → List ℕ → List ℕ) (eight : (key ws : List ℕ)
             let ok : o ≡ k = eqb-true o k (y .1) in
             at-own (ap (λ (x : ℕ). member x faulty) ji ∙ h) ji ok
           where
-            at-own : member j faulty ≡ false → j ≡ i → o ≡ k → Line mac key n l i (line .present) (line .took)
+            at-own : member j faulty ≡ false → j ≡ i → o ≡ k → Line n l i (line .present) (line .took)
             at-own hj ji ok =
                 let W = who hj in
                 let was : lineage mac key n cs i k ≡ found (W .line) = sym (λ x. lineage mac key n cs (ji x) (ok x)) ∙ W .is in
                 let now : found (record { present = r .station; took = written-main r ++ (given-main r ws ++ W .line .took) }) ≡ found line = sym (ap (gave r ws) was) ∙ f in
-                subst (λ (x : Lineage). Line mac key n l i (x .present) (x .took)) (same-line _ line now)
-                (subst (λ (x : ℕ). Line mac key n l x (r .station) (written-main r ++ (given-main r ws ++ W .line .took))) ji (next W hj))
+                subst (λ (x : Lineage). Line n l i (x .present) (x .took)) (same-line _ line now)
+                (subst (λ (x : ℕ). Line n l x (r .station) (written-main r ++ (given-main r ws ++ W .line .took))) ji (next W hj))
 
     abbrev coded-g : Outcome → Type 0
     coded-g x = new g cs ≡ log-of mac eight key n j x
@@ -463,8 +470,8 @@ module _ (mac : List ℕ → List ℕ → List ℕ) (eight : (key ws : List ℕ)
                   lines = subst (λ (l : List Statement). Lines l (lineage mac key n (g ∷ cs))) (sym (reads-spoke g cs lo hi (I .logs) s (coded .0)))
                       (given-are (returned mg t out o') (returned-is o' e) (bare s ∷ before)
                       (placed (returned mg t out o') (bare s ∷ before) (lines-more (bare s) before (lineage mac key n cs) (I .lines)) (λ h. whose h un)
-                      (λ H h. subst (λ (y : List Statement). Line mac key n (bare s ∷ before) j T (y ++ (given-main (returned mg t out o') ws ++ H .line .took))) (sym (main-is k s (x .first ++ x .second) u wr proper (A .range .at-most-31)))
-                      (subst (λ (y : List Statement). Line mac key n (bare s ∷ before) j T (s ∷ (y ++ H .line .took))) (sym (given-is k tk))
+                      (λ H h. subst (λ (y : List Statement). Line n (bare s ∷ before) j T (y ++ (given-main (returned mg t out o') ws ++ H .line .took))) (sym (main-is k s (x .first ++ x .second) u wr proper (A .range .at-most-31)))
+                      (subst (λ (y : List Statement). Line n (bare s ∷ before) j T (s ∷ (y ++ H .line .took))) (sym (given-is k tk))
                       (of-mine j mg mine-g (bare s ∷ before) T (s ∷ (main-of ws ∷ H .line .took))
                       (sent-line mac eight mg t ws coin out (log mac key n cs) (H .line .took) (H .known) A came-g size more))))));
                 }

@@ -29,23 +29,24 @@ use Rattle.station.specs.Words.{state-of}
 use Rattle.station.specs.Calls.{Returned}
 use Rattle.format.specs.ReadBack.{Proper}
 use Rattle.station.specs.Sane.{Sane}
-use Rattle.station.specs.FitSane.{fits-sane}
 use Rattle.station.specs.Keep.{same-step}
 use Rattle.station.specs.Slots.{all-two}
 use Rattle.station.specs.Pieces as P
 use Rattle.station.specs.Views.{conflicts, Nearly}
 use Rattle.station.specs.Returns.{unrefused}
-use Rattle.agreement.specs.Counting.{count-mono}
-use Rattle.agreement.specs.Log.{In, is, has, has-out, has-at, Supp, all-at}
-use Rattle.agreement.specs.Safe as Safe
-use Rattle.agreement.specs.Safe.{Just, Split, LogOk, Decided}
-use Rattle.agreement.specs.Just.{bare, Coded, backed-just}
-use Rattle.agreement.specs.Took.{vote-out, one-more, none-there}
+use Rattle.agreement.specs.Maths.Counting.{count-mono}
+use Rattle.agreement.specs.Maths.Log.{In, is, has, has-out, has-at, Supp, all-at}
+use Rattle.agreement.specs.Maths.Safe as Safe
+use Rattle.agreement.specs.Maths.Safe.{Just, Split, LogOk, Decided}
+use Rattle.agreement.specs.Maths.Just.{bare, Coded, backed-just}
+use Rattle.agreement.specs.Maths.Took.{vote-out, one-more, none-there}
 use Rattle.agreement.specs.Effect.{plain-effect, toss-effect}
-use Rattle.agreement.specs.Line.{reads, AtSite, all-came, Enough, OpenLine, Line}
+use Rattle.agreement.specs.Line.{reads, AtSite, all-came, Line, line-asked, line-low, line-named, line-names, line-open}
+use Rattle.agreement.specs.Maths.Standing.{Enough, Open}
 use Rattle.agreement.specs.Invariant.{Mine, start}
 use Rattle.agreement.specs.Run.{Inv, apart-step, open-step, give-step}
-use Rattle.agreement.specs.Demand.{is-vote, opens, gives, codes, tosses, Call, call, site, action, View, starting, going-on, apart, view, Entry, is-statement, Lineage, Found, found, opened, gave, went, member, votes, proposed, act, modules, answer, log, openings, lineage, Presents, Sound, FewFaulty, CodesCame, Given, Decides, Claim, Demand-3}
+use Rattle.agreement.specs.Maths.Votes.{is-vote, votes}
+use Rattle.agreement.specs.Demand.{opens, gives, codes, tosses, Call, call, site, action, View, starting, going-on, apart, view, Entry, is-statement, Lineage, Found, found, opened, gave, went, member, proposed, act, modules, answer, log, openings, lineage, Presents, Sound, FewFaulty, CodesCame, Given, Decides, Claim, Demand-3}
 
 -- ---- the premise on numbers
 member-few : (l : List ℕ) (n : ℕ) → count (λ i. member i l) n ≤ length l
@@ -216,11 +217,11 @@ module _ (mac : List ℕ → List ℕ → List ℕ) (eight : (key ws : List ℕ)
     decided-by : (took : List Statement) (q r v : ℕ) → v < none → All (λ s. Coded n l s × Just n l s) took → quorum n ≤ count (votes took q r v) n → Decided n l q v
     decided-by took q r v b a e = let s = took-supp took q r v a e in record { round = r; from1 = from-1 q r v s; small = b; votes = s }
 
-    known : (i k : ℕ) (line : Lineage) → Given mac key n cs → member i faulty ≡ false → lineage mac key n cs i k ≡ found line → Line mac key n l i (line .present) (line .took)
+    known : (i k : ℕ) (line : Lineage) → Given mac key n cs → member i faulty ≡ false → lineage mac key n cs i k ≡ found line → Line n l i (line .present) (line .took)
     known i k line g h e = let r = in-group cs g i k line e in I .lines i k line (r .0) (r .1) h e
 
     decided : Given mac key n cs → (i k q v : ℕ) → member i faulty ≡ false → Decides mac key n cs i k q v → Decided n l q v
-    decided g i k q v h d = decided-by (d .line .took) q (d .round) v (d .bit) (known i k (d .line) g h (d .is) .facts) (d .enough)
+    decided g i k q v h d = decided-by (d .line .took) q (d .round) v (d .bit) (known i k (d .line) g h (d .is) .standing .facts) (d .enough)
 
     agree : Given mac key n cs → (i j k o q v w : ℕ) → member i faulty ≡ false → member j faulty ≡ false → Decides mac key n cs i k q v → Decides mac key n cs j o q w → v ≡ w
     agree g i j k o q v w hi hj d e = Safe.agreement n sound l bad-few low log-ok q v w (decided g i k q v hi d) (decided g j o q w hj e)
@@ -278,10 +279,10 @@ module _ (mac : List ℕ → List ℕ → List ℕ) (eight : (key ws : List ℕ)
         let L = known i k line g h e in
         let same : d .line ≡ line = cc (d .is) in
         let enough : quorum n ≤ count (votes (line .took) q (d .round) v) n = subst (λ (x : Lineage). quorum n ≤ count (votes (x .took) q (d .round) v) n) same (d .enough) in
-        let at-q : q ≡ line .present .identity .question = on-question (line .present) (line .took) q (d .round) v (L .asked) enough in
+        let at-q : q ≡ line .present .identity .question = on-question (line .present) (line .took) q (d .round) v (line-asked n l i (line .present) (line .took) L) enough in
         let named : line .present .decision < none
-        = L .names v (d .round) (d .bit) (subst (λ (x : ℕ). quorum n ≤ count (votes (line .took) x (d .round) v) n) at-q enough) in
-        let other = enough-decides i k (line .present .decision) line e named (L .named (line .present .decision) named refl) in
+        = line-names n l i (line .present) (line .took) L v (d .round) (d .bit) (subst (λ (x : ℕ). quorum n ≤ count (votes (line .took) x (d .round) v) n) at-q enough) in
+        let other = enough-decides i k (line .present .decision) line e named (line-named n l i (line .present) (line .took) L (line .present .decision) named refl) in
         sym (agree g i i k k (line .present .identity .question) v (line .present .decision) h h (subst (λ (x : ℕ). Decides mac key n cs i k x v) at-q d) other)
 
     -- ---- 10 at a sound site's own station
@@ -293,8 +294,8 @@ module _ (mac : List ℕ → List ℕ → List ℕ) (eight : (key ws : List ℕ)
       abbrev m : Module
       m = modules mac key n cs i
 
-      known-here : Line mac key n l i t (p .line .took)
-      known-here = subst (λ (x : Station). Line mac key n l i x (p .line .took)) (p .now) (known i k (p .line) g h (p .is))
+      known-here : Line n l i t (p .line .took)
+      known-here = subst (λ (x : Station). Line n l i x (p .line .took)) (p .now) (known i k (p .line) g h (p .is))
 
       range-i : (1 ≤ i) × (i ≤ n)
       range-i = in-group cs g i k (p .line) (p .is)
@@ -313,11 +314,11 @@ module _ (mac : List ℕ → List ℕ → List ℕ) (eight : (key ws : List ℕ)
         abbrev q : ℕ
         q = state-of t .question
 
-        O : OpenLine mac key n l i t (p .line .took)
-        O = known-here .while-open (N .still-open)
+        O : Open n l i (state-of t) (p .line .took)
+        O = line-open n l i t (p .line .took) known-here (N .still-open)
 
         sane : Sane n i (state-of t)
-        sane = fits-sane n i t top (range-i .0) (range-i .1) (known-here .lengths) (O .fit) (N .still-open)
+        sane = O .sane
 
         main-coded : Coded (m .n) l (main-of ws) × All (Coded (m .n) l) (certificate-of ws)
         unfolding statements
@@ -335,7 +336,7 @@ module _ (mac : List ℕ → List ℕ → List ℕ) (eight : (key ws : List ℕ)
         held-fact : All (Fact st q) (state-of t .held)
         held-fact =
             all-map (λ s x. let e = same-step s st (formed-out n s (x .0 .formed) .shape) (sane .rounds) (x .1 .1 .1) in
-            (all-at (λ s. Coded n l s × Just n l s) (p .line .took) (known-here .facts) s (x .1 .0) .1, (e .0, (e .1, x .1 .1 .0)))) (state-of t .held)
+            (all-at (λ s. Coded n l s × Just n l s) (p .line .took) (known-here .standing .facts) s (x .1 .0) .1, (e .0, (e .1, x .1 .1 .0)))) (state-of t .held)
             (all-two (Proper n) (λ s. In s (p .line .took) × ((s .question ≡ q) × (step s ≡ stage-step st))) (state-of t .held) (sane .proper)
             (all-two (λ s. In s (p .line .took)) (λ s. (s .question ≡ q) × (step s ≡ stage-step st)) (state-of t .held) (O .among) (sane .alike)))
 
@@ -406,12 +407,12 @@ module _ (mac : List ℕ → List ℕ → List ℕ) (eight : (key ws : List ℕ)
     enough-proposed i k q v si d = back (rest i i) (rest-few i i) cs (at i i si si) g i k q v (rest-i i i) d
 
     here : (i k : ℕ) (line : Lineage) → Sound mac key n i cs → lineage mac key n cs i k ≡ found line
-        → Line mac key n (reads (log mac key n cs)) i (line .present) (line .took)
+        → Line n (reads (log mac key n cs)) i (line .present) (line .took)
     here i k line si e = known (rest i i) (rest-few i i) cs (at i i si si) i k line g (rest-i i i) e
 
     decides-named : (i k v : ℕ) (line : Lineage) → Sound mac key n i cs → lineage mac key n cs i k ≡ found line → v < none → line .present .decision ≡ v
         → Decides mac key n cs i k (line .present .identity .question) v
-    decides-named i k v line si e b d = enough-decides (rest i i) (rest-few i i) cs (at i i si si) i k v line e b (here i k line si e .named v b d)
+    decides-named i k v line si e b d = enough-decides (rest i i) (rest-few i i) cs (at i i si si) i k v line e b (line-named n (reads (log mac key n cs)) i (line .present) (line .took) (here i k line si e) v b d)
 
     pub claim : Claim mac key n cs
     claim =
@@ -434,7 +435,7 @@ module _ (mac : List ℕ → List ℕ → List ℕ) (eight : (key ws : List ℕ)
             → ((v : ℕ) → Decides mac key n cs i k (line .present .identity .question) v → ⊥) → (b : Bool) → ltb (line .present .decision) none ≡ b
             → line .present .decision ≡ none
         not-named i k line si e no-v true x = absurd (no-v (line .present .decision) (decides-named i k (line .present .decision) line si e (ltb-true _ _ x) refl))
-        not-named i k line si e no-v false x = omega (arith, ltb-false (line .present .decision) none x, here i k line si e .low)
+        not-named i k line si e no-v false x = omega (arith, ltb-false (line .present .decision) none x, line-low n (reads (log mac key n cs)) i (line .present) (line .took) (here i k line si e))
 
 -- ---- the theorem, for HMAC-SHA-256
 pub demand-3 : Demand-3 hmac-code

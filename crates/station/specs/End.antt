@@ -2,7 +2,7 @@
 -- station keeps of it are those that its next step asks for.
 use Prim.Native.Nat.{ℕ, _+_, _-_, _*_, _≤_, _<_}
 use mathlib.Core.Bool.{Bool, true, false, _&&_}
-use mathlib.Core.List.{List, [], _++_, append-nil}
+use mathlib.Core.List.{List, [], _∷_, _++_, append-nil}
 use mathlib.Core.Path.{_≡_, refl, sym, ap, _∙_, subst}
 use native.Mathlib.Omega.{arith}
 use lib.Dec.{eqb, ltb, leb}
@@ -14,7 +14,7 @@ use Rattle.laws.specs.Bools.{never, both, join, is-false}
 use Rattle.laws.specs.Refusals.{All, all-map}
 use Rattle.format.specs.Numbers.{kind-INIT, kind-P, kind-V, none, D-GET, R-GET, last-round}
 use Rattle.format.specs.Group.{quorum, backing, proposed-0, proposed-1}
-use Rattle.format.specs.Statement.{Statement, well-formed, step}
+use Rattle.format.specs.Statement.{Statement, step}
 use Rattle.format.specs.Shape.{Shape, init, proposal, vote, Formed, formed-out}
 use Rattle.rules.specs.declared.Which.the-variants.{Any, Only}
 use Rattle.rules.specs.Rules.{which, matches, Rising, Holds, some, some-D-GET, some-value, inits, proposals, none-votes, Backed, rule-2, rule-3, rule-4, rule-5, rule-6, rule-7}
@@ -22,12 +22,13 @@ use Rattle.certificate.specs.Check.{every}
 use Rattle.certificate.specs.Exact.{every-out}
 use Rattle.station.specs.declared.Stage.{Stage}
 use Rattle.station.specs.declared.Stage.the-variants.{Gathering, Proposing, Voting}
-use Rattle.station.specs.Machine.{State, kind-in, round-in, stage-step, supplies-for-value, supplies-for-none, number-of, has-value, first-value, those, vote-value, carried, Next, after-inits, after-proposals, after-votes, conflict}
+use Rattle.station.specs.Machine.{State, kind-in, round-in, stage-step, supplies-for-value, supplies-for-none, number-of, has-value, first-value, those, vote-value, carried, Next, after-inits, after-proposals, after-votes, conflict, keeping, held-of}
 use Rattle.station.specs.Words.{kept-for-value, kept-for-none, value-group, leading}
 use Rattle.format.specs.ReadBack.{Proper}
 use Rattle.station.specs.Slots.{all-two}
-use Rattle.station.specs.Sane.{Kept, InRounds, FlagOf}
-use Rattle.station.specs.Keep.{same-step, all-take}
+use Rattle.station.specs.Sane.{Kept, InRounds, FlagOf, Sane}
+use Rattle.station.specs.Insert.{conflict-insert}
+use Rattle.station.specs.Keep.{Fitting, same-step, all-take, grown, kept-for-value-on, kept-for-none-on}
 use Rattle.station.specs.Pieces.{asked-for, those-length, those-all, those-rising, take-rising, zeros-ones, some-other, none-some, some-weaker, leading-is}
 
 -- q statements of the step, and the groups kept with them
@@ -40,6 +41,22 @@ pub record Full (n : ℕ) (k : State) : Type 0 where
   pub rounds : InRounds (k .stage)
   pub for-value : Kept n (k .question) (kept-for-value n (k .stage) (k .held)) (k .for-value)
   pub for-none : Kept n (k .question) (kept-for-none n (k .stage) (k .held)) (k .for-none)
+
+-- a sane state with one bundle more, where that makes q
+pub full-grown : (n number : ℕ) (t : State) (m : Statement) (c : List Statement) → Sane n number t → Fitting n (t .question) (t .stage) m c → held-of (m .station) (t .held) ≡ false
+    → conflict (t .stage) (m ∷ t .held) ≡ false → length (keeping n t m c .held) ≡ quorum n → Full n (keeping n t m c)
+full-grown n number t m c S F new calm size =
+    let G = grown n number t m c S F new in
+    record {
+      rising = G .rising;
+      proper = G .proper;
+      alike = G .alike;
+      size = size;
+      calm = conflict-insert (t .stage) m (t .held) ∙ calm;
+      rounds = S .rounds;
+      for-value = kept-for-value-on n number t m c S F new;
+      for-none = kept-for-none-on n number t m c S F new;
+    }
 
 -- no proposal of round 1 is R-GET: no valid bundle has one
 abbrev pub Given : List Statement → Type 0

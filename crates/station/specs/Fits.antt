@@ -1,5 +1,5 @@
 -- Fit: each station that an unrefused opening or giving returns fits, whatever station was handed in. A refusal returns what it was given.
-use Prim.Native.Nat.{ℕ, _+_, _-_, _≤_, _<_}
+use Prim.Native.Nat.{ℕ, _-_, _≤_, _<_}
 use mathlib.Core.Bool.{Bool, true, false, _&&_, _||_}
 use mathlib.Core.List.{List, [], _∷_, _++_}
 use mathlib.Core.Path.{_≡_, refl, subst}
@@ -10,7 +10,7 @@ use borrow.Author.Tests.{eqb-false, eq-eqb}
 use Rattle.laws.specs.Pick.{pick}
 use Rattle.laws.specs.Bools.{never, join, left}
 use Rattle.laws.specs.Refusals.{All}
-use Rattle.format.specs.Numbers.{kind-INIT, none, D-GET, last-round, sent}
+use Rattle.format.specs.Numbers.{kind-INIT, none, D-GET, last-round}
 use Rattle.format.specs.Group.{quorum}
 use Rattle.format.specs.Words.{step-of}
 use Rattle.format.specs.Statement.{Statement, step}

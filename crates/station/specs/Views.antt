@@ -1,5 +1,5 @@
 -- What opening and giving come to, case by case: refused, kept, closed or sent, each with the facts that its tests have shown.
-use Prim.Native.Nat.{ℕ, suc, _+_, _-_, _≤_, _<_}
+use Prim.Native.Nat.{ℕ, suc, _≤_, _<_}
 use mathlib.Core.Bool.{Bool, true, false, not, _&&_, _||_}
 use mathlib.Core.List.{List, [], _∷_, _++_}
 use mathlib.Core.Path.{_≡_, refl, sym, _∙_}
@@ -12,7 +12,7 @@ use Rattle.laws.specs.Bools.{both}
 use Rattle.laws.specs.Refusals.{All, all-map, Test, test, first-failed, all-passed}
 use Rattle.format.specs.Numbers.{kind-INIT, none, D-GET, kept, sent, sent-decided, closed-now, output-words, conflicting, not-above}
 use Rattle.format.specs.Group.{size-fits, quorum}
-use Rattle.format.specs.Statement.{Statement, statement, statements, well-formed, verifies, step}
+use Rattle.format.specs.Statement.{Statement, statements, well-formed, verifies, step}
 use Rattle.format.specs.Bundle.{count-in, main-of, certificate-of}
 use Rattle.format.specs.Layout.{all-well}
 use Rattle.format.specs.Shape.{formed-out}
@@ -33,11 +33,11 @@ use Rattle.station.specs.Returns.{unrefused}
 use Rattle.station.specs.Calls.{returned, giving, open-tests, opening-outcome, station-tests, give-tests, giving-outcome}
 use Rattle.format.specs.ReadBack.{Proper}
 use Rattle.station.specs.Slots.{all-two}
-use Rattle.station.specs.Insert.{insert-length, conflict-insert}
+use Rattle.station.specs.Insert.{insert-length}
 use Rattle.station.specs.Sane.{Sane}
 use Rattle.station.specs.FitSane.{fits-sane, eights}
-use Rattle.station.specs.Keep.{Fitting, kept-for-value-on, kept-for-none-on, grown}
-use Rattle.station.specs.End.{Full}
+use Rattle.station.specs.Keep.{Fitting}
+use Rattle.station.specs.End.{Full, full-grown}
 
 -- a failed test's number is one of the table's
 pub failed-one : (P : ℕ → Type 0) (l : List Test) → All (λ t. P (t .number)) l → (first-failed l ≡ 0 → ⊥) → P (first-failed l)
@@ -199,19 +199,7 @@ module _ (mac : List ℕ → List ℕ → List ℕ) where
       sane-before A = fits-sane (m .n) (m .station) t (A .range .at-most-31) (A .range .low) (A .range .high) L (A .fit) (A .still-open)
 
       pub full-after : Accepted → length (after .held) ≡ quorum (m .n) → Full (m .n) after
-      full-after A size =
-          let S = sane-before A in
-          let G = grown (m .n) (m .station) (state-of t) (main-of ws) (certificate-of ws) S (A .fitting) (A .new) in
-          record {
-            rising = G .rising;
-            proper = G .proper;
-            alike = G .alike;
-            size = size;
-            calm = conflict-insert (state-of t .stage) (main-of ws) (state-of t .held) ∙ A .calm;
-            rounds = S .rounds;
-            for-value = kept-for-value-on (m .n) (m .station) (state-of t) (main-of ws) (certificate-of ws) S (A .fitting) (A .new);
-            for-none = kept-for-none-on (m .n) (m .station) (state-of t) (main-of ws) (certificate-of ws) S (A .fitting) (A .new);
-          }
+      full-after A size = full-grown (m .n) (m .station) (state-of t) (main-of ws) (certificate-of ws) (sane-before A) (A .fitting) (A .new) (A .calm) size
 
       few-after : Accepted → length (after .held) ≤ quorum (m .n)
       few-after A = omega (arith, insert-length (main-of ws) (state-of t .held), sane-before A .few)

@@ -13,7 +13,7 @@ use borrow.Author.Tests.{eq-eqb}
 use Rattle.laws.specs.Pick.{pick}
 use Rattle.laws.specs.Bools.{never, join}
 use Rattle.laws.specs.Refusals.{All, all-map}
-use Rattle.format.specs.Numbers.{kind-INIT, kind-P, none, D-GET, R-GET, sent, bundle-words, most-statements}
+use Rattle.format.specs.Numbers.{kind-INIT, kind-P, none, D-GET, R-GET, bundle-words, most-statements}
 use Rattle.format.specs.Group.{quorum, backing}
 use Rattle.format.specs.Statement.{Statement, statements, covered, same-words, verifies, hmac-code}
 use Rattle.format.specs.Bundle.{main-of, certificate-of}
@@ -112,7 +112,7 @@ module _ (P : Statement → Type 0) (n : ℕ) (k : State) (coin : ℕ) (h : All 
       go false = (h, tt)
 
 -- a proposal of round 1 that a rule backs is D-GET
-backed-given : (n : ℕ) (m : Statement) (c : List Statement) → Backed n m c → m .round ≡ 1 → m .kind ≡ kind-P → m .flag ≡ D-GET
+pub backed-given : (n : ℕ) (m : Statement) (c : List Statement) → Backed n m c → m .round ≡ 1 → m .kind ≡ kind-P → m .flag ≡ D-GET
 backed-given n m c (rule-1 k) r p = absurd (omega arith)
 backed-given n m c (rule-2 k a f h) r p = f
 backed-given n m c (rule-3 k a f h) r p = f

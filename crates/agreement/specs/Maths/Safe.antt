@@ -9,7 +9,7 @@ use borrow.Author.Tests.{eqb-true, eqb-false, ltb-true, ltb-false}
 use Rattle.laws.specs.Count.{count}
 use Rattle.format.specs.Group.{quorum, backing, most-faulty, quorums-meet, quorum-sound}
 use Rattle.format.specs.Statement.{Statement}
-use Rattle.agreement.specs.Log.{In, has, Has, has-out, has-one, Supp, Distinct}
+use Rattle.agreement.specs.Maths.Log.{In, has, Has, has-out, has-one, Supp, Distinct}
 
 -- what a verified certificate gives: rules 2 to 5, and rule 7's second group
 pub record Just (n : ℕ) (l : List Statement) (s : Statement) : Type 0 where

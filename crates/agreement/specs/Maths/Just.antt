@@ -18,9 +18,9 @@ use Rattle.rules.specs.declared.Which.the-variants.{Any, Only}
 use Rattle.rules.specs.Rules.{wanted, matches, group, Holds, Backed, rule-1, rule-2, rule-3, rule-4, rule-5, rule-6, rule-7}
 use Rattle.rules.specs.Rules as R
 use Rattle.station.specs.Slots.{all-two}
-use Rattle.agreement.specs.Counting.{Rise, rise-dist, dist-count, count-mono}
-use Rattle.agreement.specs.Log.{In, has, has-out, has-at, Supp}
-use Rattle.agreement.specs.Safe.{Just, Split}
+use Rattle.agreement.specs.Maths.Counting.{Rise, rise-dist, dist-count, count-mono}
+use Rattle.agreement.specs.Maths.Log.{In, has, has-out, has-at, Supp}
+use Rattle.agreement.specs.Maths.Safe.{Just, Split}
 
 -- a statement but for its code: what the log has
 abbrev pub bare : Statement → Statement

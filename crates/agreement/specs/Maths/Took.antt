@@ -21,10 +21,10 @@ use Rattle.certificate.specs.Exact.{every-out}
 use Rattle.station.specs.Slots.{all-two}
 use Rattle.station.specs.Pieces.{Found, find-some}
 use Rattle.station.specs.Keep.{steps-V}
-use Rattle.agreement.specs.Counting.{count-mono}
-use Rattle.agreement.specs.Log.{In, some-in}
-use Rattle.agreement.specs.Just.{rising-count}
-use Rattle.agreement.specs.Demand.{is-vote, votes}
+use Rattle.agreement.specs.Maths.Counting.{count-mono}
+use Rattle.agreement.specs.Maths.Log.{In, some-in}
+use Rattle.agreement.specs.Maths.Just.{rising-count}
+use Rattle.agreement.specs.Maths.Votes.{is-vote, votes}
 
 -- what the test that `votes` counts by says
 pub record Vote (q r v i : ℕ) (s : Statement) : Type 0 where
