@@ -20,6 +20,6 @@ pub extern "C" fn check_exports_compress(state: &mut [u32; 8], block: &[u32; 16]
 {
     let s = *state;
     let b = *block;
-    let r = compression::compress(s, b);
+    let r = block::compress(s, b);
     *state = r;
 }

@@ -1,8 +1,12 @@
--- The rounds over a record of the working variables, as the code keeps them.
+-- A word of the schedule, and the rounds over a record of the working variables, as the code keeps them.
 use mathlib.Core.List.{List, [], _∷_}
 use Prim.Native.Nat.{ℕ}
-use Rattle.compression.specs.Compression.{plus, T1, T2, rounds}
+use Rattle.compression.specs.Compression.{plus, σ0, σ1, T1, T2, rounds}
 use Rattle.compression.specs.declared.Working.{Working}
+
+-- a word of the schedule, from the words 2, 7, 15 and 16 places before it
+abbrev pub scheduled : ℕ → ℕ → ℕ → ℕ → ℕ
+scheduled p q r s = plus (plus (plus (σ1 p) q) (σ0 r)) s
 
 -- one round
 abbrev pub stepped : Working → ℕ → ℕ → Working

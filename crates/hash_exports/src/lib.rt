@@ -13,7 +13,7 @@ pub extern "C" fn hash_exports_block(state: &mut [u32; 8], block: &[u8; 64])
 {
     let s = *state;
     let b = *block;
-    let r = compression::compress(s, sha256::block_words(b));
+    let r = block::compress(s, sha256::block_words(b));
     *state = r;
 }
 

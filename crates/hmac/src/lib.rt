@@ -78,7 +78,7 @@ fn mask(k: [u8; 64], p: u8) -> [u8; 64]
 fn key_state(b: [u8; 64], p: u8) -> [u32; 8]
     ensures { λ r. ⌜ r ≡ compressed initial (words (masked p b)) ⌝ }
 {
-    compression::compress(sha256::initial_state(), sha256::block_words(mask(b, p)))
+    block::compress(sha256::initial_state(), sha256::block_words(mask(b, p)))
 }
 
 fn key_states(k: &[u8]) -> Prepared
@@ -131,7 +131,7 @@ fn close(s: [u32; 8], ws: &[u32]) -> [u32; 8]
     requires { ⌜ length (now ws) ≤ 13 ⌝ }
     ensures { λ r. ⌜ r ≡ closed s (now (ws .entry)) ⌝ }
 {
-    compression::compress(s, last_block(ws))
+    block::compress(s, last_block(ws))
 }
 
 fn close_state(s: [u32; 8], i: [u32; 8]) -> [u32; 8]

@@ -63,7 +63,7 @@ fn whole_blocks(state: [u32; 8], s: &[u8]) -> [u32; 8]
     let mut i = 0;
     while i < n {
         let block = load(s, i * 64);
-        let next = compression::compress(h, block);
+        let next = block::compress(h, block);
         h = next;
         i += 1;
     }

@@ -1,10 +1,10 @@
 -- The two loops, one after the other, are the rounds over the whole schedule.
 use mathlib.Core.Path.{_∙_}
 use Rattle.compression.specs.Compression.{constants, roundsFrom}
 use Rattle.compression.specs.Steps.{onward}
 use borrow.Author.Needs.{needs}
-use Rattle.compression.proofs.all_rounds.Statement.{statement}
-use Rattle.compression.proofs.all_rounds.Tie as tie
+use Rattle.block.proofs.all_rounds.Statement.{statement}
+use Rattle.block.proofs.all_rounds.Tie as tie
 
 array-read-t12 : tie.Need-array-read-t12
 array-read-t12 c = search needs

@@ -4,9 +4,9 @@ use Prim.Native.Nat.{_≤_, _-_}
 use native.Mathlib.Omega.{arith}
 use lib.ListN.{length, take, length-set}
 use borrow.Author.Needs.{needs}
-use Rattle.compression.proofs.Words.{copied, first}
-use Rattle.compression.proofs.opened.Statement.{statement}
-use Rattle.compression.proofs.opened.Tie as tie
+use Rattle.block.proofs.Words.{copied, first}
+use Rattle.block.proofs.opened.Statement.{statement}
+use Rattle.block.proofs.opened.Tie as tie
 
 abbrev Inv-loop : tie.InvT-loop
 Inv-loop block w₀ j₀ w j = (j ≤ 16) × ((length w ≡ 64) × (take j w ≡ take j block))

@@ -4,14 +4,14 @@ use Prim.Native.Nat.{_+_, _-_, _≤_}
 use native.Mathlib.Omega.{arith}
 use lib.ListN.{length, take, drop, length-set}
 use lib.Seq.{length-take-le}
 use Rattle.compression.specs.Compression.{extended}
 use Rattle.compression.specs.Steps.{onward}
 use Rattle.compression.specs.Shape.{extended-length}
-use Rattle.compression.proofs.Rounds.{turn, half-way}
-use Rattle.compression.proofs.Words.{grow, full, word-of}
+use Rattle.block.proofs.Rounds.{turn, half-way}
+use Rattle.block.proofs.Words.{grow, full, word-of}
 use borrow.Author.Needs.{needs}
-use Rattle.compression.proofs.first_rounds.Statement.{statement}
-use Rattle.compression.proofs.first_rounds.Tie as tie
+use Rattle.block.proofs.first_rounds.Statement.{statement}
+use Rattle.block.proofs.first_rounds.Tie as tie
 
 abbrev Inv-loop : tie.InvT-loop
 Inv-loop k w₀ v₀ i₀ w v i = (i ≤ 48) × ((length k ≡ 64) × ((length w ≡ 64) × ((extended (48 - i) (take (i + 16) w) ≡ extended 48 (take 16 w₀)) × (onward (drop i k) (drop i (extended 48 (take 16 w₀))) v ≡ onward k (extended 48 (take 16 w₀)) v₀))))

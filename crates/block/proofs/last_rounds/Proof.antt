@@ -3,11 +3,11 @@ use mathlib.Core.Path.{_≡_, refl, sym, _∙_}
 use Prim.Native.Nat.{_-_, _≤_}
 use native.Mathlib.Omega.{arith}
 use lib.ListN.{length, drop}
 use Rattle.compression.specs.Steps.{onward}
-use Rattle.compression.proofs.Rounds.{turn, last}
+use Rattle.block.proofs.Rounds.{turn, last}
 use borrow.Author.Needs.{needs}
-use Rattle.compression.proofs.last_rounds.Statement.{statement}
-use Rattle.compression.proofs.last_rounds.Tie as tie
+use Rattle.block.proofs.last_rounds.Statement.{statement}
+use Rattle.block.proofs.last_rounds.Tie as tie
 
 abbrev Inv-loop : tie.InvT-loop
 Inv-loop k w v₀ i₀ v i = (48 ≤ i) × ((i ≤ 64) × ((length k ≡ 64) × ((length w ≡ 64) × (onward (drop i k) (drop i w) v ≡ onward (drop 48 k) (drop 48 w) v₀))))
