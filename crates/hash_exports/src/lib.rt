@@ -23,7 +23,7 @@ pub extern "C" fn hash_exports_sha256(m: &[u8], out: &mut [u8; 32]) -> u32
     ensures { λ r. ⌜ r ≡ digest (now (m .entry)) .number ⌝ }
     ensures { λ _. ⌜ now (out .exit) ≡ digest (now (m .entry)) .bytes ⌝ }
 {
-    let d = sha256::sha256(m);
+    let d = digest::sha256(m);
     let bytes = d.bytes;
     *out = bytes;
     d.number

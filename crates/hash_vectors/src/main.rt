@@ -60,7 +60,7 @@ fn show_code(c: Code) {
 }
 
 fn hash(m: &[u8]) {
-    show_digest(sha256::sha256(m), 32);
+    show_digest(digest::sha256(m), 32);
 }
 
 fn code(k: &[u8], m: &[u8]) {

@@ -56,7 +56,7 @@ fn block_of(k: &[u8]) -> [u8; 64]
     if k.len() <= 64 {
         zero_fill(k)
     } else {
-        let d = sha256::sha256(k);
+        let d = digest::sha256(k);
         let bytes = d.bytes;
         zero_fill_hash(bytes)
     }
@@ -168,7 +168,7 @@ fn code_bytes(key: Prepared, m: &[u8]) -> [u8; 32]
 {
     let first = key.inner;
     let last = key.outer;
-    let i = sha256::hash_after(first, 1, m);
+    let i = digest::hash_after(first, 1, m);
     let s = i.state;
     sha256::state_bytes(close_state(last, s))
 }

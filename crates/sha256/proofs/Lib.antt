@@ -1,4 +1,2 @@
 mod Chain
-mod Tail
-mod Ends
 mod Out

@@ -1,11 +1,11 @@
 -- A turn of the loop that writes a state's bytes writes the four bytes of one word.
-use mathlib.Core.Path.{_≡_, refl, sym, ap, _∙_}
+use mathlib.Core.Path.{_≡_, refl}
 use mathlib.Core.List.{List, [], _∷_, _++_, append-nil, append-assoc}
-use Prim.Native.Nat.{ℕ, suc, _+_, _-_, _*_, _/_, _%_, _^_, _≤_, _<_}
+use Prim.Native.Nat.{ℕ, suc, _+_, _*_, _/_, _%_, _^_, _≤_, _<_}
 use native.Mathlib.Numerals.{add-one}
 use native.Mathlib.Omega.{arith}
-use lib.ListN.{length, getD, take, drop, set, length-append, length-drop, drop-of-length-le}
-use lib.Seq.{drop-cons, take-suc-set, take-all, take-at, sets-eq, length-take-le}
+use lib.ListN.{length, getD, take, drop, set, length-append, drop-of-length-le}
+use lib.Seq.{drop-cons, take-all, take-at, sets-eq, length-take-le}
 use Rattle.sha256.specs.Sha256.{big32, bytes}
 
 bytes-cons : (w : ℕ) (ws : List ℕ) → bytes (w ∷ ws) ≡ big32 w ++ bytes ws

@@ -1,13 +1,13 @@
 -- The shape of hashes: a state has eight words, a hash 32 bytes.
 use mathlib.Core.Path.{_≡_, refl, ap, _∙_}
 use mathlib.Core.List.{List, [], _∷_, _++_}
-use Prim.Native.Nat.{ℕ, zero, suc, _+_, _-_, _*_, _/_, _%_, _≤_, _<_}
+use Prim.Native.Nat.{ℕ, zero, suc, _*_, _/_, _≤_}
 use native.Mathlib.Omega.{arith}
-use lib.ListN.{length, take, drop, length-drop, length-append}
+use lib.ListN.{length, take, drop, length-drop}
 use lib.Seq.{length-take-le}
 use Rattle.compression.specs.Compression.{compressed}
 use Rattle.compression.specs.Shape.{Below, compressed-length, compressed-below}
-use Rattle.sha256.specs.Sha256.{words, bytes, padding, initial, blocks, hashed, sha256}
+use Rattle.sha256.specs.Sha256.{words, padding, initial, blocks, hashed, sha256}
 use Rattle.sha256.specs.Words.{length-bytes}
 
 pub words-length : (n : ℕ) (m : List ℕ) → length m ≡ n * 4 → length (words m) ≡ n

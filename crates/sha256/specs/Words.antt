@@ -1,9 +1,9 @@
 -- Laws of words and bytes: words are read back from their bytes, and the padding behind a few words is a few words.
 use mathlib.Core.Path.{_≡_, refl, sym, ap, _∙_}
-use mathlib.Core.List.{List, [], _∷_, _++_, append-nil, append-assoc}
+use mathlib.Core.List.{List, [], _∷_, _++_, append-nil}
 use Prim.Native.Nat.{ℕ, zero, suc, _+_, _-_, _*_, _/_, _%_, _^_, _≤_, _<_}
 use native.Mathlib.Omega.{arith}
-use lib.ListN.{length, getD, replicate, length-append, length-replicate}
+use lib.ListN.{length, replicate, length-append, length-replicate}
 use Rattle.compression.specs.Shape.{Below}
 use Rattle.sha256.specs.Sha256.{words, big32, bytes, big64, zeros, padding}
 

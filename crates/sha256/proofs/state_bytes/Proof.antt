@@ -1,13 +1,12 @@
-use borrow.Author.Needs.{needs}
-use mathlib.Core.Path.{_≡_, refl, sym, ap, _∙_}
+-- Each turn writes one word's bytes: the bytes so far, and those of the words that remain, are the state's.
+use mathlib.Core.Path.{_≡_, refl, sym, _∙_}
 use mathlib.Core.List.{_++_}
-use Prim.Native.Nat.{_+_, _*_, _-_, _≤_}
-use native.Mathlib.Nat.{sub-zero}
+use Prim.Native.Nat.{_*_, _-_, _≤_}
 use native.Mathlib.Omega.{arith}
-use lib.ListN.{length, take, drop, replicate, length-set}
-use lib.Seq.{take-all}
+use lib.ListN.{length, take, drop, length-set}
 use Rattle.sha256.specs.Sha256.{bytes}
 use Rattle.sha256.proofs.Out.{spelt, all-spelt}
+use borrow.Author.Needs.{needs}
 use Rattle.sha256.proofs.state_bytes.Statement.{statement}
 use Rattle.sha256.proofs.state_bytes.Tie as tie
 
@@ -29,14 +28,14 @@ array-read-w c = search needs
 mul-p : tie.Need-mul-p Inv-loop μ-loop
 mul-p c = search needs
 
-low32-requires : tie.Need-low32-requires Inv-loop μ-loop
-low32-requires c κs = search needs
+cast-r : tie.Need-cast-r Inv-loop μ-loop
+cast-r c = search needs
 
 array-write-r : tie.Need-array-write-r Inv-loop μ-loop
 array-write-r c = search needs
 
-low32-requires-2 : tie.Need-low32-requires-2 Inv-loop μ-loop
-low32-requires-2 c κs = search needs
+cast-r-2 : tie.Need-cast-r-2 Inv-loop μ-loop
+cast-r-2 c = search needs
 
 add-r : tie.Need-add-r Inv-loop μ-loop
 add-r c = search needs
@@ -44,8 +43,8 @@ add-r c = search needs
 array-write-r-2 : tie.Need-array-write-r-2 Inv-loop μ-loop
 array-write-r-2 c = search needs
 
-low32-requires-3 : tie.Need-low32-requires-3 Inv-loop μ-loop
-low32-requires-3 c κs = search needs
+cast-r-3 : tie.Need-cast-r-3 Inv-loop μ-loop
+cast-r-3 c = search needs
 
 add-r-2 : tie.Need-add-r-2 Inv-loop μ-loop
 add-r-2 c = search needs
@@ -53,8 +52,8 @@ add-r-2 c = search needs
 array-write-r-3 : tie.Need-array-write-r-3 Inv-loop μ-loop
 array-write-r-3 c = search needs
 
-low32-requires-4 : tie.Need-low32-requires-4 Inv-loop μ-loop
-low32-requires-4 c κs = search needs
+cast-r-4 : tie.Need-cast-r-4 Inv-loop μ-loop
+cast-r-4 c = search needs
 
 add-r-3 : tie.Need-add-r-3 Inv-loop μ-loop
 add-r-3 c = search needs
@@ -70,14 +69,13 @@ loop-less c = search needs
 
 loop-again : tie.Need-loop-again Inv-loop μ-loop
 loop-again c =
-    let l = c .before .before .before .before .before .loop in (
+    let l = c .before .loop in (
       omega arith,
       (
         simp length-set (l .inv .1 .0),
         (
           l .inv .1 .1 .0,
-          spelt (c .before .before .before .before .before .before .args .t1) (l .r) (l .i) _ _ _ _ (c .before .before .before .before .loop-test .taken) (l .inv .1 .1 .0) (l .inv .1 .0)
-              (c .before .before .before .low32 .ensures) (c .before .before .low322 .ensures) (c .before .low323 .ensures) (c .low324 .ensures) ∙ l .inv .1 .1 .1,
+          spelt (c .before .before .args .t1) (l .r) (l .i) _ _ _ _ (c .loop-test .taken) (l .inv .1 .1 .0) (l .inv .1 .0) refl refl refl refl ∙ l .inv .1 .1 .1,
         ),
       ),
     )
@@ -97,15 +95,15 @@ state-bytes-spec =
     mul-w
     array-read-w
     mul-p
-    low32-requires
+    cast-r
     array-write-r
-    low32-requires-2
+    cast-r-2
     add-r
     array-write-r-2
-    low32-requires-3
+    cast-r-3
     add-r-2
     array-write-r-3
-    low32-requires-4
+    cast-r-4
     add-r-3
     array-write-r-4
     add-i

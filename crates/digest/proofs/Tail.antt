@@ -1,12 +1,11 @@
 -- The last one or two blocks as the code builds them in a buffer of zeros: the rest of the message, 128, and the length at its place.
-use mathlib.Core.Path.{_≡_, refl, sym, ap, _∙_, subst}
-use mathlib.Core.List.{List, [], _∷_, _++_, append-nil, append-assoc}
-use Prim.Native.Nat.{ℕ, zero, suc, _+_, _-_, _*_, _/_, _%_, _^_, _≤_, _<_}
-use native.Mathlib.Numerals.{add-one}
+use mathlib.Core.Path.{_≡_, refl, sym, _∙_}
+use mathlib.Core.List.{List, [], _∷_, _++_, append-assoc}
+use Prim.Native.Nat.{ℕ, suc, _+_, _-_, _*_, _/_, _%_, _^_, _≤_, _<_}
 use native.Mathlib.Omega.{arith}
-use lib.ListN.{length, getD, take, drop, set, replicate, length-append, length-drop, length-take, length-replicate, replicate-append-replicate}
-use lib.Seq.{drop-cons, drop-drop, take-suc, take-suc-set, take-all, take-append-le, drop-append-le, sets-eq, set-at, take-at, getD-drop, length-take-le}
+use lib.ListN.{length, take, drop, set, replicate, length-append, length-replicate, replicate-append-replicate}
+use lib.Seq.{sets-eq, take-at}
 use Rattle.sha256.specs.Sha256.{big64, padding}
 
 pub stored : (b : List ℕ) (at p q r s t u v w : ℕ) → at + 8 ≤ length b
     → set (set (set (set (set (set (set (set b at p) (at + 1) q) (at + 2) r) (at + 3) s) (at + 4) t) (at + 5) u) (at + 6) v) (at + 7) w

@@ -1,12 +1,12 @@
 -- What the calls of `finish` ensure, put together: the rest of the message with the padding makes one last block or two.
-use mathlib.Core.Path.{_≡_, refl, sym, ap, _∙_}
-use mathlib.Core.List.{List, [], _∷_, _++_}
+use mathlib.Core.Path.{_≡_, refl, _∙_}
+use mathlib.Core.List.{List, _∷_, _++_}
 use Prim.Native.Nat.{ℕ, _+_, _-_, _*_, _/_, _%_, _≤_, _<_}
 use native.Mathlib.Omega.{arith}
 use lib.ListN.{length, take, drop, replicate, length-drop}
 use Rattle.sha256.specs.Sha256.{big64, padding, blocks, hashed}
 use Rattle.sha256.specs.Chain.{finished}
-use Rattle.sha256.proofs.Tail.{padded}
+use Rattle.digest.proofs.Tail.{padded}
 
 pub ended : (st s h b c t r : List ℕ) (done at : ℕ) → done % 64 ≡ 0 → length s % 64 < at → at ≤ 120 → (119 - length s % 64) % 64 ≡ at - 1 - length s % 64
     → h ≡ blocks (length s / 64) st s

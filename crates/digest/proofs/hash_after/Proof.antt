@@ -1,15 +1,15 @@
 -- Each way out is a case of the definition: the sum is below the limit only where both tests hold.
-use mathlib.Core.Path.{_≡_, ap}
+use mathlib.Core.Path.{ap}
 use mathlib.Core.List.{List}
 use Prim.Native.Nat.{ℕ, _+_, _*_}
 use native.Mathlib.Omega.{arith}
 use lib.ListN.{length}
 use borrow.Author.Tests.{lt-ltb, le-ltb}
 use Rattle.laws.specs.Pick.{pick}
 use Rattle.sha256.specs.Sha256.{hash-after, limit}
 use borrow.Author.Needs.{needs}
-use Rattle.sha256.proofs.hash_after.Statement.{statement}
-use Rattle.sha256.proofs.hash_after.Tie as tie
+use Rattle.digest.proofs.hash_after.Statement.{statement}
+use Rattle.digest.proofs.hash_after.Tie as tie
 
 mul-done : tie.Need-mul-done
 mul-done c = search needs

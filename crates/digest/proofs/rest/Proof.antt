@@ -1,13 +1,13 @@
 use borrow.Author.Needs.{needs}
-use mathlib.Core.Path.{_≡_, refl, sym, ap, _∙_}
+use mathlib.Core.Path.{_≡_, refl, sym}
 use mathlib.Core.List.{_++_}
-use Prim.Native.Nat.{_+_, _*_, _-_, _≤_}
+use Prim.Native.Nat.{_-_, _≤_}
 use native.Mathlib.Omega.{arith}
 use lib.ListN.{length, take, drop, replicate, length-set, length-drop}
 use lib.Seq.{getD-drop}
 use Rattle.laws.specs.Fill.{put, marked}
-use Rattle.sha256.proofs.rest.Statement.{statement}
-use Rattle.sha256.proofs.rest.Tie as tie
+use Rattle.digest.proofs.rest.Statement.{statement}
+use Rattle.digest.proofs.rest.Tie as tie
 
 abbrev Inv-loop : tie.InvT-loop
 Inv-loop s from n b₀ j₀ b j =

@@ -1,11 +1,11 @@
-use mathlib.Core.Path.{_≡_, refl, sym, ap, _∙_}
+use mathlib.Core.Path.{_≡_, refl, sym}
 use native.Mathlib.Omega.{arith}
-use lib.ListN.{length, take, drop}
+use lib.ListN.{length}
 use lib.Seq.{length-take-le, take-all}
-use Rattle.sha256.proofs.Ends.{ended}
+use Rattle.digest.proofs.Ends.{ended}
 use borrow.Author.Needs.{needs}
-use Rattle.sha256.proofs.finish.Statement.{statement}
-use Rattle.sha256.proofs.finish.Tie as tie
+use Rattle.digest.proofs.finish.Statement.{statement}
+use Rattle.digest.proofs.finish.Tie as tie
 
 whole-blocks-requires : tie.Need-whole-blocks-requires
 whole-blocks-requires c κs = search needs

@@ -1,0 +1,2 @@
+mod Tail
+mod Ends
