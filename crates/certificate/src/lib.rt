@@ -181,7 +181,7 @@ fn verifies_at(key: Prepared, ws: &[u32], at: usize) -> bool
     ensures { λ r. ⌜ r ≡ verifies (code-from key) (statement (now (ws .entry)) at) ⌝ }
 {
     let end = at + 2;
-    let code = hmac::code_words(key, &ws[at..end]);
+    let code = codes::code_words(key, &ws[at..end]);
     let words = code.words;
     code_matches(ws, at, words)
 }

@@ -35,7 +35,7 @@ pub extern "C" fn hash_exports_hmac(k: &[u8], m: &[u8], out: &mut [u8; 32]) -> u
     ensures { λ r. ⌜ r ≡ code-of (now (k .entry)) (now (m .entry)) .number ⌝ }
     ensures { λ _. ⌜ now (out .exit) ≡ code-of (now (k .entry)) (now (m .entry)) .bytes ⌝ }
 {
-    let d = hmac::hmac(k, m);
+    let d = codes::hmac(k, m);
     let bytes = d.bytes;
     *out = bytes;
     d.number
@@ -70,7 +70,7 @@ pub extern "C" fn hash_exports_code(
 {
     let i = *inner;
     let o = *outer;
-    let c = hmac::code_words(Prepared { inner: i, outer: o }, ws);
+    let c = codes::code_words(Prepared { inner: i, outer: o }, ws);
     let words = c.words;
     *out = words;
     c.number

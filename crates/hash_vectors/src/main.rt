@@ -64,7 +64,7 @@ fn hash(m: &[u8]) {
 }
 
 fn code(k: &[u8], m: &[u8]) {
-    show_digest(hmac::hmac(k, m), 32);
+    show_digest(codes::hmac(k, m), 32);
 }
 
 // FIPS 180-4's examples.
@@ -99,7 +99,7 @@ fn rfc_first() {
 // RFC 4231's test case 5, cut to 128 bits.
 fn rfc_cut() {
     let key = [0x0cu8; 20];
-    show_digest(hmac::hmac(&key, b"Test With Truncation"), 16);
+    show_digest(codes::hmac(&key, b"Test With Truncation"), 16);
 }
 
 // RFC 4231's test cases 6 and 7.
@@ -158,14 +158,14 @@ fn multiples() -> [u32; 14] {
 fn code_each_count(key: Prepared, ws: [u32; 14]) {
     let mut n = 0;
     while n <= 13 {
-        show_code(hmac::code_words(key, &ws[..n]));
+        show_code(codes::code_words(key, &ws[..n]));
         n += 1;
     }
 }
 
 // The number alone of a call that refuses: one word too many.
 fn code_too_many(key: Prepared, ws: [u32; 14]) {
-    let c = hmac::code_words(key, &ws);
+    let c = codes::code_words(key, &ws);
     io::print_hex(STDOUT_FILENO, c.number as u64, 2);
     io::write_all(STDOUT_FILENO, b"\n");
 }

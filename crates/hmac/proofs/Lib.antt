@@ -1,2 +1,1 @@
 mod Masked
-mod Last

@@ -2,19 +2,19 @@
 use mathlib.Core.Path.{_≡_, refl, sym, ap, _∙_}
 use mathlib.Core.Bool.{Bool, true, false}
 use mathlib.Core.List.{List, [], _∷_, _++_}
-use Prim.Native.Nat.{ℕ, suc, _+_, _-_, _*_, _^_, _≤_, _<_}
+use Prim.Native.Nat.{ℕ, suc, _+_, _*_, _≤_, _<_}
 use native.Mathlib.Omega.{arith}
-use lib.ListN.{length, replicate, length-append, length-replicate}
+use lib.ListN.{length, length-append, length-replicate}
 use lib.Dec.{leb}
-use borrow.Author.Tests.{leb-true}
+use borrow.Author.Tests.{leb-true, lt-ltb}
 use Rattle.laws.specs.Pick.{pick}
 use Rattle.compression.specs.Compression.{compressed}
-use Rattle.compression.specs.Shape.{Below, compressed-length, compressed-below}
-use Rattle.sha256.specs.Sha256.{words, bytes, zeros, padding, initial, hashed, sha256}
-use Rattle.sha256.specs.Chain.{one-block, after-block}
-use Rattle.sha256.specs.Words.{read-back, words-bytes, length-bytes, short-padding, length-padding}
-use Rattle.sha256.specs.Shape.{hashed-length, hashed-below, sha256-length}
-use Rattle.hmac.specs.Hmac.{zero-filled, key-block, masked, ipad, opad, hmac, prepared, closed, code-from}
+use Rattle.compression.specs.Shape.{Below, compressed-below}
+use Rattle.sha256.specs.Sha256.{words, bytes, padding, initial, hashed, sha256, limit}
+use Rattle.sha256.specs.Chain.{after-block}
+use Rattle.sha256.specs.Words.{words-bytes, length-bytes}
+use Rattle.sha256.specs.Shape.{hashed-below, sha256-length}
+use Rattle.hmac.specs.Hmac.{zero-filled, key-block, masked, ipad, opad, hmac, prepared, keyed, closed, code-from}
 
 filled-length : (k : List ℕ) → length k ≤ 64 → length (zero-filled k) ≡ 64
 unfolding zero-filled
@@ -58,6 +58,11 @@ closed-below s ws below = hashed-below s (bytes ws ++ padding (64 + length ws * 
 outer-below : (k : List ℕ) → Below (prepared k .outer)
 unfolding prepared
 outer-below k = compressed-below initial (words (masked opad (key-block k)))
+
+-- preparing a key that is short enough
+pub keyed-short : (k : List ℕ) → length k < limit → keyed k .key ≡ prepared k
+unfolding keyed pick
+keyed-short k h = rw (lt-ltb (length k) limit h)
 
 -- the law: the code's words are those of HMAC of the words' bytes
 pub code-is-hmac : (k ws : List ℕ) → code-from (prepared k) ws ≡ words (hmac k (bytes ws))

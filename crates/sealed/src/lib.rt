@@ -116,7 +116,7 @@ fn code_pair(key: Prepared, w0: u32, w1: u32) -> [u32; 8]
     ensures { λ r. ⌜ r ≡ code-from key (w0 ∷ w1 ∷ []) ⌝ }
 {
     let ws = [w0, w1];
-    let c = hmac::code_words(key, &ws);
+    let c = codes::code_words(key, &ws);
     c.words
 }
 

@@ -1,11 +1,9 @@
 use borrow.Author.Needs.{needs}
-use mathlib.Core.Path.{_≡_, refl, sym, ap, _∙_}
+use mathlib.Core.Path.{_≡_, refl, sym, _∙_}
 use mathlib.Core.List.{_++_}
-use Prim.Native.Nat.{_+_, _*_, _-_, _≤_}
-use native.Mathlib.Nat.{sub-zero}
+use Prim.Native.Nat.{_-_, _≤_}
 use native.Mathlib.Omega.{arith}
-use lib.ListN.{length, take, drop, replicate, length-set}
-use lib.Seq.{take-all}
+use lib.ListN.{length, take, drop, length-set}
 use Rattle.hmac.specs.Hmac.{masked}
 use Rattle.hmac.proofs.Masked.{one-masked, all-masked}
 use Rattle.hmac.proofs.mask.Statement.{statement}

@@ -5,10 +5,10 @@ use Prim.Native.Nat.{_-_, _≤_}
 use native.Mathlib.Omega.{arith}
 use lib.ListN.{length, take, replicate, length-set}
 use Rattle.laws.specs.Fill.{put}
-use Rattle.hmac.proofs.Last.{filled}
+use Rattle.codes.proofs.Last.{filled}
 use borrow.Author.Needs.{needs}
-use Rattle.hmac.proofs.last_block.Statement.{statement}
-use Rattle.hmac.proofs.last_block.Tie as tie
+use Rattle.codes.proofs.last_block.Statement.{statement}
+use Rattle.codes.proofs.last_block.Tie as tie
 
 abbrev Inv-loop : tie.InvT-loop
 Inv-loop ws n b₀ j₀ b j = (j ≤ n) × ((n ≡ length ws) × ((length b ≡ 16) × (b ≡ take j ws ++ replicate (16 - j) 0)))

@@ -1,10 +1,10 @@
 -- The block that is compressed is the padded message's; each element of a slice of words is a word.
 use mathlib.Core.Path.{sym, ap, _∙_}
 use Rattle.compression.specs.Compression.{compressed}
-use Rattle.hmac.proofs.Last.{closed-block}
+use Rattle.codes.proofs.Last.{closed-block}
 use borrow.Author.Needs.{needs}
-use Rattle.hmac.proofs.close.Statement.{statement}
-use Rattle.hmac.proofs.close.Tie as tie
+use Rattle.codes.proofs.close.Statement.{statement}
+use Rattle.codes.proofs.close.Tie as tie
 
 last-block-requires : tie.Need-last-block-requires
 last-block-requires c κs = search needs

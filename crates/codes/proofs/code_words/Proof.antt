@@ -4,10 +4,10 @@ use mathlib.Core.List.{List}
 use Prim.Native.Nat.{ℕ}
 use borrow.Author.Tests.{le-leb, lt-leb}
 use Rattle.laws.specs.Pick.{pick}
 use Rattle.hmac.specs.Hmac.{closed, code-from, short-code}
 use borrow.Author.Needs.{needs}
-use Rattle.hmac.proofs.code_words.Statement.{statement}
-use Rattle.hmac.proofs.code_words.Tie as tie
+use Rattle.codes.proofs.code_words.Statement.{statement}
+use Rattle.codes.proofs.code_words.Tie as tie
 
 close-requires : tie.Need-close-requires
 close-requires c κs = search needs

@@ -1,17 +1,17 @@
 -- The last block as the code fills it, and that it is the padded message.
 use mathlib.Core.Path.{_≡_, refl, sym, ap, _∙_}
 use mathlib.Core.List.{List, [], _∷_, _++_, append-assoc}
-use Prim.Native.Nat.{ℕ, zero, suc, _+_, _-_, _*_, _^_, _≤_, _<_}
+use Prim.Native.Nat.{ℕ, zero, suc, _+_, _-_, _*_, _^_, _≤_}
 use native.Mathlib.Omega.{arith}
 use lib.ListN.{length, take, set, replicate, length-append, length-replicate}
 use lib.Seq.{set-at}
 use Rattle.laws.specs.Fill.{marked}
 use Rattle.compression.specs.Compression.{compressed}
 use Rattle.compression.specs.Shape.{Below}
-use Rattle.sha256.specs.Sha256.{words, bytes, zeros, padding, hashed}
+use Rattle.sha256.specs.Sha256.{bytes, padding}
 use Rattle.sha256.specs.Chain.{one-block}
 use Rattle.sha256.specs.Words.{read-back, length-bytes, short-padding, length-padding}
 use Rattle.hmac.specs.Hmac.{closed}
 
 -- the words of the last block
 abbrev pub last : List ℕ → List ℕ
