@@ -23,7 +23,7 @@ use Rattle.console.specs.declared.Call.{Call}
 use Rattle.console.specs.declared.Phase.{Phase}
 use Rattle.console.specs.declared.Run.{Run}
 use Rattle.console.specs.declared.World.{World}
-use Rattle.lines.specs.Print.{event-line, bad-line}
+use Rattle.printing.specs.Print.{event-line, bad-line}
 use Rattle.console.specs.declared.Phase.the-variants.{Running, Ended}
 use Rattle.console.specs.Valley.{Turn, no-bundle, group-of, at-number, put-number, module-at, station-at, bundle-at, the-question, the-output, opens, least-n, most-n, most-bundles, writes, after, after-opening, bad, shown-step, shown-decision, told, event, is-open, is-written, first-turn, later-turn, gives}
 use Rattle.console.specs.Pieces.{Takes}

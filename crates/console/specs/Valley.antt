@@ -15,7 +15,7 @@ use Rattle.station.specs.Calls.{Returned, no-station, opening, giving}
 use Rattle.lines.specs.declared.Line.{Line}
 use Rattle.lines.specs.declared.Line.the-variants.{Group, Open, Give, Unreadable}
 use Rattle.lines.specs.Read.{newline, split, read-line}
-use Rattle.lines.specs.Print.{event-line, bad-line}
+use Rattle.printing.specs.Print.{event-line, bad-line}
 use Rattle.console.specs.declared.Bundle.{Bundle}
 use Rattle.console.specs.declared.World.{World}
 use Rattle.console.specs.declared.Phase.{Phase}

@@ -318,7 +318,7 @@ fn with_bundle(w: World, count: usize, words: [u32; 331]) -> World
 fn bad(w: World, number: u64, out: &mut [u8; 64]) -> Done
     ensures { λ r. ⌜ Turned (Bad w number) (r .phase) (r .world) (r .count) (now (out .entry)) (now (out .exit)) ⌝ }
 {
-    let count = lines::bad_line(number, out);
+    let count = printing::bad_line(number, out);
     Done {
         phase: Phase::Ended,
         world: w,
@@ -368,7 +368,7 @@ fn told(w: World, number: u64, s: u32, returned: u32, out: &mut [u8; 64]) -> Don
     let event = event_of(number);
     let step = shown_step(w, s);
     let decision = shown_decision(w, s);
-    let count = lines::event_line(event, returned, step, decision, out);
+    let count = printing::event_line(event, returned, step, decision, out);
     Done {
         phase: Phase::Running,
         world: w,
@@ -560,7 +560,7 @@ fn missing(phase: Phase, number: u64, out: &mut [u8; 64]) -> usize
     ensures { λ r. ⌜ Printed (Missing phase number) r (now (out .entry)) (now (out .exit)) ⌝ }
 {
     match phase {
-        Phase::First => lines::bad_line(number, out),
+        Phase::First => printing::bad_line(number, out),
         Phase::Running => 0,
         Phase::Ended => 0,
     }

@@ -1,10 +1,9 @@
--- Worked examples: lines that are read, lines that can't be, and printed numbers.
+-- Worked examples: lines that are read, and lines that can't be.
 use mathlib.Core.Path.{_≡_, refl}
 use mathlib.Core.List.{[], _∷_}
 use Rattle.laws.specs.Pick.{pick}
 use Rattle.lines.specs.declared.Line.the-variants.{Group, Open, Give, Unreadable}
 use Rattle.lines.specs.Read.{split, all-digits, is-number, value-behind, same, read-words, read-line}
-use Rattle.lines.specs.Print.{decimal-in, decimal, event-line, bad-line}
 
 -- `give 1 2 0`
 pub give-line : read-line (103 ∷ 105 ∷ 118 ∷ 101 ∷ 32 ∷ 49 ∷ 32 ∷ 50 ∷ 32 ∷ 48 ∷ []) ≡ Give 1 2 0
@@ -65,21 +64,3 @@ extra-word = refl
 pub empty-line : read-line [] ≡ Unreadable
 unfolding pick split all-digits is-number value-behind same read-words read-line
 empty-line = refl
-
-pub zero-in-digits : decimal 0 ≡ 48 ∷ []
-unfolding pick decimal-in decimal
-zero-in-digits = refl
-
-pub hundred-thousand : decimal 100000 ≡ 49 ∷ 48 ∷ 48 ∷ 48 ∷ 48 ∷ 48 ∷ []
-unfolding pick decimal-in decimal
-hundred-thousand = refl
-
--- `7 21 4 0`
-pub decision-printed : event-line 7 21 4 0 ≡ 55 ∷ 32 ∷ 50 ∷ 49 ∷ 32 ∷ 52 ∷ 32 ∷ 48 ∷ 10 ∷ []
-unfolding pick decimal-in decimal event-line
-decision-printed = refl
-
--- `bad line 12`
-pub twelfth-line : bad-line 12 ≡ 98 ∷ 97 ∷ 100 ∷ 32 ∷ 108 ∷ 105 ∷ 110 ∷ 101 ∷ 32 ∷ 49 ∷ 50 ∷ 10 ∷ []
-unfolding pick decimal-in decimal bad-line
-twelfth-line = refl

@@ -1,9 +1,5 @@
 pub mod Read
-pub mod Print
 pub mod Short
-pub mod Width
-pub mod Decimal
-pub mod Put
 pub mod Words
 pub mod Says
 pub mod Example

@@ -2,12 +2,12 @@
 use mathlib.Core.Path.{_∙_}
 use native.Mathlib.Omega.{arith}
 use lib.ListN.{length-set}
 use Rattle.lines.specs.Read.{space}
-use Rattle.lines.specs.Print.{decimal}
-use Rattle.lines.specs.Put.{put-after}
+use Rattle.printing.specs.Print.{decimal}
+use Rattle.printing.specs.Put.{put-after}
 use borrow.Author.Needs.{needs}
-use Rattle.lines.proofs.put_spaced.Statement.{statement}
-use Rattle.lines.proofs.put_spaced.Tie as tie
+use Rattle.printing.proofs.put_spaced.Statement.{statement}
+use Rattle.printing.proofs.put_spaced.Tie as tie
 
 slice-write-out : tie.Need-slice-write-out
 slice-write-out c = search needs

@@ -1,10 +1,10 @@
 -- The fixed bytes, the number behind them, and the line's end.
 use native.Mathlib.Omega.{arith}
-use Rattle.lines.specs.Width.{decimal-64}
-use Rattle.lines.specs.Put.{bad-line-put}
+use Rattle.printing.specs.Width.{decimal-64}
+use Rattle.printing.specs.Put.{bad-line-put}
 use borrow.Author.Needs.{needs}
-use Rattle.lines.proofs.bad_line.Statement.{statement}
-use Rattle.lines.proofs.bad_line.Tie as tie
+use Rattle.printing.proofs.bad_line.Statement.{statement}
+use Rattle.printing.proofs.bad_line.Tie as tie
 
 slice-aggregate-copy : tie.Need-slice-aggregate-copy
 slice-aggregate-copy c = search needs

@@ -1,5 +1,5 @@
 -- The digits that the library's `decimal` puts are those of the definition.
-use Prim.Native.Nat.{ℕ, zero, suc, _+_, _-_, _/_, _%_, _^_, _≤_, _<_}
+use Prim.Native.Nat.{ℕ, zero, suc, _-_, _/_, _%_, _^_, _≤_, _<_}
 use mathlib.Core.Path.{_≡_, refl, ap, _∙_}
 use mathlib.Core.Bool.{Bool, true, false}
 use mathlib.Core.List.{List, [], _∷_, _++_}
@@ -10,7 +10,7 @@ use lib.ListN.{length, take}
 use borrow.Author.Tests.{ltb-true, ltb-false, lt-ltb}
 use Rattle.io.specs.Digits.{glyph, digits, Fewest}
 use Rattle.laws.specs.Pick.{pick}
-use Rattle.lines.specs.Print.{digit, decimal-in, decimal}
+use Rattle.printing.specs.Print.{digit, decimal-in, decimal}
 
 glyph-digit : (d : ℕ) → d < 10 → glyph d ≡ digit d
 glyph-digit d h = rw (lt-ltb d 10 h)

@@ -1,16 +1,15 @@
 -- The library's digits are those of the definition, and are copied.
-use Prim.Native.Nat.{_+_}
 use mathlib.Core.Path.{_≡_, ap, _∙_}
-use Prim.Native.Nat.{ℕ}
+use Prim.Native.Nat.{ℕ, _+_}
 use mathlib.Core.List.{List}
 use native.Mathlib.Omega.{arith}
 use lib.ListN.{length, take}
 use lib.Seq.{paste}
-use Rattle.lines.specs.Print.{decimal}
-use Rattle.lines.specs.Decimal.{spelled-text}
+use Rattle.printing.specs.Print.{decimal}
+use Rattle.printing.specs.Decimal.{spelled-text}
 use borrow.Author.Needs.{needs}
-use Rattle.lines.proofs.put_number.Statement.{statement}
-use Rattle.lines.proofs.put_number.Tie as tie
+use Rattle.printing.proofs.put_number.Statement.{statement}
+use Rattle.printing.proofs.put_number.Tie as tie
 
 -- what the call leaves in the buffer
 text-is : (c : tie.After-decimal) → (take (c .decimal .result) (c .decimal .last .1 .0) ≡ decimal (c .before .before .before .args .n))

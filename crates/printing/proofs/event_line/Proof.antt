@@ -3,11 +3,11 @@ use Prim.Native.Nat.{_^_, _≤_, _<_}
 use native.Mathlib.Omega.{arith}
 use lib.ListN.{length}
 use borrow.Author.Needs.{needs}
-use Rattle.lines.specs.Print.{decimal}
-use Rattle.lines.specs.Width.{decimal-64, decimal-32}
-use Rattle.lines.specs.Put.{event-line-put}
-use Rattle.lines.proofs.event_line.Statement.{statement}
-use Rattle.lines.proofs.event_line.Tie as tie
+use Rattle.printing.specs.Print.{decimal}
+use Rattle.printing.specs.Width.{decimal-64, decimal-32}
+use Rattle.printing.specs.Put.{event-line-put}
+use Rattle.printing.proofs.event_line.Statement.{statement}
+use Rattle.printing.proofs.event_line.Tie as tie
 
 -- the step is a number of 64 bits
 step-fits : (c : tie.Start) → c .args .step .0 < 2 ^ 64

@@ -9,7 +9,7 @@ use lib.Dec.{ltb}
 use lib.ListN.{length, length-append}
 use borrow.Author.Tests.{ltb-false}
 use Rattle.laws.specs.Pick.{pick}
-use Rattle.lines.specs.Print.{digit, decimal-in, decimal, event-line, bad-line}
+use Rattle.printing.specs.Print.{digit, decimal-in, decimal, event-line, bad-line}
 
 -- a number below 10 ^ (k + 1) has at most k + 1 digits
 decimal-in-fits : (most k n : ℕ) → n < 10 ^ suc k → length (decimal-in most n) ≤ suc k

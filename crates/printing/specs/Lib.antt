@@ -1,0 +1,5 @@
+pub mod Print
+pub mod Width
+pub mod Decimal
+pub mod Put
+pub mod Example
