@@ -22,7 +22,8 @@ use Rattle.format.specs.Bundle.{laid-out, all-formed, bundle-fits}
 use Rattle.format.specs.Layout.{same-out}
 use Rattle.rules.specs.Rules.{wanted, some, in-order, holds, first-group, second-group, has-second, early-toss, rest-holds, spread, groups-hold, rule}
 use Rattle.certificate.specs.Check.{every}
-use Rattle.sealed.specs.Sealed.{above, making, coding-plain, coding-coin}
+use Rattle.counter.specs.Counter.{above, making}
+use Rattle.sealed.specs.Sealed.{coding-plain, coding-coin}
 use Rattle.station.specs.declared.Stage.{Stage}
 use Rattle.station.specs.declared.Stage.the-variants.{Gathering, Proposing, Voting}
 use Rattle.station.specs.declared.Station.{Station}

@@ -13,8 +13,9 @@ use Rattle.format.specs.Group.{quorum, backing, most-faulty}
 use Rattle.format.specs.Words.{kind-of, value-of, station-of}
 use Rattle.format.specs.Statement.{Statement, covered-at, code-at, same-words}
 use Rattle.format.specs.Bundle.{main-of}
-use Rattle.sealed.specs.declared.Module.{Module}
-use Rattle.sealed.specs.Sealed.{making, Coded, coding-plain, coding-coin}
+use Rattle.counter.specs.declared.Module.{Module}
+use Rattle.counter.specs.Counter.{making}
+use Rattle.sealed.specs.Sealed.{Coded, coding-plain, coding-coin}
 use Rattle.station.specs.declared.Station.{Station}
 use Rattle.station.specs.Calls.{Returned, opening, giving, no-station}
 use Rattle.station.specs.Words.{Lengths}

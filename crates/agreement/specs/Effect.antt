@@ -16,8 +16,9 @@ use Rattle.format.specs.Words.{formed, fields-of}
 use Rattle.format.specs.Statement.{Statement, statement, covered, step, well-formed}
 use Rattle.format.specs.Layout.{formed-well}
 use Rattle.format.specs.Shape.{Shape, init, proposal, vote, formed-out, formed-in}
-use Rattle.sealed.specs.declared.Module.{Module}
-use Rattle.sealed.specs.Sealed.{above, last-for, advanced, module-fits, is-toss, by-plain, by-coin, with-value, signed, coding-tests, coding, coding-plain, coding-coin}
+use Rattle.counter.specs.declared.Module.{Module}
+use Rattle.counter.specs.Counter.{above, last-for, advanced, module-fits}
+use Rattle.sealed.specs.Sealed.{is-toss, by-plain, by-coin, with-value, signed, coding-tests, coding, coding-plain, coding-coin}
 use Rattle.station.specs.declared.Station.{Station}
 use Rattle.station.specs.Machine.{Outcome, refused, keeps, sends}
 use Rattle.station.specs.Words.{bundle-of, Lengths}

@@ -11,8 +11,8 @@ use Rattle.format.specs.Group.{quorum}
 use Rattle.format.specs.Statement.{Statement, statements}
 use Rattle.format.specs.Bundle.{count-in, main-of, certificate-of}
 use Rattle.format.specs.Layout.{all-well}
-use Rattle.sealed.specs.declared.Module.{Module}
-use Rattle.sealed.specs.Sealed.{last-for}
+use Rattle.counter.specs.declared.Module.{Module}
+use Rattle.counter.specs.Counter.{last-for}
 use Rattle.station.specs.declared.Station.{Station}
 use Rattle.station.specs.Machine.{State, closes, follows, Next, began, shut}
 use Rattle.station.specs.Words as W

@@ -12,9 +12,9 @@ use Rattle.laws.specs.Refusals.{All, all-map}
 use Rattle.format.specs.Numbers.{kind-V, none}
 use Rattle.format.specs.Statement.{Statement, statement, covered, step}
 use Rattle.format.specs.Shape.{Shape, init, proposal, vote, Formed, formed-out}
-use Rattle.sealed.specs.declared.Module.{Module}
-use Rattle.sealed.specs.Sealed.{above, last-for, advanced, making}
-use Rattle.sealed.specs.Rises.{stays-below, coded-below}
+use Rattle.counter.specs.declared.Module.{Module}
+use Rattle.counter.specs.Counter.{above, last-for, advanced, making}
+use Rattle.counter.specs.Above.{stays-below, coded-below}
 use Rattle.format.specs.ReadBack.{Proper, word-back}
 use Rattle.station.specs.Written.{all-append}
 use Rattle.agreement.specs.Maths.Log.{OtherPair, Distinct}

@@ -17,8 +17,8 @@ use Rattle.format.specs.Statement.{Statement, statement, written, step}
 use Rattle.format.specs.Bundle.{main-of}
 use Rattle.format.specs.Shape.{init}
 use Rattle.rules.specs.Rules.{rule-1, some}
-use Rattle.sealed.specs.declared.Module.{Module}
-use Rattle.sealed.specs.Sealed.{above, advanced, last-for}
+use Rattle.counter.specs.declared.Module.{Module}
+use Rattle.counter.specs.Counter.{above, advanced, last-for}
 use Rattle.station.specs.declared.Stage.the-variants.{Gathering}
 use Rattle.station.specs.declared.Station.{Station}
 use Rattle.station.specs.Machine.{State, Outcome, refused, keeps, sends, began, shut, closes, follows, has-value}

@@ -20,7 +20,7 @@ use Rattle.format.specs.Codes.{hmac-eight}
 use Rattle.format.specs.Layout.{all-well}
 use Rattle.format.specs.Shape.{Shape, init, proposal, vote, Formed, formed-out}
 use Rattle.rules.specs.Rules.{some}
-use Rattle.sealed.specs.declared.Module.{Module}
+use Rattle.counter.specs.declared.Module.{Module}
 use Rattle.station.specs.declared.Stage.{Stage}
 use Rattle.station.specs.declared.Stage.the-variants.{Gathering, Proposing, Voting}
 use Rattle.station.specs.declared.Station.{Station}

@@ -13,8 +13,8 @@ use Rattle.certificate.specs.Check.{checked}
 use Rattle.laws.specs.Pick.{pick}
 use Rattle.format.specs.Statement.{hmac-code}
 use Rattle.sealed.specs.Sealed.{coding-plain, coding-coin}
-use Rattle.sealed.specs.declared.Last.{Last}
-use Rattle.sealed.specs.declared.Module.{Module}
+use Rattle.counter.specs.declared.Last.{Last}
+use Rattle.counter.specs.declared.Module.{Module}
 use Rattle.station.specs.declared.Stage.{Stage}
 use Rattle.station.specs.declared.Stage.the-variants.{Gathering, Proposing, Voting}
 use Rattle.station.specs.declared.Held.{Held}

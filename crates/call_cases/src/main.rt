@@ -1,13 +1,13 @@
 // Runs the script on standard input (docs/SCRIPT.md) and prints what its calls answer and change. The script and the expected lines come
 // from the second implementation (second/).
+use counter::Last;
+use counter::Module;
 use format::Round;
 use format::Step;
 use giving::Given;
 use libc::STDIN_FILENO;
 use libc::STDOUT_FILENO;
 use opening::Opened;
-use sealed::Last;
-use sealed::Module;
 use station::Groups;
 use station::Held;
 use station::Identity;
@@ -17,7 +17,8 @@ ghost use mathlib.Core.Path.{_≡_};
 ghost use Prim.Native.Nat.{_+_, _*_, _≤_, _<_};
 ghost use lib.ListN.{length, take, drop, getD};
 ghost use Rattle.format.specs.Statement.{hmac-code};
-ghost use Rattle.sealed.specs.Sealed.{making, coding-plain, coding-coin};
+ghost use Rattle.counter.specs.Counter.{making};
+ghost use Rattle.sealed.specs.Sealed.{coding-plain, coding-coin};
 ghost use Rattle.station.specs.Calls.{giving};
 ghost use Rattle.call_cases.specs.Registers.{check-of, key-of, key-named, Short, Sized, InRange, seen, last-in, module-in, stage-in, held-in, groups-in, station-in, Counted, opened-by, given-by};
 
@@ -801,7 +802,7 @@ fn make(modules: &mut [u32], m: usize, numbers: [u32; 79]) -> u32
         numbers[7],
         numbers[8],
     ]);
-    let made = sealed::make(key, numbers[9], numbers[10]);
+    let made = counter::make(key, numbers[9], numbers[10]);
     let new = made.made;
     put_module(modules, m, new);
     made.number

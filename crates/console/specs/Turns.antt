@@ -11,8 +11,8 @@ use borrow.Author.Tests.{lt-ltb, le-ltb, le-leb, lt-leb, ltb-true, ltb-false, no
 use Rattle.laws.specs.Pick.{pick}
 use Rattle.format.specs.Numbers.{none}
 use Rattle.format.specs.Statement.{hmac-code}
-use Rattle.sealed.specs.declared.Module.{Module}
-use Rattle.sealed.specs.Sealed.{no-module}
+use Rattle.counter.specs.declared.Module.{Module}
+use Rattle.counter.specs.Counter.{no-module}
 use Rattle.lines.specs.declared.Line.the-variants.{Group, Give}
 use Rattle.station.specs.declared.Station.{Station}
 use Rattle.station.specs.Machine.{stage-step}

@@ -7,8 +7,8 @@ use lib.ListN.{take, getD, set, replicate}
 use Rattle.laws.specs.Pick.{pick}
 use Rattle.format.specs.Numbers.{none, output-words}
 use Rattle.format.specs.Statement.{hmac-code}
-use Rattle.sealed.specs.declared.Module.{Module}
-use Rattle.sealed.specs.Sealed.{no-module, making}
+use Rattle.counter.specs.declared.Module.{Module}
+use Rattle.counter.specs.Counter.{no-module, making}
 use Rattle.station.specs.declared.Station.{Station}
 use Rattle.station.specs.Machine.{stage-step}
 use Rattle.station.specs.Calls.{Returned, no-station, opening, giving}

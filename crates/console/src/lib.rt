@@ -1,12 +1,12 @@
 // The run of the program valley (document 01, "The program valley"): its input comes in pieces of any size. The contracts cite specs/.
+use counter::Module;
 use format::Step;
 use lines::Line;
-use sealed::Module;
 use station::Station;
 ghost use mathlib.Core.Path.{_≡_};
 ghost use Prim.Native.Nat.{_-_, _<_};
 ghost use lib.ListN.{take, set};
-ghost use Rattle.sealed.specs.Sealed.{no-module};
+ghost use Rattle.counter.specs.Counter.{no-module};
 ghost use Rattle.format.specs.Statement.{hmac-code};
 ghost use Rattle.station.specs.Calls.{no-station, giving};
 ghost use Rattle.lines.specs.Read.{read-line};
@@ -83,7 +83,7 @@ fn made(n: u32, s: u32) -> Module
     ensures { λ r. ⌜ r ≡ made-for n s ⌝ }
 {
     let key = [0u8; 32];
-    let m = sealed::make(key, n, s);
+    let m = counter::make(key, n, s);
     m.made
 }
 

@@ -1,9 +1,9 @@
 // Whether a station fits its module (document 01, "A station fits if", and docs/STATION.md). The contracts cite specs/ of crate station.
+use counter::Module;
 use format::Round;
 use format::Step;
 use rules::Group;
 use rules::Which;
-use sealed::Module;
 use station::Stage;
 use station::Station;
 ghost use mathlib.Core.Path.{_≡_};
@@ -15,7 +15,7 @@ ghost use Rattle.format.specs.Statement.{statements};
 ghost use Rattle.format.specs.Bundle.{all-formed};
 ghost use Rattle.rules.specs.Rules.{holds, some};
 ghost use Rattle.certificate.specs.Check.{every};
-ghost use Rattle.sealed.specs.Sealed.{module-fits};
+ghost use Rattle.counter.specs.Counter.{module-fits};
 ghost use Rattle.station.specs.Machine.{stage-step, round-in};
 ghost use Rattle.station.specs.Words.{held-in, leading, no-group, value-group, kept-for-value as KeptForValue, kept-for-none as KeptForNone, sites};
 ghost use Rattle.station.specs.Fit.{zeros, slot-fits, slots-fit, stage-fits, group-fits, fits};

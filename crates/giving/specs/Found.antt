@@ -11,8 +11,8 @@ use Rattle.format.specs.declared.Step.{Step}
 use Rattle.format.specs.Numbers.{not-above, closed-now, kept}
 use Rattle.format.specs.Group.{quorum}
 use Rattle.format.specs.Words.{step-of, step-in}
-use Rattle.sealed.specs.declared.Module.{Module}
-use Rattle.sealed.specs.Sealed.{above, last-for}
+use Rattle.counter.specs.declared.Module.{Module}
+use Rattle.counter.specs.Counter.{above, last-for}
 use Rattle.station.specs.declared.Station.{Station}
 use Rattle.station.specs.Machine.{closes, decision-at}
 use Rattle.station.specs.Words.{held-by}

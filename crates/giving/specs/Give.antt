@@ -15,8 +15,8 @@ use Rattle.format.specs.Group.{quorum}
 use Rattle.format.specs.Words.{step-of}
 use Rattle.format.specs.Statement.{hmac-code}
 use Rattle.format.specs.Bundle.{main-of, certificate-of}
-use Rattle.sealed.specs.declared.Module.{Module}
-use Rattle.sealed.specs.Sealed.{above, last-for}
+use Rattle.counter.specs.declared.Module.{Module}
+use Rattle.counter.specs.Counter.{above, last-for}
 use Rattle.station.specs.declared.Station.{Station}
 use Rattle.station.specs.Machine.{refused, taken, closes, decision-at}
 use Rattle.station.specs.Words.{held-by, state-of, Lengths}

@@ -10,8 +10,8 @@ use Rattle.format.specs.declared.Fields.{Fields}
 use Rattle.format.specs.Numbers.{none, kept, sent, sent-decided, closed-now, not-above}
 use Rattle.format.specs.Group.{quorum}
 use Rattle.format.specs.Words.{step-of}
-use Rattle.sealed.specs.declared.Module.{Module}
-use Rattle.sealed.specs.Sealed.{above, last-for}
+use Rattle.counter.specs.declared.Module.{Module}
+use Rattle.counter.specs.Counter.{above, last-for}
 use Rattle.station.specs.declared.Groups.{Groups}
 use Rattle.station.specs.declared.Station.{Station}
 use Rattle.station.specs.Machine.{closes, decision-at}

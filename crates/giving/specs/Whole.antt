@@ -17,8 +17,8 @@ use Rattle.format.specs.Group.{quorum}
 use Rattle.format.specs.Words.{step-of}
 use Rattle.format.specs.Statement.{Statement, hmac-code, step}
 use Rattle.format.specs.Bundle.{main-of, certificate-of}
-use Rattle.sealed.specs.declared.Module.{Module}
-use Rattle.sealed.specs.Sealed.{above, last-for}
+use Rattle.counter.specs.declared.Module.{Module}
+use Rattle.counter.specs.Counter.{above, last-for}
 use Rattle.station.specs.declared.Stage.{Stage}
 use Rattle.station.specs.declared.Stage.the-variants.{Gathering, Proposing, Voting}
 use Rattle.station.specs.declared.Station.{Station}

@@ -1,9 +1,9 @@
 // Giving a bundle to a station (document 01, "The station" and "Table of returns"). The contracts cite specs/.
+use counter::Module;
 use ending::Following;
 use ending::Source;
 use format::Fields;
 use format::Round;
-use sealed::Module;
 use sending::Sent;
 use station::Groups;
 use station::Held;
@@ -149,7 +149,7 @@ fn go_on(m: Module, k: Station, x: Following, d: u32, out: &mut [u32]) -> Given
     let identity = k.identity;
     let round = x.round;
     let f = own_fields(m.station, x.kind, x.value, x.flag, round);
-    if !sealed::is_above(m, identity.question, format::step_of(f)) {
+    if !counter::is_above(m, identity.question, format::step_of(f)) {
         return no_bundle(12, k, m);
     }
     let s = send_next(m, k, x, f, d, out);

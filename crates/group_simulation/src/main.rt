@@ -5,9 +5,9 @@
 // question: at `0` all sites propose 0, at `1` all propose 1, at any other byte sites of even number propose 1 and the others 0; a zero byte ends the
 // input. A line is printed for each question: n, the question, the sites' decisions, how many bundles were given in all so far, and how many calls were
 // refused, openings included.
+use counter::Module;
 use libc::STDIN_FILENO;
 use libc::STDOUT_FILENO;
-use sealed::Module;
 use station::Station;
 ghost use mathlib.Core.Path.{_≡_};
 ghost use Prim.Native.Nat.{_+_, _*_, _≤_, _<_};
@@ -33,7 +33,7 @@ struct Heard {
 
 // Before the first question: a module that has coded nothing, and no station.
 fn fresh(n: u32, number: u32) -> Site {
-    let made = sealed::make([7; 32], n, number);
+    let made = counter::make([7; 32], n, number);
     let own = made.made;
     let station = opening::none();
     Site {

@@ -18,7 +18,7 @@ use Rattle.format.specs.Bundle.{count-in, main-of, certificate-of, all-formed}
 use Rattle.format.specs.Layout.{formed-well}
 use Rattle.format.specs.Shape.{Formed, formed-out}
 use Rattle.certificate.specs.Valid.{Bundle}
-use Rattle.sealed.specs.declared.Module.{Module}
+use Rattle.counter.specs.declared.Module.{Module}
 use Rattle.station.specs.declared.Station.{Station}
 use Rattle.station.specs.Machine.{keeping, insert, held-of, takes, supplies-for-value, supplies-for-none}
 use Rattle.station.specs.Words.{set-of, slot-of, slots-of, group-words, sites, held-by, state-of, Lengths}

@@ -13,7 +13,7 @@ use Rattle.format.specs.Statement.{hmac-code, step}
 use Rattle.format.specs.Words.{step-of}
 use Rattle.format.specs.Codes.{hmac-eight}
 use Rattle.format.specs.Shape.{init}
-use Rattle.sealed.specs.declared.Module.{Module}
+use Rattle.counter.specs.declared.Module.{Module}
 use Rattle.station.specs.declared.Station.{Station}
 use Rattle.station.specs.declared.Stage.the-variants.{Gathering}
 use Rattle.station.specs.Calls.{Returned, opening}

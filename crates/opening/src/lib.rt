@@ -1,8 +1,8 @@
 // Opening a station (document 01, "The station" and "Table of returns"). The contracts cite specs/.
+use counter::Module;
 use format::Fields;
 use format::Round;
 use format::Step;
-use sealed::Module;
 use station::Groups;
 use station::Held;
 use station::Identity;
@@ -43,8 +43,8 @@ fn first(room: bool, range: bool, later: bool) -> u32
 fn refusal(m: Module, question: u32, proposal: u32, lent: usize) -> u32
     ensures { λ r. ⌜ r ≡ open-refusal m question proposal lent ⌝ }
 {
-    let range = sealed::fits(m) & (proposal < 2);
-    let later = sealed::is_above(m, question, Step(0));
+    let range = counter::fits(m) & (proposal < 2);
+    let later = counter::is_above(m, question, Step(0));
     first(331 <= lent, range, later)
 }
 

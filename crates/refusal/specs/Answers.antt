@@ -21,8 +21,8 @@ use Rattle.rules.specs.declared.Which.the-variants.{Only}
 use Rattle.rules.specs.Rules.{rule}
 use Rattle.certificate.specs.Check.{question-fits, all-verify, check-by, judged}
 use Rattle.certificate.specs.Parts.{sizes}
-use Rattle.sealed.specs.declared.Module.{Module}
-use Rattle.sealed.specs.Sealed.{module-fits}
+use Rattle.counter.specs.declared.Module.{Module}
+use Rattle.counter.specs.Counter.{module-fits}
 use Rattle.station.specs.declared.Station.{Station}
 use Rattle.station.specs.Machine.{stage-step, step-tests, held-of}
 use Rattle.station.specs.Words.{state-of, sites, held-by}

@@ -1,7 +1,7 @@
 // The first refusal of a given bundle (document 01, "Table of returns"). The contracts cite specs/.
+use counter::Module;
 use format::Fields;
 use rules::Which;
-use sealed::Module;
 use station::Stage;
 use station::Station;
 ghost use mathlib.Core.Path.{_≡_};

@@ -1,6 +1,6 @@
 -- Laws that the coding functions' proofs cite: what the code reads, tests and stores on the way makes the answer as it is defined.
 use Prim.Native.Nat.{ℕ}
-use mathlib.Core.Bool.{Bool, true, false, not, _&&_}
+use mathlib.Core.Bool.{Bool, true, _&&_}
 use mathlib.Core.List.{List, [], _∷_}
 use mathlib.Core.Path.{_≡_, refl, sym, ap, _∙_}
 use lib.Dec.{eqb, ltb}
@@ -13,12 +13,12 @@ use Rattle.laws.specs.Bools.{both}
 use Rattle.laws.specs.Refusals.{All, test, first-failed, all-passed}
 use Rattle.format.specs.declared.Fields.{Fields}
 use Rattle.format.specs.declared.Step.{Step}
-use Rattle.format.specs.Numbers.{kind-P, R-GET, statement-words, out-of-range, malformed, wrong-code, not-above}
-use Rattle.format.specs.Group.{size-fits}
-use Rattle.format.specs.Words.{of-group, formed, fields-of, step-in}
+use Rattle.format.specs.Numbers.{statement-words, out-of-range, malformed, wrong-code, not-above}
+use Rattle.format.specs.Words.{formed, fields-of, step-in}
 use Rattle.format.specs.Statement.{Statement, statement, written, step, hmac-code}
-use Rattle.sealed.specs.declared.Module.{Module}
-use Rattle.sealed.specs.Sealed.{above, last-for, making, fresh, no-module, module-fits, advanced, Coded, by-plain, by-coin, signed, with-value, tossed, coding, coding-tests, coding-plain, coding-coin}
+use Rattle.counter.specs.declared.Module.{Module}
+use Rattle.counter.specs.Counter.{above, last-for, module-fits, advanced}
+use Rattle.sealed.specs.Sealed.{Coded, by-plain, by-coin, signed, with-value, tossed, coding, coding-tests, coding-plain, coding-coin}
 use Rattle.sealed.specs.Answers.{Answered, Tested, word-with, lent-with}
 
 -- the same, by its words
@@ -122,12 +122,3 @@ coin-is m ws coin w f fit way number w-is f-is fit-is way-is n-is =
 pub by : (x y : Coded) (number : ℕ) (after : Module) (lent : List ℕ) → x ≡ y → Answered x number after lent → Answered y number after lent
 by x y number after lent e a =
     record { number-is = a .number-is ∙ ap (λ (z : Coded). z .number) e; after-is = a .after-is ∙ ap (λ (z : Coded). z .after) e; lent-is = a .lent-is ∙ ap (λ (z : Coded). z .lent) e }
-
--- making, by its test
-pub makes : (key : List ℕ) (n number : ℕ) → (size-fits n && of-group n number) ≡ true → making key n number ≡ record { number = 0; made = fresh key n number }
-unfolding making pick
-makes key n number h = rw h
-
-pub makes-none : (key : List ℕ) (n number : ℕ) → (size-fits n && of-group n number) ≡ false → making key n number ≡ record { number = out-of-range; made = no-module }
-unfolding making pick
-makes-none key n number h = rw h

@@ -18,8 +18,9 @@ use Rattle.format.specs.Statement.{Statement, statement, word-0, written, well-
 use Rattle.format.specs.Layout.{formed-well}
 use Rattle.format.specs.Shape.{Shape, init, proposal, vote, formed-out, formed-in}
 use Rattle.format.specs.ReadBack.{Proper, word-back, formed-back, length-written, statement-back}
-use Rattle.sealed.specs.declared.Module.{Module}
-use Rattle.sealed.specs.Sealed.{above, last-for, advanced, module-fits, no-module, Coded, is-toss, by-plain, by-coin, tossed, signed, coding, coding-tests, coding-plain, coding-coin}
+use Rattle.counter.specs.declared.Module.{Module}
+use Rattle.counter.specs.Counter.{above, last-for, advanced, module-fits, no-module}
+use Rattle.sealed.specs.Sealed.{Coded, is-toss, by-plain, by-coin, tossed, signed, coding, coding-tests, coding-plain, coding-coin}
 
 -- a statement with other words where its code stands
 abbrev pub with-code : List ℕ → Statement → Statement

@@ -12,7 +12,7 @@ use Rattle.format.specs.declared.Fields.{Fields}
 use Rattle.format.specs.Numbers.{bundle-words}
 use Rattle.format.specs.Words.{word-of}
 use Rattle.format.specs.Statement.{hmac-code}
-use Rattle.sealed.specs.declared.Module.{Module}
+use Rattle.counter.specs.declared.Module.{Module}
 use Rattle.sealed.specs.Sealed.{Coded, by-coin, coding-plain, coding-coin}
 use Rattle.sealed.specs.Answers.{Answered}
 use Rattle.station.specs.declared.Stage.{Stage}

@@ -16,8 +16,9 @@ use Rattle.format.specs.Numbers.{kind-P, bundle-words, most-statements}
 use Rattle.format.specs.Group.{quorum}
 use Rattle.format.specs.Statement.{Statement, written, well-formed, hmac-code, step}
 use Rattle.format.specs.Shape.{Shape, init, proposal, vote, formed-out}
-use Rattle.sealed.specs.declared.Module.{Module}
-use Rattle.sealed.specs.Sealed.{above, last-for, advanced, module-fits, is-toss, Coded, coding-plain, coding-coin}
+use Rattle.counter.specs.declared.Module.{Module}
+use Rattle.counter.specs.Counter.{above, last-for, advanced, module-fits}
+use Rattle.sealed.specs.Sealed.{is-toss, Coded, coding-plain, coding-coin}
 use Rattle.sealed.specs.Ways.{with-code, coded-as, own-plain, own-coin}
 use Rattle.station.specs.declared.Stage.{Stage}
 use Rattle.station.specs.Machine.{own, began, supplies-for-value, supplies-for-none}

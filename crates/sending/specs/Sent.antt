@@ -7,7 +7,7 @@ use Rattle.laws.specs.Pick.{pick}
 use Rattle.format.specs.declared.Fields.{Fields}
 use Rattle.format.specs.Words.{word-of}
 use Rattle.format.specs.Statement.{hmac-code}
-use Rattle.sealed.specs.declared.Module.{Module}
+use Rattle.counter.specs.declared.Module.{Module}
 use Rattle.sealed.specs.Sealed.{Coded, by-coin, coding-plain, coding-coin}
 use Rattle.station.specs.declared.Stage.{Stage}
 use Rattle.station.specs.declared.Station.{Station}

@@ -1,6 +1,6 @@
 // Sending (document 01, "The station"): the station's own statement is coded, its bundle written, and it alone is held. The contracts cite specs/.
+use counter::Module;
 use format::Fields;
-use sealed::Module;
 use station::Groups;
 use station::Held;
 use station::Identity;

@@ -5,8 +5,8 @@
 //
 // Printed are n; for each site what making its module and opening its station returned; each time what the givings returned, site by site; and for
 // each site what reading its station returned, and its decision on question 1, if it has one.
+use counter::Module;
 use libc::STDOUT_FILENO;
-use sealed::Module;
 use station::Station;
 
 // What a host keeps of its site: module and station as the last call returned them, and the last bundle that was written, with its word count.
@@ -24,7 +24,7 @@ fn print(text: &[u8], number: u32) {
 
 // Makes the site's module and opens a station on question 1. A site where one of the two is refused has no bundle to send.
 fn start(n: u32, number: u32, proposal: u32) -> Site {
-    let made = sealed::make([7; 32], n, number);
+    let made = counter::make([7; 32], n, number);
     let mut bundle = [0u32; 331];
     let opened = opening::open(made.made, 1, proposal, &mut bundle);
     print(b"\nsite ", number);

@@ -11,8 +11,8 @@ use Rattle.format.specs.Statement.{step}
 use Rattle.format.specs.Bundle.{main-of, certificate-of}
 use Rattle.rules.specs.declared.Which.the-variants.{Only}
 use Rattle.certificate.specs.Check.{bundle-tests}
-use Rattle.sealed.specs.declared.Module.{Module}
-use Rattle.sealed.specs.Sealed.{module-fits, last-for, advanced}
+use Rattle.counter.specs.declared.Module.{Module}
+use Rattle.counter.specs.Counter.{module-fits, last-for, advanced}
 use Rattle.station.specs.declared.Stage.the-variants.{Gathering}
 use Rattle.station.specs.declared.Station.{Station}
 use Rattle.station.specs.Machine.{Outcome, refused, keeps, sends, opened, taken, step-tests}

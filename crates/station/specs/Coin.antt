@@ -15,9 +15,9 @@ use Rattle.format.specs.Statement.{Statement, step}
 use Rattle.format.specs.Bundle.{main-of, certificate-of}
 use Rattle.rules.specs.Rules.{some, some-value}
 use Rattle.certificate.specs.Check.{every}
-use Rattle.sealed.specs.declared.Last.{Last}
-use Rattle.sealed.specs.declared.Module.{Module}
-use Rattle.sealed.specs.Sealed.{last-for, above}
+use Rattle.counter.specs.declared.Last.{Last}
+use Rattle.counter.specs.declared.Module.{Module}
+use Rattle.counter.specs.Counter.{last-for, above}
 use Rattle.station.specs.declared.Stage.{Stage}
 use Rattle.station.specs.declared.Stage.the-variants.{Gathering, Proposing, Voting}
 use Rattle.station.specs.declared.Station.{Station}

@@ -12,8 +12,9 @@ use Rattle.format.specs.Statement.{Statement, words-at, covered-at}
 use Rattle.format.specs.Bundle.{main-of}
 use Rattle.rules.specs.declared.Which.the-variants.{Any}
 use Rattle.certificate.specs.Check.{check-by}
-use Rattle.sealed.specs.declared.Module.{Module}
-use Rattle.sealed.specs.Sealed.{module-fits, is-toss, coding-plain, coding-coin}
+use Rattle.counter.specs.declared.Module.{Module}
+use Rattle.counter.specs.Counter.{module-fits}
+use Rattle.sealed.specs.Sealed.{is-toss, coding-plain, coding-coin}
 use Rattle.station.specs.declared.Station.{Station}
 use Rattle.station.specs.Machine.{Outcome, sends, own, began, proposing}
 use Rattle.station.specs.Words.{Lengths}

@@ -17,8 +17,8 @@ use Rattle.format.specs.Statement.{Statement, step}
 use Rattle.format.specs.Bundle.{main-of, certificate-of}
 use Rattle.format.specs.Shape.{Shape, init, proposal, formed-in}
 use Rattle.rules.specs.Rules.{Holds, some, none-votes, Backed}
-use Rattle.sealed.specs.declared.Module.{Module}
-use Rattle.sealed.specs.Sealed.{last-for}
+use Rattle.counter.specs.declared.Module.{Module}
+use Rattle.counter.specs.Counter.{last-for}
 use Rattle.station.specs.declared.Stage.{Stage}
 use Rattle.station.specs.declared.Stage.the-variants.{Gathering, Proposing, Voting}
 use Rattle.station.specs.declared.Station.{Station}

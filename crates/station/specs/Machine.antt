@@ -12,8 +12,9 @@ use Rattle.format.specs.Words.{step-of}
 use Rattle.format.specs.Statement.{Statement, step}
 use Rattle.rules.specs.Rules.{group, proposals, some, some-D-GET, some-value}
 use Rattle.certificate.specs.Check.{every}
-use Rattle.sealed.specs.declared.Last.{Last}
-use Rattle.sealed.specs.Sealed.{above, signed}
+use Rattle.counter.specs.declared.Last.{Last}
+use Rattle.counter.specs.Counter.{above}
+use Rattle.sealed.specs.Sealed.{signed}
 use Rattle.station.specs.declared.Stage.{Stage}
 use Rattle.station.specs.declared.Stage.the-variants.{Gathering, Proposing, Voting}
 

@@ -12,9 +12,10 @@ use Rattle.format.specs.Words.{fields-of, word-of, formed, step-of}
 use Rattle.format.specs.Statement.{Statement, written, step}
 use Rattle.rules.specs.Rules.{rule, wanted, some, in-order, holds, first-group, second-group, has-second, early-toss, rest-holds, spread, groups-hold}
 use Rattle.certificate.specs.Check.{every}
-use Rattle.sealed.specs.declared.Last.{Last}
-use Rattle.sealed.specs.declared.Module.{Module}
-use Rattle.sealed.specs.Sealed.{no-pair, pair, above, coding-plain}
+use Rattle.counter.specs.declared.Last.{Last}
+use Rattle.counter.specs.declared.Module.{Module}
+use Rattle.counter.specs.Counter.{no-pair, pair, above}
+use Rattle.sealed.specs.Sealed.{coding-plain}
 use Rattle.station.specs.declared.Stage.{Stage}
 use Rattle.station.specs.declared.Stage.the-variants.{Gathering}
 use Rattle.station.specs.Machine.{State, Outcome, refused, keeps, sends, proposing, voting, began, insert, number-of, first-value, those, vote-value, decided, carried, follows, ended, taken, conflict, step-tests}

@@ -12,8 +12,8 @@ use Rattle.laws.specs.Pick.{pick}
 use Rattle.laws.specs.Bools.{never, both, is-false}
 use Rattle.laws.specs.Refusals.{first-failed}
 use Rattle.format.specs.Numbers.{none, output-words, short-output, out-of-range}
-use Rattle.sealed.specs.declared.Module.{Module}
-use Rattle.sealed.specs.Sealed.{module-fits}
+use Rattle.counter.specs.declared.Module.{Module}
+use Rattle.counter.specs.Counter.{module-fits}
 use Rattle.station.specs.Fit.{fits}
 use Rattle.station.specs.Returns.{unrefused}
 use Rattle.station.specs.Calls.{Returned, returned, opening, giving, no-station}

@@ -9,7 +9,7 @@ use Rattle.format.specs.Group.{backing}
 use Rattle.format.specs.Words.{step-of}
 use Rattle.format.specs.Statement.{step}
 use Rattle.rules.specs.Rules.{rule, wanted, some, in-order, holds, first-group, second-group, has-second, early-toss, rest-holds, spread, groups-hold}
-use Rattle.sealed.specs.declared.Module.{Module}
+use Rattle.counter.specs.declared.Module.{Module}
 use Rattle.station.specs.declared.Stage.the-variants.{Gathering}
 use Rattle.station.specs.declared.Station.{Station}
 use Rattle.station.specs.Machine.{proposing, insert, taken, conflict}

@@ -17,8 +17,9 @@ use Rattle.format.specs.Group.{size-fits}
 use Rattle.format.specs.Statement.{Statement, statement, covered, written, well-formed, step}
 use Rattle.format.specs.Shape.{init}
 use Rattle.format.specs.ReadBack.{Proper, length-written, statement-drop, statement-back}
-use Rattle.sealed.specs.declared.Module.{Module}
-use Rattle.sealed.specs.Sealed.{above, last-for, advanced, module-fits, is-toss, signed, coding-plain, coding-coin}
+use Rattle.counter.specs.declared.Module.{Module}
+use Rattle.counter.specs.Counter.{above, last-for, advanced, module-fits}
+use Rattle.sealed.specs.Sealed.{is-toss, signed, coding-plain, coding-coin}
 use Rattle.sealed.specs.Ways.{with-code, coded-as, own-plain, own-coin}
 use Rattle.station.specs.declared.Stage.{Stage}
 use Rattle.station.specs.declared.Stage.the-variants.{Gathering, Proposing, Voting}

@@ -16,8 +16,8 @@ use Rattle.format.specs.Bundle.{main-of, certificate-of}
 use Rattle.format.specs.Codes.{hmac-eight}
 use Rattle.rules.specs.declared.Which.the-variants.{Any, Only}
 use Rattle.certificate.specs.Check.{one-question, bundle-tests, check-tests, check-by}
-use Rattle.sealed.specs.declared.Module.{Module}
-use Rattle.sealed.specs.Sealed.{module-fits, last-for}
+use Rattle.counter.specs.declared.Module.{Module}
+use Rattle.counter.specs.Counter.{module-fits, last-for}
 use Rattle.station.specs.declared.Station.{Station}
 use Rattle.station.specs.Machine.{refused, taken, step-tests}
 use Rattle.station.specs.Words.{state-of}

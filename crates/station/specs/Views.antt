@@ -22,8 +22,8 @@ use Rattle.certificate.specs.Check.{one-question, bundle-tests}
 use Rattle.rules.specs.Backed.{rule-backed}
 use Rattle.certificate.specs.Valid.{Bundle}
 use Rattle.certificate.specs.Exact.{bundle-out, every-out}
-use Rattle.sealed.specs.declared.Module.{Module}
-use Rattle.sealed.specs.Sealed.{above, module-fits, last-for}
+use Rattle.counter.specs.declared.Module.{Module}
+use Rattle.counter.specs.Counter.{above, module-fits, last-for}
 use Rattle.station.specs.declared.Stage.the-variants.{Gathering}
 use Rattle.station.specs.declared.Station.{Station}
 use Rattle.station.specs.Machine.{State, Outcome, refused, keeps, sends, Next, own, began, opened, keeping, closes, decision-at, shut, follows, moved, ended, taken, held-of, conflict, place-tests, stage-step}

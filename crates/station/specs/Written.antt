@@ -24,8 +24,8 @@ use Rattle.rules.specs.Rules.{Backed, rule-1, rule-2, rule-3, rule-4, rule-5, r
 use Rattle.certificate.specs.Check.{check-by, judged, checked}
 use Rattle.certificate.specs.Valid.{Valid}
 use Rattle.certificate.specs.Exact.{valid-found}
-use Rattle.sealed.specs.declared.Module.{Module}
-use Rattle.sealed.specs.Sealed.{last-for}
+use Rattle.counter.specs.declared.Module.{Module}
+use Rattle.counter.specs.Counter.{last-for}
 use Rattle.station.specs.declared.Stage.{Stage}
 use Rattle.station.specs.declared.Stage.the-variants.{Gathering, Proposing, Voting}
 use Rattle.station.specs.declared.Station.{Station}

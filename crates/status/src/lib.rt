@@ -1,6 +1,6 @@
 // Reading a station: a call that changes nothing. The contracts cite specs/.
+use counter::Module;
 use format::Round;
-use sealed::Module;
 use station::Stage;
 use station::Station;
 ghost use mathlib.Core.Path.{_≡_};

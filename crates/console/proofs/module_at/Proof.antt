@@ -2,7 +2,7 @@
 use mathlib.Core.Path.{_∙_}
 use borrow.Author.Needs.{needs}
 use Rattle.laws.specs.Pick.{pick}
-use Rattle.sealed.specs.Sealed.{no-module, making}
+use Rattle.counter.specs.Counter.{no-module, making}
 use Rattle.console.specs.Places.{low, high, at-inside, at-outside}
 use Rattle.console.proofs.module_at.Statement.{statement}
 use Rattle.console.proofs.module_at.Tie as tie

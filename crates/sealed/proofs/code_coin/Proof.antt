@@ -1,4 +1,5 @@
 -- The refusal and the answer are those of the definition, since the tests and the value are.
+use mathlib.Core.Path.{refl}
 use Rattle.sealed.proofs.Coding.{coin-is, by}
 use borrow.Author.Needs.{needs}
 use Rattle.sealed.proofs.code_coin.Statement.{statement}
@@ -13,9 +14,6 @@ read-fields-requires c κs = search needs
 fits-requires : tie.Need-fits-requires
 fits-requires c κs = search needs
 
-by-coin-requires : tie.Need-by-coin-requires
-by-coin-requires c κs = search needs
-
 refusal-requires : tie.Need-refusal-requires
 refusal-requires c κs = search needs
 
@@ -28,10 +26,10 @@ same-length c = search needs
 returns : tie.Need-returns
 returns c =
     let k = c .before .before .before .before in
-    let r = k .before .before .before .before in
-    let a = c .before .before .before .before .before .before .before .before .before .before .before .before .args in
+    let r = k .before .before .before .before .before in
+    let a = r .before .before .before .before .args in
     by _ _ _ _ _
-    (coin-is (a .m) (a .ws .now) (a .coin) _ _ _ _ _ (r .before .word .ensures) (r .read-fields .ensures) (k .before .before .fits2 .ensures) (k .before .by-coin .ensures) (k .refusal .ensures .number-is))
+    (coin-is (a .m) (a .ws .now) (a .coin) _ _ _ _ _ (r .before .word .ensures) (r .read-fields .ensures) (k .before .before .before .fits2 .ensures) refl (k .refusal .ensures .number-is))
     (c .before .before .finish .ensures)
 
 pub code-coin-spec : {M : Type 1} → statement M
@@ -41,7 +39,6 @@ code-coin-spec =
     word-requires
     read-fields-requires
     fits-requires
-    by-coin-requires
     refusal-requires
     finish-requires
     same-length

@@ -1,4 +1,5 @@
 -- A refusal changes nothing; else the module is one pair on and the words are coded.
+use mathlib.Core.Path.{refl}
 use native.Mathlib.Omega.{arith}
 use Rattle.format.specs.Statement.{statement as statement-in, hmac-code}
 use Rattle.sealed.specs.Sealed.{with-value}
@@ -13,14 +14,11 @@ slice-read-read-fields c = omega (arith, c .before .before .before .pre (c .befo
 read-fields-requires : tie.Need-read-fields-requires
 read-fields-requires c κs = search needs
 
-slice-read-advance : tie.Need-slice-read-advance
-slice-read-advance c = omega (arith, c .before .before .before .before .before .pre (c .before .before .before .if1 .taken))
+slice-read-t12 : tie.Need-slice-read-t12
+slice-read-t12 c = omega (arith, c .before .before .before .before .before .pre (c .before .before .before .if1 .taken))
 
 step-of-requires : tie.Need-step-of-requires
 step-of-requires c κs = search needs
-
-advance-requires : tie.Need-advance-requires
-advance-requires c κs = search needs
 
 sign-requires : tie.Need-sign-requires
 sign-requires c κs = c .before .before .before .before .before .before .before .before .pre (c .before .before .before .before .before .before .if1 .taken)
@@ -30,10 +28,10 @@ same-length c = search needs
 
 returns : tie.Need-returns
 returns c =
-    let k = c .before .before .before .before in
-    let t = c .before .before .before .before .before .before .before .before .before in
+    let k = c .before .before .before .before .before in
+    let t = k .before .before .before .before in
     let a = t .before .before .args in
-    finished (a .m) (a .ws .now) (a .value) (a .number) _ _ _ _ (t .if1 .taken) (k .before .before .before .read-fields .ensures) (k .before .step-of .ensures) (k .advance .ensures) (c .before .before .sign .ensures)
+    finished (a .m) (a .ws .now) (a .value) (a .number) _ _ _ _ (t .if1 .taken) (k .before .before .read-fields .ensures) (k .step-of .ensures) refl (c .before .before .sign .ensures)
 
 returns-2 : tie.Need-returns-2
 returns-2 c =
@@ -46,9 +44,8 @@ finish-spec =
     (tie.spec
     slice-read-read-fields
     read-fields-requires
-    slice-read-advance
+    slice-read-t12
     step-of-requires
-    advance-requires
     sign-requires
     same-length
     returns

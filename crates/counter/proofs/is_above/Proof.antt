@@ -1,8 +1,8 @@
 -- The test is the definition.
 use mathlib.Core.Path.{refl}
-use Rattle.sealed.specs.Sealed.{above}
-use Rattle.sealed.proofs.is_above.Statement.{statement}
-use Rattle.sealed.proofs.is_above.Tie as tie
+use Rattle.counter.specs.Counter.{above}
+use Rattle.counter.proofs.is_above.Statement.{statement}
+use Rattle.counter.proofs.is_above.Tie as tie
 
 returns : tie.Need-returns
 unfolding above

@@ -1,7 +1,7 @@
 -- The test is the definition.
 use mathlib.Core.Path.{refl}
-use Rattle.sealed.proofs.fits.Statement.{statement}
-use Rattle.sealed.proofs.fits.Tie as tie
+use Rattle.counter.proofs.fits.Statement.{statement}
+use Rattle.counter.proofs.fits.Tie as tie
 
 returns : tie.Need-returns
 returns c = refl

@@ -1,9 +1,9 @@
 -- Each way out is a case of the definition.
 use mathlib.Core.Path.{sym, ap}
-use Rattle.sealed.specs.Sealed.{Made}
-use Rattle.sealed.proofs.Coding.{makes, makes-none}
-use Rattle.sealed.proofs.make.Statement.{statement}
-use Rattle.sealed.proofs.make.Tie as tie
+use Rattle.counter.specs.Counter.{Made}
+use Rattle.counter.proofs.Making.{makes, makes-none}
+use Rattle.counter.proofs.make.Statement.{statement}
+use Rattle.counter.proofs.make.Tie as tie
 
 returns : tie.Need-returns
 returns c =
