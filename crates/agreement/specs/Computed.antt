@@ -18,17 +18,17 @@ use Rattle.format.specs.Group.{quorum, backing, most-faulty}
 use Rattle.format.specs.Words as Format
 use Rattle.format.specs.Words.{fields-of, word-of, formed, step-of}
 use Rattle.format.specs.Statement.{statements, covered-at, code-at, same-words, verifies, well-formed, step}
-use Rattle.format.specs.Bundle.{laid-out, all-formed, bundle-fits}
-use Rattle.format.specs.Layout.{same-out}
+use Rattle.format.specs.Bundle.{laid-out, all-formed, bundle-fits, all-written, bundle-of}
+use Rattle.format.specs.Laws.Layout.{same-out}
 use Rattle.rules.specs.Rules.{wanted, some, in-order, holds, first-group, second-group, has-second, early-toss, rest-holds, spread, groups-hold, rule}
 use Rattle.certificate.specs.Check.{every}
-use Rattle.counter.specs.Counter.{above, making}
+use Rattle.modules.specs.Counter.{above, making}
 use Rattle.sealed.specs.Sealed.{coding-plain, coding-coin}
 use Rattle.station.specs.declared.Stage.{Stage}
 use Rattle.station.specs.declared.Stage.the-variants.{Gathering, Proposing, Voting}
 use Rattle.station.specs.declared.Station.{Station}
-use Rattle.station.specs.Machine.{kind-in, round-in, proposing, voting, insert, number-of, first-value, those, vote-value, decided, carried, follows, ended, taken, conflict}
-use Rattle.station.specs.Words.{held-in, leading, kept-for-value, kept-for-none, state-of, set-of, slot-of, slots-of, all-written, as-station, bundle-of, Lengths}
+use Rattle.station.specs.Machine.{kind-in, round-in, proposing, voting, insert, number-of, first-value, those, vote-value, decided, carried, follows, ended, taken, conflict, leading, kept-for-value, kept-for-none}
+use Rattle.station.specs.Words.{held-in, state-of, set-of, slot-of, slots-of, as-station, Lengths}
 use Rattle.station.specs.Fit.{zeros, slots-fit, fits}
 use Rattle.station.specs.Calls.{Returned, returned, opening, giving, no-station}
 use Rattle.station.specs.Returns.{unrefused}

@@ -8,13 +8,13 @@ use lib.Dec.{eqb}
 use lib.ListN.{length, getD}
 use Rattle.laws.specs.Pick.{pick}
 use Rattle.laws.specs.Count.{count}
-use Rattle.format.specs.Numbers.{kind-INIT, none, statement-words, covered-words, place-of, conflicting}
+use Rattle.format.specs.Numbers.{kind-INIT, none, statement-words, covered-words, place-of, conflicting, least-stations, most-stations}
 use Rattle.format.specs.Group.{quorum, backing, most-faulty}
 use Rattle.format.specs.Words.{kind-of, value-of, station-of}
 use Rattle.format.specs.Statement.{Statement, covered-at, code-at, same-words}
 use Rattle.format.specs.Bundle.{main-of}
-use Rattle.counter.specs.declared.Module.{Module}
-use Rattle.counter.specs.Counter.{making}
+use Rattle.modules.specs.declared.Module.{Module}
+use Rattle.modules.specs.Counter.{making}
 use Rattle.sealed.specs.Sealed.{Coded, coding-plain, coding-coin}
 use Rattle.station.specs.declared.Station.{Station}
 use Rattle.station.specs.Calls.{Returned, opening, giving, no-station}
@@ -235,4 +235,4 @@ module _ (mac : List ℕ → List ℕ → List ℕ) (key : List ℕ) (n : ℕ) w
 
 -- ---- demand 3 under a code function: the claim holds for every n from 2 to 31, every key and every list of calls within the premises
 abbrev pub Demand-3 : (List ℕ → List ℕ → List ℕ) → Type 1
-Demand-3 mac = (key : List ℕ) (n : ℕ) → 2 ≤ n → n ≤ 31 → (cs : List Call) → Given mac key n cs → FewFaulty mac key n cs → Claim mac key n cs
+Demand-3 mac = (key : List ℕ) (n : ℕ) → least-stations ≤ n → n ≤ most-stations → (cs : List Call) → Given mac key n cs → FewFaulty mac key n cs → Claim mac key n cs

@@ -1,11 +1,7 @@
 pub mod Demand
 pub mod Maths
-pub mod Effect
-pub mod Line
-pub mod Giving
-pub mod Invariant
-pub mod Run
 pub mod Prefix
 pub mod Theorem
 pub mod Computed
 pub mod Example
+pub mod Laws

@@ -9,30 +9,29 @@ use lib.ListN.{length, getD}
 use borrow.Author.Tests.{eqb-true, eqb-false, eq-eqb, ne-eqb, ltb-true, ltb-false}
 use Rattle.laws.specs.Pick.{pick}
 use Rattle.laws.specs.Bools.{never, both, join, left, right}
-use Rattle.laws.specs.Refusals.{All, all-map}
+use Rattle.laws.specs.All.{All, all-map, all-two}
 use Rattle.laws.specs.Count.{count, meet}
 use Rattle.format.specs.Numbers.{kind-INIT, kind-P, kind-V, none, D-GET, conflicting}
 use Rattle.format.specs.Group.{quorum, backing, most-faulty}
 use Rattle.format.specs.Words.{kind-of, value-of}
 use Rattle.format.specs.Statement.{Statement, statement, statements, hmac-code, step}
 use Rattle.format.specs.Bundle.{count-in, main-of, certificate-of}
-use Rattle.format.specs.Codes.{hmac-eight}
-use Rattle.format.specs.Layout.{all-well}
-use Rattle.format.specs.Shape.{Shape, init, proposal, vote, Formed, formed-out}
+use Rattle.format.specs.Laws.Codes.{hmac-eight}
+use Rattle.format.specs.Laws.Layout.{all-well}
+use Rattle.format.specs.Laws.Shape.{Shape, init, proposal, vote, Formed, formed-out}
 use Rattle.rules.specs.Rules.{some}
-use Rattle.counter.specs.declared.Module.{Module}
+use Rattle.modules.specs.declared.Module.{Module}
 use Rattle.station.specs.declared.Stage.{Stage}
 use Rattle.station.specs.declared.Stage.the-variants.{Gathering, Proposing, Voting}
 use Rattle.station.specs.declared.Station.{Station}
 use Rattle.station.specs.Machine.{conflict, has-value, kind-in, round-in, stage-step}
 use Rattle.station.specs.Words.{state-of}
 use Rattle.station.specs.Calls.{Returned}
-use Rattle.format.specs.ReadBack.{Proper}
-use Rattle.station.specs.Sane.{Sane}
-use Rattle.station.specs.Keep.{same-step}
-use Rattle.station.specs.Slots.{all-two}
-use Rattle.station.specs.Pieces as P
-use Rattle.station.specs.Views.{conflicts, Nearly}
+use Rattle.format.specs.Laws.ReadBack.{Proper}
+use Rattle.station.specs.Laws.Sane.{Sane}
+use Rattle.station.specs.Laws.Keep.{same-step}
+use Rattle.station.specs.Laws.Pieces as P
+use Rattle.station.specs.Laws.Views.{conflicts, Nearly}
 use Rattle.station.specs.Returns.{unrefused}
 use Rattle.agreement.specs.Maths.Counting.{count-mono}
 use Rattle.agreement.specs.Maths.Log.{In, is, has, has-out, has-at, Supp, all-at}
@@ -40,11 +39,11 @@ use Rattle.agreement.specs.Maths.Safe as Safe
 use Rattle.agreement.specs.Maths.Safe.{Just, Split, LogOk, Decided}
 use Rattle.agreement.specs.Maths.Just.{bare, Coded, backed-just}
 use Rattle.agreement.specs.Maths.Took.{vote-out, one-more, none-there}
-use Rattle.agreement.specs.Effect.{plain-effect, toss-effect}
-use Rattle.agreement.specs.Line.{reads, AtSite, all-came, Line, line-asked, line-low, line-named, line-names, line-open}
+use Rattle.agreement.specs.Laws.Effect.{plain-effect, toss-effect}
+use Rattle.agreement.specs.Laws.Line.{reads, AtSite, all-came, Line, line-asked, line-low, line-named, line-names, line-open}
 use Rattle.agreement.specs.Maths.Standing.{Enough, Open}
-use Rattle.agreement.specs.Invariant.{Mine, start}
-use Rattle.agreement.specs.Run.{Inv, apart-step, open-step, give-step}
+use Rattle.agreement.specs.Laws.Invariant.{Mine, start}
+use Rattle.agreement.specs.Laws.Run.{Inv, apart-step, open-step, give-step}
 use Rattle.agreement.specs.Maths.Votes.{is-vote, votes}
 use Rattle.agreement.specs.Demand.{opens, gives, codes, tosses, Call, call, site, action, View, starting, going-on, apart, view, Entry, is-statement, Lineage, Found, found, opened, gave, went, member, proposed, act, modules, answer, log, openings, lineage, Presents, Sound, FewFaulty, CodesCame, Given, Decides, Claim, Demand-3}
 

@@ -1,59 +1,74 @@
 // Runs the script on standard input (docs/SCRIPT.md) and prints what its calls answer and change. The script and the expected lines come
 // from the second implementation (second/).
-use counter::Last;
-use counter::Module;
-use format::Round;
 use format::Step;
-use giving::Given;
 use libc::STDIN_FILENO;
 use libc::STDOUT_FILENO;
-use opening::Opened;
-use station::Groups;
-use station::Held;
-use station::Identity;
-use station::Stage;
+use modules::Last;
+use modules::Module;
 use station::Station;
+use station_words::Reading;
+use station_words::STATION_WORDS;
 ghost use mathlib.Core.Path.{_≡_};
-ghost use Prim.Native.Nat.{_+_, _*_, _≤_, _<_};
-ghost use lib.ListN.{length, take, drop, getD};
+ghost use Prim.Native.Nat.{_+_, _≤_, _<_};
+ghost use lib.ListN.{length, getD};
 ghost use Rattle.format.specs.Statement.{hmac-code};
-ghost use Rattle.counter.specs.Counter.{making};
 ghost use Rattle.sealed.specs.Sealed.{coding-plain, coding-coin};
-ghost use Rattle.station.specs.Calls.{giving};
-ghost use Rattle.call_cases.specs.Registers.{check-of, key-of, key-named, Short, Sized, InRange, seen, last-in, module-in, stage-in, held-in, groups-in, station-in, Counted, opened-by, given-by};
+ghost use Rattle.station_words.specs.Words.{reading, part};
+ghost use Rattle.station_words.specs.Laws.Put.{put-at};
+ghost use Rattle.call_cases.specs.Registers.{all-words, check-of, key-of, made-by, Within, InRange, shown, seen, last-in, module-in, Counted, opened-by, given-words, given-by};
 
-enum Keyword {
-    Adopt,
-    Bring,
-    Check,
-    Fill,
-    Give,
-    Keep,
-    Length,
-    Make,
-    Open,
-    Plain,
-    Raw,
-    Station,
-    Toss,
-    Words,
-    Zero,
-    Unknown,
-}
+// All words stand in one slice. In front are the numbers of the line, then the words that a call may change as they were before it: those of a
+// module, a station and a buffer.
+const MOST_NUMBERS: usize = 79;
 
-enum Number {
-    Is(u32),
-    Malformed,
-}
+const SAVED_AT: usize = MOST_NUMBERS;
 
-// The numbers behind a keyword, at most 79 of them.
-struct Numbers {
-    readable: bool,
+const SAVED_STATION_AT: usize = SAVED_AT + MODULE_WORDS;
+
+const SAVED_BUFFER_AT: usize = SAVED_STATION_AT + STATION_WORDS;
+
+// Behind them stand the registers: the modules, the stations, and the buffers, each with its length behind its words.
+const MODULES: u32 = 32;
+
+const MODULE_WORDS: usize = 13;
+
+const MODULES_AT: usize = SAVED_BUFFER_AT + BUFFER_WORDS;
+
+const STATIONS: u32 = 64;
+
+const STATIONS_AT: usize = MODULES_AT + 32 * MODULE_WORDS;
+
+const BUFFERS: u32 = 128;
+
+const BUFFER_WORDS: usize = 400;
+
+const BUFFERS_AT: usize = STATIONS_AT + 64 * STATION_WORDS;
+
+const ALL_WORDS: usize = BUFFERS_AT + 128 * (BUFFER_WORDS + 1);
+
+// The most bytes of a line.
+const LINE_BYTES: usize = 800;
+
+// What a setting copies, and whether its numbers are fine.
+struct Copied {
+    fine: bool,
+    to: usize,
+    from: usize,
     count: usize,
-    words: [u32; 79],
 }
 
-// The registers that a call names: what it takes, what it lends, and the buffer that is given; 0 where it names none.
+// A run of equal words that a setting puts, the length that it sets and its place, and whether the setting's numbers are fine.
+struct Run {
+    fine: bool,
+    at: usize,
+    count: usize,
+    word: u32,
+    place: usize,
+    length: u32,
+}
+
+// Where the registers begin that a call names: what it takes, what it lends, and the buffer that is given. Register 0 stands where it names
+// none: nothing of it changes.
 struct Named {
     readable: bool,
     module: usize,
@@ -72,42 +87,32 @@ struct Answer {
 fn digit(b: u8) -> u32
     ensures { λ r. ⌜ r ≤ 16 ⌝ }
 {
-    if b < b'0' {
-        return 16;
+    match b {
+        b'0'..=b'9' => (b - b'0') as u32,
+        b'a'..=b'f' => (b - b'a') as u32 + 10,
+        _ => 16,
     }
-    if b <= b'9' {
-        return (b - b'0') as u32;
-    }
-    if b < b'a' {
-        return 16;
-    }
-    if b <= b'f' {
-        return (b - b'a') as u32 + 10;
-    }
-    16
 }
 
-// The number that the bytes from `from` up to `to` spell in 1 to 8 hex digits.
-fn number_at(text: &[u8], from: usize, to: usize) -> Number
+// The number that the bytes from `from` up to `to` spell in 1 to 8 hex digits, or 2 to the 32 where they spell none.
+fn number_at(text: &[u8], from: usize, to: usize) -> u64
     requires { ⌜ (from ≤ to) × (to ≤ length (now text)) ⌝ }
 {
-    if to == from {
-        return Number::Malformed;
+    let none: u64 = 4294967296;
+    if (to == from) | (8 < to - from) {
+        return none;
     }
-    if 8 < to - from {
-        return Number::Malformed;
-    }
-    let mut v: u32 = 0;
+    let mut v: u64 = 0;
     let mut i = from;
     while i < to {
         let d = digit(text[i]);
         if d == 16 {
-            return Number::Malformed;
+            return none;
         }
-        v = v % 268435456 * 16 + d;
+        v = v % 268435456 * 16 + d as u64;
         i += 1;
     }
-    Number::Is(v)
+    v
 }
 
 // Where the token from `from` on ends: at the next space, or with the line.
@@ -125,348 +130,257 @@ fn token_end(text: &[u8], from: usize) -> usize
     i
 }
 
-fn unreadable() -> Numbers
-    ensures { λ r. ⌜ r .count ≤ 79 ⌝ }
+// Reads the numbers from `from` on, where the keyword ends, and answers how many there are; more than 79 where they can't be read. Each stands
+// behind one space.
+fn numbers_from(text: &[u8], from: usize, numbers: &mut [u32]) -> usize
+    requires { ⌜ (from ≤ length (now text)) × (length (now numbers) ≡ 79) ⌝ }
 {
-    Numbers {
-        readable: false,
-        count: 0,
-        words: [0u32; 79],
-    }
-}
-
-// The numbers from `from` on, where the keyword ends. Each stands behind one space.
-fn numbers_from(text: &[u8], from: usize) -> Numbers
-    requires { ⌜ from ≤ length (now text) ⌝ }
-    ensures { λ r. ⌜ r .count ≤ 79 ⌝ }
-{
-    let mut words = [0u32; 79];
     let mut count: usize = 0;
     let mut at = from;
     while at < text.len() {
-        if count == 79 {
-            return unreadable();
-        }
         let start = at + 1;
         let end = token_end(text, start);
-        let Number::Is(v) = number_at(text, start, end) else {
-            return unreadable();
-        };
-        words[count] = v;
+        let v = number_at(text, start, end);
+        if count == MOST_NUMBERS {
+            return MOST_NUMBERS + 1;
+        }
+        if 4294967296 <= v {
+            return MOST_NUMBERS + 1;
+        }
+        numbers[count] = (v % 4294967296) as u32;
         count += 1;
         at = end;
     }
-    Numbers {
-        readable: true,
-        count: count,
-        words: words,
-    }
+    count
 }
 
-// Whether the first `to` bytes are the word.
-fn spells(text: &[u8], to: usize, word: &[u8]) -> bool
-    requires { ⌜ to ≤ length (now text) ⌝ }
-{
-    if to != word.len() {
-        return false;
+// A byte of a word, or a space behind its last.
+fn byte_at(word: &[u8], at: usize) -> u8 {
+    if at < word.len() {
+        return word[at];
     }
+    b' '
+}
+
+// Where the word begins that holds the next byte of a list: there, if a space stands before it.
+fn start(c: u8, from: usize, next: usize) -> usize
+    requires { ⌜ from ≤ next ⌝ }
+    ensures { λ r. ⌜ r ≤ next ⌝ }
+{
+    if c == b' ' {
+        return next;
+    }
+    from
+}
+
+// Whether a word with no space in it is in a list of words, with a space before and behind each. A keyword is; no two start with the same letter,
+// so its letter stands for it then.
+fn is_in(list: &[u8], word: &[u8]) -> bool {
+    let mut same = false;
+    let mut from: usize = 0;
     let mut i: usize = 0;
-    while i < to {
-        if text[i] != word[i] {
-            return false;
+    while i < list.len() {
+        let c = list[i];
+        same = same & (byte_at(word, i - from) == c);
+        if same & (c == b' ') {
+            return true;
         }
+        same = same | (c == b' ');
+        from = start(c, from, i + 1);
         i += 1;
     }
-    true
+    false
 }
 
-// The setting in the first `to` bytes.
-fn setting_of(text: &[u8], to: usize) -> Keyword
-    requires { ⌜ to ≤ length (now text) ⌝ }
+// Puts words into a slice from a place on.
+fn put(ws: &mut [u32], at: usize, words: &[u32])
+    requires { ⌜ at + length (now words) ≤ length (now ws) ⌝ }
+    ensures { λ _. ⌜ now (ws .exit) ≡ put-at (now (ws .entry)) at (now (words .entry)) ⌝ }
 {
-    if spells(text, to, b"adopt") {
-        return Keyword::Adopt;
+    let mut i: usize = 0;
+    while i < words.len() {
+        ws[at + i] = words[i];
+        i += 1;
     }
-    if spells(text, to, b"bring") {
-        return Keyword::Bring;
-    }
-    if spells(text, to, b"fill") {
-        return Keyword::Fill;
-    }
-    if spells(text, to, b"keep") {
-        return Keyword::Keep;
-    }
-    if spells(text, to, b"length") {
-        return Keyword::Length;
-    }
-    if spells(text, to, b"raw") {
-        return Keyword::Raw;
-    }
-    if spells(text, to, b"station") {
-        return Keyword::Station;
-    }
-    if spells(text, to, b"words") {
-        return Keyword::Words;
-    }
-    if spells(text, to, b"zero") {
-        return Keyword::Zero;
-    }
-    Keyword::Unknown
 }
 
-// The call in the first `to` bytes.
-fn call_of(text: &[u8], to: usize) -> Keyword
-    requires { ⌜ to ≤ length (now text) ⌝ }
+// Where a module, a station and a buffer begin.
+fn module_place(m: u32) -> usize
+    ensures { λ r. ⌜ r + 13 ≤ all-words ⌝ }
 {
-    if spells(text, to, b"check") {
-        return Keyword::Check;
-    }
-    if spells(text, to, b"give") {
-        return Keyword::Give;
-    }
-    if spells(text, to, b"make") {
-        return Keyword::Make;
-    }
-    if spells(text, to, b"open") {
-        return Keyword::Open;
-    }
-    if spells(text, to, b"plain") {
-        return Keyword::Plain;
-    }
-    if spells(text, to, b"toss") {
-        return Keyword::Toss;
-    }
-    Keyword::Unknown
+    MODULES_AT + (m % MODULES) as usize * MODULE_WORDS
 }
 
-// The keyword in the first `to` bytes.
-fn keyword_of(text: &[u8], to: usize) -> Keyword
-    requires { ⌜ to ≤ length (now text) ⌝ }
+fn station_place(s: u32) -> usize
+    ensures { λ r. ⌜ r + 639 ≤ all-words ⌝ }
 {
-    let setting = setting_of(text, to);
-    match setting {
-        Keyword::Unknown => call_of(text, to),
-        _ => setting,
-    }
+    STATIONS_AT + (s % STATIONS) as usize * STATION_WORDS
 }
 
-// Copies `count` words within a slice.
-fn copy(ws: &mut [u32], from: usize, to: usize, count: usize)
-    requires { ⌜ (from + count ≤ length (now ws)) × (to + count ≤ length (now ws)) ⌝ }
+fn buffer_place(b: u32) -> usize
+    ensures { λ r. ⌜ r + 401 ≤ all-words ⌝ }
+{
+    BUFFERS_AT + (b % BUFFERS) as usize * (BUFFER_WORDS + 1)
+}
+
+// Copies words within the registers.
+fn copy(registers: &mut [u32], to: usize, from: usize, count: usize)
+    requires { ⌜ (to + count ≤ length (now registers)) × (from + count ≤ length (now registers)) ⌝ }
 {
     let mut i: usize = 0;
     while i < count {
-        ws[to + i] = ws[from + i];
+        registers[to + i] = registers[from + i];
         i += 1;
     }
 }
 
-// Puts `count` numbers, from number `from` on, into a slice from word `at` on.
-fn put(ws: &mut [u32], at: usize, numbers: [u32; 79], from: usize, count: usize)
-    requires { ⌜ (at + count ≤ length (now ws)) × (from + count ≤ 79) ⌝ }
+// `adopt M N`, `bring B C` and `keep S T`, of the letter k.
+fn copy_named(k: u8, two: bool, a: u32, b: u32) -> Copied
+    ensures { λ r. ⌜ Within r ⌝ }
 {
+    match k {
+        b'a' => Copied {
+            fine: two & (a < MODULES) & (b < MODULES),
+            to: module_place(a),
+            from: module_place(b),
+            count: MODULE_WORDS,
+        },
+        b'b' => Copied {
+            fine: two & (a < BUFFERS) & (b < BUFFERS),
+            to: buffer_place(a),
+            from: buffer_place(b),
+            count: BUFFER_WORDS + 1,
+        },
+        _ => Copied {
+            fine: two & (a < STATIONS) & (b < STATIONS),
+            to: station_place(a),
+            from: station_place(b),
+            count: STATION_WORDS,
+        },
+    }
+}
+
+// The numbers from number `from` on, put into a register of `size` words from index i on, one or more and none behind its last word.
+fn placed(fine: bool, at: usize, size: usize, i: u32, from: usize, count: usize) -> Copied
+    requires { ⌜ (at + size ≤ all-words) × (count ≤ 79) ⌝ }
+    ensures { λ r. ⌜ Within r ⌝ }
+{
+    if count <= from {
+        return nothing();
+    }
+    if size < i as usize + (count - from) {
+        return nothing();
+    }
+    Copied {
+        fine,
+        to: at + i as usize,
+        from,
+        count: count - from,
+    }
+}
+
+fn nothing() -> Copied
+    ensures { λ r. ⌜ Within r ⌝ }
+{
+    Copied {
+        fine: false,
+        to: 0,
+        from: 0,
+        count: 0,
+    }
+}
+
+// `raw M W0 .. W12`, `station S I W ..` and `words B I W ..`, of the letter k.
+fn put_named(k: u8, count: usize, r: u32, i: u32) -> Copied
+    requires { ⌜ count ≤ 79 ⌝ }
+    ensures { λ r. ⌜ Within r ⌝ }
+{
+    match k {
+        b'r' => placed(
+            (count == 14) & (r < MODULES),
+            module_place(r),
+            MODULE_WORDS,
+            0,
+            1,
+            count,
+        ),
+        b's' => placed(r < STATIONS, station_place(r), STATION_WORDS, i, 2, count),
+        _ => placed(r < BUFFERS, buffer_place(r), BUFFER_WORDS, i, 2, count),
+    }
+}
+
+// Carries out a setting that copies, and answers whether its numbers are fine.
+fn set(registers: &mut [u32], c: Copied) -> bool
+    requires { ⌜ (length (now registers) ≡ all-words) × Within c ⌝ }
+{
+    if !c.fine {
+        return false;
+    }
+    copy(registers, c.to, c.from, c.count);
+    true
+}
+
+// `fill B L W`, `length B L`, which puts no words, and `zero S`, of the letter k. A station has no length: the line's first number stands for it.
+fn run_of(k: u8, count: usize, r: u32, l: u32, w: u32) -> Run
+    ensures { λ r. ⌜ (r .at + r .count ≤ all-words) × (r .place < all-words) ⌝ }
+{
+    let fits = (r < BUFFERS) & (l <= 400);
+    let at = buffer_place(r);
+    match k {
+        b'f' => Run {
+            fine: fits & (count == 3),
+            at,
+            count: l as usize % 401,
+            word: w,
+            place: at + BUFFER_WORDS,
+            length: l,
+        },
+        b'l' => Run {
+            fine: fits & (count == 2),
+            at,
+            count: 0,
+            word: 0,
+            place: at + BUFFER_WORDS,
+            length: l,
+        },
+        _ => Run {
+            fine: (r < STATIONS) & (count == 1),
+            at: station_place(r),
+            count: STATION_WORDS,
+            word: 0,
+            place: 0,
+            length: r,
+        },
+    }
+}
+
+// Puts a run, and answers whether its numbers are fine.
+fn put_run(registers: &mut [u32], r: Run) -> bool
+    requires { ⌜ (length (now registers) ≡ all-words) × (r .at + r .count ≤ all-words) × (r .place < all-words) ⌝ }
+{
+    if !r.fine {
+        return false;
+    }
+    let at = r.at;
+    let place = r.place;
+    registers[place] = r.length;
     let mut i: usize = 0;
-    while i < count {
-        ws[at + i] = numbers[from + i];
+    while i < r.count {
+        registers[at + i] = r.word;
         i += 1;
     }
-}
-
-// Makes `count` words from word `at` on all the same.
-fn repeat(ws: &mut [u32], at: usize, count: usize, w: u32)
-    requires { ⌜ at + count ≤ length (now ws) ⌝ }
-{
-    let mut i: usize = 0;
-    while i < count {
-        ws[at + i] = w;
-        i += 1;
-    }
-}
-
-// `adopt M N`. Like each setting it answers whether its numbers are in range.
-fn adopt(modules: &mut [u32], m: u32, from: u32) -> bool
-    requires { ⌜ length (now modules) ≡ 416 ⌝ }
-{
-    if m >= 32 {
-        return false;
-    }
-    if from >= 32 {
-        return false;
-    }
-    copy(modules, from as usize * 13, m as usize * 13, 13);
     true
 }
 
-// `raw M W0 .. W12`.
-fn raw(modules: &mut [u32], count: usize, numbers: [u32; 79]) -> bool
-    requires { ⌜ length (now modules) ≡ 416 ⌝ }
+// The key of the module at a place.
+fn key(registers: &[u32], at: usize) -> [u8; 32]
+    requires { ⌜ at + 13 ≤ length (now registers) ⌝ }
+    ensures { λ r. ⌜ r ≡ key-of (now (registers .entry)) at ⌝ }
 {
-    let m = numbers[0];
-    if count != 14 {
-        return false;
-    }
-    if m >= 32 {
-        return false;
-    }
-    put(modules, m as usize * 13, numbers, 1, 13);
-    true
-}
-
-// `length B L`.
-fn set_length(lengths: &mut [u32], b: u32, l: u32) -> bool
-    requires { ⌜ (length (now lengths) ≡ 128) × Short (now lengths) ⌝ }
-    ensures { λ _. ⌜ Short (now (lengths .exit)) ⌝ }
-{
-    if b >= 128 {
-        return false;
-    }
-    if l > 400 {
-        return false;
-    }
-    lengths[b as usize] = l;
-    true
-}
-
-// `bring B C`.
-fn bring(buffers: &mut [u32], lengths: &mut [u32], b: u32, from: u32) -> bool
-    requires { ⌜ (length (now buffers) ≡ 51200) × (length (now lengths) ≡ 128) × Short (now lengths) ⌝ }
-    ensures { λ _. ⌜ Short (now (lengths .exit)) ⌝ }
-{
-    if b >= 128 {
-        return false;
-    }
-    if from >= 128 {
-        return false;
-    }
-    copy(buffers, from as usize * 400, b as usize * 400, 400);
-    let l = lengths[from as usize];
-    set_length(lengths, b, l)
-}
-
-// `fill B L W`.
-fn fill(buffers: &mut [u32], lengths: &mut [u32], b: u32, l: u32, w: u32) -> bool
-    requires { ⌜ (length (now buffers) ≡ 51200) × (length (now lengths) ≡ 128) × Short (now lengths) ⌝ }
-    ensures { λ _. ⌜ Short (now (lengths .exit)) ⌝ }
-{
-    if b >= 128 {
-        return false;
-    }
-    if l > 400 {
-        return false;
-    }
-    repeat(buffers, b as usize * 400, l as usize, w);
-    set_length(lengths, b, l)
-}
-
-// `words B I W ..`.
-fn words(buffers: &mut [u32], count: usize, numbers: [u32; 79]) -> bool
-    requires { ⌜ (length (now buffers) ≡ 51200) × (count ≤ 79) ⌝ }
-{
-    let b = numbers[0];
-    let i = numbers[1];
-    if count < 3 {
-        return false;
-    }
-    if b >= 128 {
-        return false;
-    }
-    if i >= 400 {
-        return false;
-    }
-    if i as usize + (count - 2) > 400 {
-        return false;
-    }
-    put(
-        buffers,
-        b as usize * 400 + i as usize,
-        numbers,
-        2,
-        count - 2,
-    );
-    true
-}
-
-// `keep S T`.
-fn keep(stations: &mut [u32], s: u32, from: u32) -> bool
-    requires { ⌜ length (now stations) ≡ 40896 ⌝ }
-{
-    if s >= 64 {
-        return false;
-    }
-    if from >= 64 {
-        return false;
-    }
-    copy(stations, from as usize * 639, s as usize * 639, 639);
-    true
-}
-
-// `station S I W ..`.
-fn station_words(stations: &mut [u32], count: usize, numbers: [u32; 79]) -> bool
-    requires { ⌜ (length (now stations) ≡ 40896) × (count ≤ 79) ⌝ }
-{
-    let s = numbers[0];
-    let i = numbers[1];
-    if count < 3 {
-        return false;
-    }
-    if s >= 64 {
-        return false;
-    }
-    if i >= 639 {
-        return false;
-    }
-    if i as usize + (count - 2) > 639 {
-        return false;
-    }
-    put(
-        stations,
-        s as usize * 639 + i as usize,
-        numbers,
-        2,
-        count - 2,
-    );
-    true
-}
-
-// `zero S`.
-fn zero(stations: &mut [u32], s: u32) -> bool
-    requires { ⌜ length (now stations) ≡ 40896 ⌝ }
-{
-    if s >= 64 {
-        return false;
-    }
-    repeat(stations, s as usize * 639, 639, 0);
-    true
-}
-
-// Eight words from word `at` on.
-fn eight(ws: &[u32], at: usize) -> [u32; 8]
-    requires { ⌜ at + 8 ≤ length (now ws) ⌝ }
-    ensures { λ r. ⌜ r ≡ take 8 (drop at (now (ws .entry))) ⌝ }
-{
-    let mut r = [0u32; 8];
-    let mut i: usize = 0;
-    while i < 8 {
-        r[i] = ws[at + i];
-        i += 1;
-    }
-    r
-}
-
-// The key of module m.
-fn key(modules: &[u32], m: usize) -> [u8; 32]
-    requires { ⌜ (length (now modules) ≡ 416) × (m < 32) ⌝ }
-    ensures { λ r. ⌜ r ≡ key-of (now (modules .entry)) m ⌝ }
-{
-    sha256::state_bytes(eight(modules, m * 13))
-}
-
-// How many words of buffer b a call sees.
-fn length_of(lengths: &[u32], b: usize) -> usize
-    requires { ⌜ (length (now lengths) ≡ 128) × Short (now lengths) × (b < 128) ⌝ }
-    ensures { λ r. ⌜ (r ≤ 400) × (r ≡ getD (now (lengths .entry)) b 0) ⌝ }
-{
-    lengths[b] as usize
+    let mut words = [0u32; 8];
+    let end = at + 8;
+    put(&mut words, 0, &registers[at..end]);
+    sha256::state_bytes(words)
 }
 
 // The last pair that a module coded, of its words 10 to 12.
@@ -480,28 +394,26 @@ fn last_of(coded: u32, question: u32, step: u32) -> Last
     }
 }
 
-// The module in register m.
-fn module_at(modules: &[u32], m: usize) -> Module
-    requires { ⌜ (length (now modules) ≡ 416) × (m < 32) ⌝ }
-    ensures { λ r. ⌜ r ≡ module-in (now (modules .entry)) m ⌝ }
+// The module at a place.
+fn module_at(registers: &[u32], at: usize) -> Module
+    requires { ⌜ at + 13 ≤ length (now registers) ⌝ }
+    ensures { λ r. ⌜ r ≡ module-in (now (registers .entry)) at ⌝ }
 {
-    let at = m * 13;
     Module {
-        key: key(modules, m),
-        n: modules[at + 8],
-        station: modules[at + 9],
-        last: last_of(modules[at + 10], modules[at + 11], modules[at + 12]),
+        key: key(registers, at),
+        n: registers[at + 8],
+        station: registers[at + 9],
+        last: last_of(registers[at + 10], registers[at + 11], registers[at + 12]),
     }
 }
 
-// Whether the words of module m are those of a module.
-fn is_module(modules: &[u32], m: usize) -> bool
-    requires { ⌜ (length (now modules) ≡ 416) × (m < 32) ⌝ }
+// Whether the words at a place are those of a module.
+fn is_module(registers: &[u32], at: usize) -> bool
+    requires { ⌜ at + 13 ≤ length (now registers) ⌝ }
 {
-    let at = m * 13;
-    let coded = modules[at + 10];
-    let question = modules[at + 11];
-    let step = modules[at + 12];
+    let coded = registers[at + 10];
+    let question = registers[at + 11];
+    let step = registers[at + 12];
     ((coded == 0) & (question == 0) & (step == 0)) | ((coded == 1) & (step <= 131071))
 }
 
@@ -516,12 +428,8 @@ fn block_of(key: [u8; 32]) -> [u8; 64] {
     block
 }
 
-fn bit(b: bool) -> u32 {
-    if b { 1 } else { 0 }
-}
-
 // The 13 words of a module. A step is at most 131,071, so nothing is cut off.
-fn module_words(module: Module) -> [u32; 13] {
+fn module_words(module: Module) -> [u32; MODULE_WORDS] {
     let key = module.key;
     let k = sha256::block_words(block_of(key));
     let last = module.last;
@@ -537,578 +445,225 @@ fn module_words(module: Module) -> [u32; 13] {
         k[7],
         module.n,
         module.station,
-        bit(last.coded),
+        last.coded as u32,
         last.question,
         (step.0 % 4294967296) as u32,
     ]
 }
 
 // Puts the words of a module.
-fn put_module(modules: &mut [u32], m: usize, new: Module)
-    requires { ⌜ (length (now modules) ≡ 416) × (m < 32) ⌝ }
+fn put_module(registers: &mut [u32], at: usize, new: Module)
+    requires { ⌜ at + 13 ≤ length (now registers) ⌝ }
 {
-    let at = m * 13;
     let words = module_words(new);
-    let mut i: usize = 0;
-    while i < 13 {
-        modules[at + i] = words[i];
-        i += 1;
-    }
+    put(registers, at, &words);
 }
 
-// The stage of three words that are those of a stage.
-fn stage_of(tag: u32, round: u32, flag: u32) -> Stage
-    ensures { λ r. ⌜ r ≡ stage-in tag round flag ⌝ }
+// The station at a place, if its words are one.
+fn station_at(registers: &[u32], at: usize) -> Reading
+    requires { ⌜ (at + 639 ≤ length (now registers)) × (length (now registers) ≡ all-words) ⌝ }
+    ensures { λ r. ⌜ r ≡ reading (part at 639 (now (registers .entry))) ⌝ }
 {
-    if tag == 0 {
-        return Stage::Gathering;
-    }
-    if tag == 1 {
-        return Stage::Proposing(Round(round), flag);
-    }
-    Stage::Voting(Round(round))
+    let end = at + STATION_WORDS;
+    station_words::read(&registers[at..end])
 }
 
-// Whether three words are those of a stage.
-fn is_stage(tag: u32, round: u32, flag: u32) -> bool {
-    if tag == 0 {
-        return (round == 0) & (flag == 0);
-    }
-    if tag == 1 {
-        return flag <= 1;
-    }
-    (tag == 2) & (flag == 0)
-}
-
-// The words of the held statements, from word `at` on.
-fn slots_at(ws: &[u32], at: usize) -> [u32; 310]
-    requires { ⌜ at + 310 ≤ length (now ws) ⌝ }
-    ensures { λ r. ⌜ r ≡ take 310 (drop at (now (ws .entry))) ⌝ }
+// Puts the module and the station that a call returned. Each station that a call returns can be written.
+fn store(registers: &mut [u32], names: Named, module: Module, station: Station)
+    requires { ⌜ InRange names × (length (now registers) ≡ all-words) ⌝ }
 {
-    let mut r = [0u32; 310];
-    let mut i: usize = 0;
-    while i < 310 {
-        r[i] = ws[at + i];
-        i += 1;
-    }
-    r
+    let at = names.station;
+    let end = at + STATION_WORDS;
+    put_module(registers, names.module, module);
+    station_words::write(station, &mut registers[at..end]);
 }
 
-// The words of a kept group, from word `at` on.
-fn group_at(ws: &[u32], at: usize) -> [u32; 160]
-    requires { ⌜ at + 160 ≤ length (now ws) ⌝ }
-    ensures { λ r. ⌜ r ≡ take 160 (drop at (now (ws .entry))) ⌝ }
+// How many words of the buffer at a place a call sees. Its length is never over 400.
+fn length_at(registers: &[u32], at: usize) -> usize
+    requires { ⌜ at + 401 ≤ length (now registers) ⌝ }
+    ensures { λ r. ⌜ (r ≤ 400) × (r ≡ shown (getD (now (registers .entry)) (at + 400) 0)) ⌝ }
 {
-    let mut r = [0u32; 160];
-    let mut i: usize = 0;
-    while i < 160 {
-        r[i] = ws[at + i];
-        i += 1;
+    let l = registers[at + BUFFER_WORDS];
+    if l <= 400 {
+        return l as usize;
     }
-    r
+    BUFFER_WORDS
 }
 
-// What is held in station s.
-fn held_at(stations: &[u32], s: usize) -> Held
-    requires { ⌜ (length (now stations) ≡ 40896) × (s < 64) ⌝ }
-    ensures { λ r. ⌜ r ≡ held-in (now (stations .entry)) s ⌝ }
+// `check M B`: what the validity check answers.
+fn check(registers: &[u32], m: usize, b: usize) -> u32
+    requires { ⌜ (m + 13 ≤ length (now registers)) × (b + 401 ≤ length (now registers)) × (length (now registers) ≡ all-words) ⌝ }
+    ensures { λ r. ⌜ r ≡ check-of (now (registers .entry)) m b ⌝ }
 {
-    let at = s * 639;
-    Held {
-        heard: stations[at + 8],
-        slots: slots_at(stations, at + 9),
-    }
-}
-
-// The kept groups of station s.
-fn groups_at(stations: &[u32], s: usize) -> Groups
-    requires { ⌜ (length (now stations) ≡ 40896) × (s < 64) ⌝ }
-    ensures { λ r. ⌜ r ≡ groups-in (now (stations .entry)) s ⌝ }
-{
-    let at = s * 639;
-    Groups {
-        first: group_at(stations, at + 319),
-        second: group_at(stations, at + 479),
-    }
-}
-
-// The station in register s.
-fn station_at(stations: &[u32], s: usize) -> Station
-    requires { ⌜ (length (now stations) ≡ 40896) × (s < 64) ⌝ }
-    ensures { λ r. ⌜ r ≡ station-in (now (stations .entry)) s ⌝ }
-{
-    let at = s * 639;
-    let identity = Identity {
-        n: stations[at],
-        station: stations[at + 1],
-        question: stations[at + 2],
-    };
-    let stage = stage_of(stations[at + 3], stations[at + 4], stations[at + 5]);
-    Station {
-        identity,
-        stage,
-        closed: stations[at + 6] == 1,
-        decision: stations[at + 7],
-        held: held_at(stations, s),
-        groups: groups_at(stations, s),
-    }
-}
-
-// Whether the words of station s are those of a station.
-fn is_station(stations: &[u32], s: usize) -> bool
-    requires { ⌜ (length (now stations) ≡ 40896) × (s < 64) ⌝ }
-{
-    let at = s * 639;
-    let closed = stations[at + 6];
-    is_stage(stations[at + 3], stations[at + 4], stations[at + 5]) & (closed <= 1)
-}
-
-// Puts the words of the held statements. A loop for each length of an array: no function takes arrays of two lengths.
-fn put_slots(ws: &mut [u32], at: usize, slots: [u32; 310])
-    requires { ⌜ at + 310 ≤ length (now ws) ⌝ }
-{
-    let mut i: usize = 0;
-    while i < 310 {
-        ws[at + i] = slots[i];
-        i += 1;
-    }
-}
-
-// Puts the words of a kept group.
-fn put_group(ws: &mut [u32], at: usize, group: [u32; 160])
-    requires { ⌜ at + 160 ≤ length (now ws) ⌝ }
-{
-    let mut i: usize = 0;
-    while i < 160 {
-        ws[at + i] = group[i];
-        i += 1;
-    }
-}
-
-// Which stage it is; then its round and its flag, 0 where it has none.
-fn tag_of(stage: Stage) -> u32 {
-    match stage {
-        Stage::Gathering => 0,
-        Stage::Proposing(_, _) => 1,
-        Stage::Voting(_) => 2,
-    }
-}
-
-fn round_of(stage: Stage) -> u32 {
-    match stage {
-        Stage::Gathering => 0,
-        Stage::Proposing(r, _) => r.0,
-        Stage::Voting(r) => r.0,
-    }
-}
-
-fn flag_of(stage: Stage) -> u32 {
-    match stage {
-        Stage::Gathering => 0,
-        Stage::Proposing(_, flag) => flag,
-        Stage::Voting(_) => 0,
-    }
-}
-
-// The first nine words of a station.
-fn head_words(
-    identity: Identity,
-    stage: Stage,
-    closed: bool,
-    decision: u32,
-    heard: u32,
-) -> [u32; 9] {
-    [
-        identity.n,
-        identity.station,
-        identity.question,
-        tag_of(stage),
-        round_of(stage),
-        flag_of(stage),
-        bit(closed),
-        decision,
-        heard,
-    ]
-}
-
-// Puts the first nine words of a station.
-fn put_head(ws: &mut [u32], at: usize, head: [u32; 9])
-    requires { ⌜ at + 9 ≤ length (now ws) ⌝ }
-{
-    let mut i: usize = 0;
-    while i < 9 {
-        ws[at + i] = head[i];
-        i += 1;
-    }
-}
-
-// Puts the 639 words of a station.
-fn put_station(stations: &mut [u32], s: usize, new: Station)
-    requires { ⌜ (length (now stations) ≡ 40896) × (s < 64) ⌝ }
-{
-    let at = s * 639;
-    let identity = new.identity;
-    let stage = new.stage;
-    let held = new.held;
-    let slots = held.slots;
-    let groups = new.groups;
-    let first = groups.value;
-    let second = groups.none;
-    let head = head_words(identity, stage, new.closed, new.decision, held.heard);
-    put_head(stations, at, head);
-    put_slots(stations, at + 9, slots);
-    put_group(stations, at + 319, first);
-    put_group(stations, at + 479, second);
-}
-
-// The words of a buffer, from word `at` on.
-fn buffer_at(ws: &[u32], at: usize) -> [u32; 400]
-    requires { ⌜ at + 400 ≤ length (now ws) ⌝ }
-    ensures { λ r. ⌜ (400 ≡ length r) × (r ≡ take 400 (drop at (now (ws .entry)))) ⌝ }
-{
-    let mut r = [0u32; 400];
-    let mut i: usize = 0;
-    while i < 400 {
-        r[i] = ws[at + i];
-        i += 1;
-    }
-    r
-}
-
-// `check M B`: what the validity check answers for module m and buffer b.
-fn check(modules: &[u32], buffers: &[u32], lengths: &[u32], m: usize, b: usize) -> u32
-    requires { ⌜ (length (now modules) ≡ 416) × (length (now buffers) ≡ 51200) × (length (now lengths) ≡ 128) × Short (now lengths) × (m < 32) × (b < 128) ⌝ }
-    ensures { λ r. ⌜ r ≡ check-of (now (modules .entry)) (now (buffers .entry)) m b (getD (now (lengths .entry)) b 0) ⌝ }
-{
-    let n = modules[m * 13 + 8];
-    let size = length_of(lengths, b);
-    let at = b * 400;
-    let end = at + size;
-    certificate::check(key(modules, m), n, &buffers[at..end])
+    let n = registers[m + 8];
+    let end = b + length_at(registers, b);
+    certificate::check(key(registers, m), n, &registers[b..end])
 }
 
 // `make M K0 .. K7 N I`.
-fn make(modules: &mut [u32], m: usize, numbers: [u32; 79]) -> u32
-    requires { ⌜ (length (now modules) ≡ 416) × (m < 32) ⌝ }
-    ensures { λ r. ⌜ r ≡ making (key-named numbers) (getD numbers 9 0) (getD numbers 10 0) .number ⌝ }
+fn make(registers: &mut [u32], m: usize) -> u32
+    requires { ⌜ (m + 13 ≤ all-words) × (length (now registers) ≡ all-words) ⌝ }
+    ensures { λ r. ⌜ r ≡ made-by (now (registers .entry)) ⌝ }
 {
-    let key = sha256::state_bytes([
-        numbers[1],
-        numbers[2],
-        numbers[3],
-        numbers[4],
-        numbers[5],
-        numbers[6],
-        numbers[7],
-        numbers[8],
-    ]);
-    let made = counter::make(key, numbers[9], numbers[10]);
+    let n = registers[9];
+    let number = registers[10];
+    let made = modules::make(key(registers, 1), n, number);
     let new = made.made;
-    put_module(modules, m, new);
+    put_module(registers, m, new);
     made.number
 }
 
 // `plain M B`.
-fn plain(modules: &mut [u32], buffers: &mut [u32], lengths: &[u32], m: usize, b: usize) -> u32
-    requires { ⌜ (length (now modules) ≡ 416) × (length (now buffers) ≡ 51200) × (length (now lengths) ≡ 128) × Short (now lengths) × (m < 32) × (b < 128) ⌝ }
-    ensures { λ r. ⌜ r ≡ coding-plain hmac-code (module-in (now (modules .entry)) m) (seen (now (buffers .entry)) (now (lengths .entry)) b) .number ⌝ }
+fn plain(registers: &mut [u32], m: usize, b: usize) -> u32
+    requires { ⌜ (m + 13 ≤ length (now registers)) × (b + 401 ≤ length (now registers)) × (length (now registers) ≡ all-words) ⌝ }
+    ensures { λ r. ⌜ r ≡ coding-plain hmac-code (module-in (now (registers .entry)) m) (seen (now (registers .entry)) b) .number ⌝ }
 {
-    let l = length_of(lengths, b);
-    let at = b * 400;
-    let end = at + l;
-    let coded = sealed::code_plain(module_at(modules, m), &mut buffers[at..end]);
+    let end = b + length_at(registers, b);
+    let coded = sealed::code_plain(module_at(registers, m), &mut registers[b..end]);
     let new = coded.after;
-    put_module(modules, m, new);
+    put_module(registers, m, new);
     coded.number
 }
 
 // `toss M B C`.
-fn toss(
-    modules: &mut [u32],
-    buffers: &mut [u32],
-    lengths: &[u32],
-    m: usize,
-    b: usize,
-    coin: u32,
-) -> u32
-    requires { ⌜ (length (now modules) ≡ 416) × (length (now buffers) ≡ 51200) × (length (now lengths) ≡ 128) × Short (now lengths) × (m < 32) × (b < 128) ⌝ }
-    ensures { λ r. ⌜ r ≡ coding-coin hmac-code (module-in (now (modules .entry)) m) (seen (now (buffers .entry)) (now (lengths .entry)) b) coin .number ⌝ }
+fn toss(registers: &mut [u32], m: usize, b: usize, coin: u32) -> u32
+    requires { ⌜ (m + 13 ≤ length (now registers)) × (b + 401 ≤ length (now registers)) × (length (now registers) ≡ all-words) ⌝ }
+    ensures { λ r. ⌜ r ≡ coding-coin hmac-code (module-in (now (registers .entry)) m) (seen (now (registers .entry)) b) coin .number ⌝ }
 {
-    let l = length_of(lengths, b);
-    let at = b * 400;
-    let end = at + l;
-    let coded = sealed::code_coin(module_at(modules, m), &mut buffers[at..end], coin);
+    let end = b + length_at(registers, b);
+    let coded = sealed::code_coin(module_at(registers, m), &mut registers[b..end], coin);
     let new = coded.after;
-    put_module(modules, m, new);
+    put_module(registers, m, new);
     coded.number
 }
 
-// Puts the module and the station that a call returned.
-fn store(modules: &mut [u32], stations: &mut [u32], names: Named, module: Module, station: Station)
-    requires { ⌜ (length (now modules) ≡ 416) × (length (now stations) ≡ 40896) × InRange names ⌝ }
-{
-    put_module(modules, names.module, module);
-    put_station(stations, names.station, station);
-}
-
-// What `open M S Q V O` answers.
-fn opened(
-    modules: &[u32],
-    buffers: &mut [u32],
-    lengths: &[u32],
-    names: Named,
-    question: u32,
-    proposal: u32,
-) -> Opened
-    requires { ⌜ (length (now modules) ≡ 416) × (length (now buffers) ≡ 51200) × (length (now lengths) ≡ 128) × Short (now lengths) × InRange names ⌝ }
-    ensures { λ r. ⌜ Counted (opened-by (now (modules .entry)) (now (buffers .entry)) (now (lengths .entry)) names question proposal) (r .number) (r .count) ⌝ }
-{
-    let o = names.lent;
-    let l = length_of(lengths, o);
-    let at = o * 400;
-    let end = at + l;
-    opening::open(
-        module_at(modules, names.module),
-        question,
-        proposal,
-        &mut buffers[at..end],
-    )
-}
-
 // `open M S Q V O`.
-fn open(
-    modules: &mut [u32],
-    stations: &mut [u32],
-    buffers: &mut [u32],
-    lengths: &[u32],
-    names: Named,
-    question: u32,
-    proposal: u32,
-) -> Answer
-    requires { ⌜ Sized (now modules) (now stations) (now buffers) (now lengths) × Short (now lengths) × InRange names ⌝ }
-    ensures { λ r. ⌜ Counted (opened-by (now (modules .entry)) (now (buffers .entry)) (now (lengths .entry)) names question proposal) (r .number) (r .count) ⌝ }
+fn open(registers: &mut [u32], names: Named, question: u32, proposal: u32) -> Answer
+    requires { ⌜ InRange names × (length (now registers) ≡ all-words) ⌝ }
+    ensures { λ r. ⌜ Counted (opened-by (now (registers .entry)) names question proposal) (r .number) (r .count) ⌝ }
 {
-    let r = opened(modules, buffers, lengths, names, question, proposal);
-    let module = r.after;
+    let at = names.lent;
+    let end = at + length_at(registers, at);
+    let module = module_at(registers, names.module);
+    let r = opening::open(module, question, proposal, &mut registers[at..end]);
+    let after = r.after;
     let station = r.station;
-    store(modules, stations, names, module, station);
+    store(registers, names, after, station);
     Answer {
         number: r.number,
         count: r.count,
     }
 }
 
-// Gives words to a station, with buffer o lent.
-fn given_to(
-    m: Module,
-    t: Station,
-    words: &[u32],
-    coin: u32,
-    buffers: &mut [u32],
-    lengths: &[u32],
-    o: usize,
-) -> Given
-    requires { ⌜ (length (now buffers) ≡ 51200) × (length (now lengths) ≡ 128) × Short (now lengths) × (o < 128) ⌝ }
-    ensures { λ r. ⌜ Counted (giving hmac-code m t (now (words .entry)) coin (seen (now (buffers .entry)) (now (lengths .entry)) o)) (r .number) (r .count) ⌝ }
+// Gives these words.
+fn given(registers: &mut [u32], names: Named, words: &[u32], coin: u32) -> Answer
+    requires { ⌜ InRange names × (length (now registers) ≡ all-words) ⌝ }
+    ensures { λ r. ⌜ Counted (given-words (now (registers .entry)) names (now (words .entry)) coin) (r .number) (r .count) ⌝ }
 {
-    let l = length_of(lengths, o);
-    let at = o * 400;
-    let end = at + l;
-    giving::give(m, t, words, coin, &mut buffers[at..end])
-}
-
-// What `give M S B C O` answers. The words given are copied first, since they stand in the same slice as those lent.
-fn given(
-    modules: &[u32],
-    stations: &[u32],
-    buffers: &mut [u32],
-    lengths: &[u32],
-    names: Named,
-    coin: u32,
-) -> Given
-    requires { ⌜ Sized (now modules) (now stations) (now buffers) (now lengths) × Short (now lengths) × InRange names ⌝ }
-    ensures { λ r. ⌜ Counted (given-by (now (modules .entry)) (now (stations .entry)) (now (buffers .entry)) (now (lengths .entry)) names coin) (r .number) (r .count) ⌝ }
-{
-    let words = buffer_at(buffers, names.given * 400);
-    let count = length_of(lengths, names.given);
-    let module = module_at(modules, names.module);
-    let station = station_at(stations, names.station);
-    given_to(
-        module,
-        station,
-        &words[..count],
-        coin,
-        buffers,
-        lengths,
-        names.lent,
-    )
-}
-
-// `give M S B C O`.
-fn give(
-    modules: &mut [u32],
-    stations: &mut [u32],
-    buffers: &mut [u32],
-    lengths: &[u32],
-    names: Named,
-    coin: u32,
-) -> Answer
-    requires { ⌜ Sized (now modules) (now stations) (now buffers) (now lengths) × Short (now lengths) × InRange names ⌝ }
-    ensures { λ r. ⌜ Counted (given-by (now (modules .entry)) (now (stations .entry)) (now (buffers .entry)) (now (lengths .entry)) names coin) (r .number) (r .count) ⌝ }
-{
-    let r = given(modules, stations, buffers, lengths, names, coin);
-    let module = r.after;
+    let at = names.lent;
+    let end = at + length_at(registers, at);
+    let module = module_at(registers, names.module);
+    let read = station_at(registers, names.station);
+    let old = read.station;
+    let r = giving::give(module, old, words, coin, &mut registers[at..end]);
+    let after = r.after;
     let station = r.station;
-    store(modules, stations, names, module, station);
+    store(registers, names, after, station);
     Answer {
         number: r.number,
         count: r.count,
     }
 }
 
-// A line that can't be read names nothing.
-fn nothing() -> Named
-    ensures { λ r. ⌜ InRange r ⌝ }
+// `give M S B C O`. The words given are copied first, since they stand in the same slice as those lent.
+fn give(registers: &mut [u32], names: Named, coin: u32) -> Answer
+    requires { ⌜ InRange names × (length (now registers) ≡ all-words) ⌝ }
+    ensures { λ r. ⌜ Counted (given-by (now (registers .entry)) names coin) (r .number) (r .count) ⌝ }
 {
-    Named {
-        readable: false,
-        module: 0,
-        station: 0,
-        lent: 0,
-        given: 0,
-    }
+    let from = names.given;
+    let end = from + BUFFER_WORDS;
+    let mut words = [0u32; BUFFER_WORDS];
+    put(&mut words, 0, &registers[from..end]);
+    let count = length_at(registers, from);
+    given(registers, names, &words[..count], coin)
 }
 
 // These registers, where all of them are there and the call has as many numbers as it takes.
 fn names(fine: bool, m: u32, s: u32, lent: u32, given: u32) -> Named
     ensures { λ r. ⌜ InRange r ⌝ }
 {
-    if !fine {
-        return nothing();
-    }
-    if m >= 32 {
-        return nothing();
-    }
-    if s >= 64 {
-        return nothing();
-    }
-    if lent >= 128 {
-        return nothing();
-    }
-    if given >= 128 {
-        return nothing();
-    }
     Named {
-        readable: true,
-        module: m as usize,
-        station: s as usize,
-        lent: lent as usize,
-        given: given as usize,
+        readable: fine & (m < MODULES) & (s < STATIONS) & (lent < BUFFERS) & (given < BUFFERS),
+        module: module_place(m),
+        station: station_place(s),
+        lent: buffer_place(lent),
+        given: buffer_place(given),
     }
 }
 
 // The registers that a call names.
-fn registers_of(k: Keyword, count: usize, numbers: [u32; 79]) -> Named
+fn registers_of(k: u8, count: usize, registers: &[u32]) -> Named
+    requires { ⌜ length (now registers) ≡ all-words ⌝ }
     ensures { λ r. ⌜ InRange r ⌝ }
 {
-    let a = numbers[0];
-    let b = numbers[1];
-    let c = numbers[2];
-    let e = numbers[4];
+    let a = registers[0];
+    let b = registers[1];
+    let c = registers[2];
+    let e = registers[4];
     match k {
-        Keyword::Check => names(count == 2, a, 0, b, 0),
-        Keyword::Give => names((count == 5) & (c != e), a, b, e, c),
-        Keyword::Make => names(count == 11, a, 0, 0, 0),
-        Keyword::Open => names(count == 5, a, b, e, 0),
-        Keyword::Plain => names(count == 2, a, 0, b, 0),
-        Keyword::Toss => names(count == 3, a, 0, b, 0),
-        _ => nothing(),
+        b'g' => names((count == 5) & (c != e), a, b, e, c),
+        b'm' => names(count == 11, a, 0, 0, 0),
+        b'o' => names(count == 5, a, b, e, 0),
+        b't' => names(count == 3, a, 0, b, 0),
+        _ => names(count == 2, a, 0, b, 0),
     }
 }
 
 // Whether the module and the station that a call takes can be made of their words.
-fn takes(k: Keyword, modules: &[u32], stations: &[u32], names: Named) -> bool
-    requires { ⌜ (length (now modules) ≡ 416) × (length (now stations) ≡ 40896) × InRange names ⌝ }
+fn takes(k: u8, registers: &[u32], names: Named) -> bool
+    requires { ⌜ InRange names × (length (now registers) ≡ all-words) ⌝ }
 {
-    let m = names.module;
-    let s = names.station;
-    match k {
-        Keyword::Check | Keyword::Make => true,
-        Keyword::Give => is_module(modules, m) & is_station(stations, s),
-        _ => is_module(modules, m),
-    }
+    let of_module = is_module(registers, names.module);
+    let read = station_at(registers, names.station);
+    let of_station = read.number == 0;
+    (of_module | (k == b'c') | (k == b'm')) & (of_station | (k != b'g'))
 }
 
 // The calls that write no bundle.
-fn brief(
-    k: Keyword,
-    numbers: [u32; 79],
-    names: Named,
-    modules: &mut [u32],
-    buffers: &mut [u32],
-    lengths: &[u32],
-) -> u32
-    requires { ⌜ (length (now modules) ≡ 416) × (length (now buffers) ≡ 51200) × (length (now lengths) ≡ 128) × Short (now lengths) × InRange names ⌝ }
+fn brief(k: u8, registers: &mut [u32], m: usize, b: usize, coin: u32) -> u32
+    requires { ⌜ (m + 13 ≤ all-words) × (b + 401 ≤ all-words) × (length (now registers) ≡ all-words) ⌝ }
 {
-    let m = names.module;
-    let b = names.lent;
     match k {
-        Keyword::Make => make(modules, m, numbers),
-        Keyword::Plain => plain(modules, buffers, lengths, m, b),
-        Keyword::Toss => toss(modules, buffers, lengths, m, b, numbers[2]),
-        _ => check(modules, buffers, lengths, m, b),
+        b'm' => make(registers, m),
+        b'p' => plain(registers, m, b),
+        b't' => toss(registers, m, b, coin),
+        _ => check(registers, m, b),
     }
 }
 
 // Makes a call.
-fn answered(
-    k: Keyword,
-    numbers: [u32; 79],
-    names: Named,
-    modules: &mut [u32],
-    stations: &mut [u32],
-    buffers: &mut [u32],
-    lengths: &[u32],
-) -> Answer
-    requires { ⌜ Sized (now modules) (now stations) (now buffers) (now lengths) × Short (now lengths) × InRange names ⌝ }
+fn answered(k: u8, registers: &mut [u32], names: Named) -> Answer
+    requires { ⌜ InRange names × (length (now registers) ≡ all-words) ⌝ }
 {
+    let second = registers[2];
+    let third = registers[3];
     match k {
-        Keyword::Give => give(modules, stations, buffers, lengths, names, numbers[3]),
-        Keyword::Open => open(
-            modules,
-            stations,
-            buffers,
-            lengths,
-            names,
-            numbers[2],
-            numbers[3],
-        ),
+        b'g' => give(registers, names, third),
+        b'o' => open(registers, names, second, third),
         _ => Answer {
-            number: brief(k, numbers, names, modules, buffers, lengths),
+            number: brief(k, registers, names.module, names.lent, second),
             count: 0,
         },
     }
 }
 
-// Copies `count` words of a slice into another.
-fn copy_from(ws: &mut [u32], to: usize, source: &[u32], from: usize, count: usize)
-    requires { ⌜ (to + count ≤ length (now ws)) × (from + count ≤ length (now source)) ⌝ }
+// Saves the words that a call may change.
+fn save(registers: &mut [u32], names: Named)
+    requires { ⌜ InRange names × (length (now registers) ≡ all-words) ⌝ }
 {
-    let mut i: usize = 0;
-    while i < count {
-        ws[to + i] = source[from + i];
-        i += 1;
-    }
-}
-
-// The words that a call may change: of a module from 0 on, of a station from 13 on, of a buffer from 652 on. A call that takes no such thing
-// changes nothing of register 0, which stands for it.
-fn save(before: &mut [u32], modules: &[u32], stations: &[u32], buffers: &[u32], names: Named)
-    requires { ⌜ (length (now before) ≡ 1052) × (length (now modules) ≡ 416) × (length (now stations) ≡ 40896) × (length (now buffers) ≡ 51200) × InRange names ⌝ }
-{
-    copy_from(before, 0, modules, names.module * 13, 13);
-    copy_from(before, 13, stations, names.station * 639, 639);
-    copy_from(before, 652, buffers, names.lent * 400, 400);
+    copy(registers, SAVED_AT, names.module, MODULE_WORDS);
+    copy(registers, SAVED_STATION_AT, names.station, STATION_WORDS);
+    copy(registers, SAVED_BUFFER_AT, names.lent, BUFFER_WORDS);
 }
 
 // Appends bytes to a text that ends at `at`, as far as there is room, and answers where it ends then.
@@ -1129,26 +684,15 @@ fn append(text: &mut [u8], at: usize, more: &[u8]) -> usize
     end
 }
 
-// Appends a number in hex.
-fn append_number(text: &mut [u8], at: usize, number: u64) -> usize
+// Appends a mark, and a number in hex behind it.
+fn append_number(text: &mut [u8], at: usize, mark: &[u8], number: u64) -> usize
     requires { ⌜ at ≤ length (now text) ⌝ }
     ensures { λ r. ⌜ r ≤ length (now (text .exit)) ⌝ }
 {
     let mut digits = [0u8; 16];
     let count = io::hex(number, 1, &mut digits);
-    append(text, at, &digits[..count])
-}
-
-// Appends the index of a run's first word.
-fn append_index(text: &mut [u8], at: usize, first: bool, index: usize) -> usize
-    requires { ⌜ at ≤ length (now text) ⌝ }
-    ensures { λ r. ⌜ r ≤ length (now (text .exit)) ⌝ }
-{
-    if !first {
-        return at;
-    }
-    let mark = append(text, at, b" @");
-    append_number(text, mark, index as u64)
+    let end = append(text, at, mark);
+    append(text, end, &digits[..count])
 }
 
 // Appends a word that differs, with its index in front where the word before does not.
@@ -1159,277 +703,152 @@ fn append_word(text: &mut [u8], at: usize, first: bool, index: usize, old: u32, 
     if old == new {
         return at;
     }
-    let end = append_index(text, at, first, index);
-    let space = append(text, end, b" ");
-    append_number(text, space, new as u64)
+    if first {
+        let end = append_number(text, at, b" @", index as u64);
+        return append_number(text, end, b" ", new as u64);
+    }
+    append_number(text, at, b" ", new as u64)
 }
 
-// Appends the runs of words that differ.
-fn append_runs(text: &mut [u8], at: usize, old: &[u32], new: &[u32]) -> usize
-    requires { ⌜ (at ≤ length (now text)) × (length (now old) ≡ length (now new)) ⌝ }
+// Appends the runs of words that differ, of `count` words saved at `old` that are now at `new`.
+fn append_runs(
+    text: &mut [u8],
+    at: usize,
+    registers: &[u32],
+    old: usize,
+    new: usize,
+    count: usize,
+) -> usize
+    requires { ⌜ (at ≤ length (now text)) × (old + count ≤ length (now registers)) × (new + count ≤ length (now registers)) ⌝ }
     ensures { λ r. ⌜ r ≤ length (now (text .exit)) ⌝ }
 {
     let mut end = at;
     let mut first = true;
     let mut i: usize = 0;
-    while i < new.len() {
-        let next = append_word(text, end, first, i, old[i], new[i]);
+    while i < count {
+        let was = registers[old + i];
+        let is = registers[new + i];
+        let next = append_word(text, end, first, i, was, is);
         end = next;
-        first = old[i] == new[i];
+        first = was == is;
         i += 1;
     }
     end
 }
 
-// Appends what changed, or `=`.
-fn append_changes(text: &mut [u8], at: usize, old: &[u32], new: &[u32]) -> usize
-    requires { ⌜ (at ≤ length (now text)) × (length (now old) ≡ length (now new)) ⌝ }
+// Appends a letter, and what changed of that which it stands for, or `=`.
+fn append_part(
+    text: &mut [u8],
+    at: usize,
+    letter: &[u8],
+    registers: &[u32],
+    old: usize,
+    new: usize,
+    count: usize,
+) -> usize
+    requires { ⌜ (at ≤ length (now text)) × (old + count ≤ length (now registers)) × (new + count ≤ length (now registers)) ⌝ }
     ensures { λ r. ⌜ r ≤ length (now (text .exit)) ⌝ }
 {
-    let end = append_runs(text, at, old, new);
-    if end == at {
+    let start = append(text, at, letter);
+    let end = append_runs(text, start, registers, old, new, count);
+    if end == start {
         return append(text, end, b" =");
     }
     end
 }
 
-// Appends a letter, and what changed of that which it stands for.
-fn append_part(text: &mut [u8], at: usize, letter: &[u8], old: &[u32], new: &[u32]) -> usize
-    requires { ⌜ (at ≤ length (now text)) × (length (now old) ≡ length (now new)) ⌝ }
+// Appends what changed.
+fn append_changes(text: &mut [u8], at: usize, registers: &[u32], names: Named) -> usize
+    requires { ⌜ (at ≤ length (now text)) × InRange names × (length (now registers) ≡ all-words) ⌝ }
     ensures { λ r. ⌜ r ≤ length (now (text .exit)) ⌝ }
 {
-    let end = append(text, at, letter);
-    append_changes(text, end, old, new)
-}
-
-// The number and the word count.
-fn append_answer(text: &mut [u8], answer: Answer) -> usize
-    ensures { λ r. ⌜ r ≤ length (now (text .exit)) ⌝ }
-{
-    let number = append_number(text, 0, answer.number as u64);
-    let space = append(text, number, b" ");
-    append_number(text, space, answer.count as u64)
-}
-
-// What changed of module m, then of station s, then of buffer b.
-fn append_module(text: &mut [u8], at: usize, before: &[u32], modules: &[u32], m: usize) -> usize
-    requires { ⌜ (at ≤ length (now text)) × (length (now before) ≡ 1052) × (length (now modules) ≡ 416) × (m < 32) ⌝ }
-    ensures { λ r. ⌜ r ≤ length (now (text .exit)) ⌝ }
-{
-    let from = m * 13;
-    let to = from + 13;
-    append_part(text, at, b" m", &before[0..13], &modules[from..to])
-}
-
-fn append_station(text: &mut [u8], at: usize, before: &[u32], stations: &[u32], s: usize) -> usize
-    requires { ⌜ (at ≤ length (now text)) × (length (now before) ≡ 1052) × (length (now stations) ≡ 40896) × (s < 64) ⌝ }
-    ensures { λ r. ⌜ r ≤ length (now (text .exit)) ⌝ }
-{
-    let from = s * 639;
-    let to = from + 639;
-    append_part(text, at, b" s", &before[13..652], &stations[from..to])
-}
-
-fn append_lent(text: &mut [u8], at: usize, before: &[u32], buffers: &[u32], b: usize) -> usize
-    requires { ⌜ (at ≤ length (now text)) × (length (now before) ≡ 1052) × (length (now buffers) ≡ 51200) × (b < 128) ⌝ }
-    ensures { λ r. ⌜ r ≤ length (now (text .exit)) ⌝ }
-{
-    let from = b * 400;
-    let to = from + 400;
-    append_part(text, at, b" w", &before[652..1052], &buffers[from..to])
-}
-
-// The line of a call.
-fn append_line(
-    text: &mut [u8],
-    answer: Answer,
-    before: &[u32],
-    modules: &[u32],
-    stations: &[u32],
-    buffers: &[u32],
-    names: Named,
-) -> usize
-    requires { ⌜ (length (now before) ≡ 1052) × (length (now modules) ≡ 416) × (length (now stations) ≡ 40896) × (length (now buffers) ≡ 51200) × InRange names ⌝ }
-    ensures { λ r. ⌜ r ≤ length (now (text .exit)) ⌝ }
-{
-    let one = append_answer(text, answer);
-    let two = append_module(text, one, before, modules, names.module);
-    let three = append_station(text, two, before, stations, names.station);
-    let four = append_lent(text, three, before, buffers, names.lent);
-    append(text, four, b"\n")
+    let m = names.module;
+    let s = names.station;
+    let b = names.lent;
+    let one = append_part(text, at, b" m", registers, SAVED_AT, m, MODULE_WORDS);
+    let two = append_part(
+        text,
+        one,
+        b" s",
+        registers,
+        SAVED_STATION_AT,
+        s,
+        STATION_WORDS,
+    );
+    append_part(
+        text,
+        two,
+        b" w",
+        registers,
+        SAVED_BUFFER_AT,
+        b,
+        BUFFER_WORDS,
+    )
 }
 
 // Prints the line of a call. The longest has 1,052 words that differ and is shorter than the text.
-fn show(
-    answer: Answer,
-    before: &[u32],
-    modules: &[u32],
-    stations: &[u32],
-    buffers: &[u32],
-    names: Named,
-)
-    requires { ⌜ (length (now before) ≡ 1052) × (length (now modules) ≡ 416) × (length (now stations) ≡ 40896) × (length (now buffers) ≡ 51200) × InRange names ⌝ }
+fn show(answer: Answer, registers: &[u32], names: Named)
+    requires { ⌜ InRange names × (length (now registers) ≡ all-words) ⌝ }
 {
     let mut text = [0u8; 16384];
-    let end = append_line(&mut text, answer, before, modules, stations, buffers, names);
+    let number = append_number(&mut text, 0, b"", answer.number as u64);
+    let count = append_number(&mut text, number, b" ", answer.count as u64);
+    let changes = append_changes(&mut text, count, registers, names);
+    let end = append(&mut text, changes, b"\n");
     io::write_all(STDOUT_FILENO, &text[..end]);
 }
 
-// Makes a call and prints its line.
-fn make_call(
-    k: Keyword,
-    numbers: [u32; 79],
-    names: Named,
-    modules: &mut [u32],
-    stations: &mut [u32],
-    buffers: &mut [u32],
-    lengths: &[u32],
-)
-    requires { ⌜ Sized (now modules) (now stations) (now buffers) (now lengths) × Short (now lengths) × InRange names ⌝ }
+// A call, if the line is one: makes it and prints its line.
+fn call(k: u8, count: usize, registers: &mut [u32]) -> bool
+    requires { ⌜ length (now registers) ≡ all-words ⌝ }
 {
-    let mut before = [0u32; 1052];
-    save(&mut before, modules, stations, buffers, names);
-    let answer = answered(k, numbers, names, modules, stations, buffers, lengths);
-    show(answer, &before, modules, stations, buffers, names);
-}
-
-// A call, if the line is one.
-fn call(
-    k: Keyword,
-    count: usize,
-    numbers: [u32; 79],
-    modules: &mut [u32],
-    stations: &mut [u32],
-    buffers: &mut [u32],
-    lengths: &[u32],
-) -> bool
-    requires { ⌜ Sized (now modules) (now stations) (now buffers) (now lengths) × Short (now lengths) ⌝ }
-{
-    let names = registers_of(k, count, numbers);
-    if !names.readable {
+    let names = registers_of(k, count, registers);
+    if !(names.readable & takes(k, registers, names)) {
         return false;
     }
-    if !takes(k, modules, stations, names) {
-        return false;
-    }
-    make_call(k, numbers, names, modules, stations, buffers, lengths);
+    save(registers, names);
+    let answer = answered(k, registers, names);
+    show(answer, registers, names);
     true
 }
 
-// The settings of modules.
-fn set_module(k: Keyword, count: usize, numbers: [u32; 79], modules: &mut [u32]) -> bool
-    requires { ⌜ length (now modules) ≡ 416 ⌝ }
+// Carries out the command that a keyword's letter stands for, and answers whether it can be.
+fn carry_out(k: u8, count: usize, registers: &mut [u32]) -> bool
+    requires { ⌜ (length (now registers) ≡ all-words) × (count ≤ 79) ⌝ }
 {
-    let first = numbers[0];
-    let second = numbers[1];
+    let a = registers[0];
+    let b = registers[1];
+    let c = registers[2];
     match k {
-        Keyword::Adopt => (count == 2) && adopt(modules, first, second),
-        Keyword::Raw => raw(modules, count, numbers),
-        _ => false,
+        b'a' | b'b' | b'k' => set(registers, copy_named(k, count == 2, a, b)),
+        b'r' | b's' | b'w' => set(registers, put_named(k, count, a, b)),
+        b'f' | b'l' | b'z' => put_run(registers, run_of(k, count, a, b, c)),
+        _ => call(k, count, registers),
     }
-}
-
-// The settings of stations.
-fn set_station(k: Keyword, count: usize, numbers: [u32; 79], stations: &mut [u32]) -> bool
-    requires { ⌜ (length (now stations) ≡ 40896) × (count ≤ 79) ⌝ }
-{
-    let first = numbers[0];
-    let second = numbers[1];
-    match k {
-        Keyword::Keep => (count == 2) && keep(stations, first, second),
-        Keyword::Station => station_words(stations, count, numbers),
-        Keyword::Zero => (count == 1) && zero(stations, first),
-        _ => false,
-    }
-}
-
-// The settings of buffers.
-fn set_buffer(
-    k: Keyword,
-    count: usize,
-    numbers: [u32; 79],
-    buffers: &mut [u32],
-    lengths: &mut [u32],
-) -> bool
-    requires { ⌜ (length (now buffers) ≡ 51200) × (length (now lengths) ≡ 128) × Short (now lengths) × (count ≤ 79) ⌝ }
-    ensures { λ _. ⌜ Short (now (lengths .exit)) ⌝ }
-{
-    let first = numbers[0];
-    let second = numbers[1];
-    let third = numbers[2];
-    match k {
-        Keyword::Bring => (count == 2) && bring(buffers, lengths, first, second),
-        Keyword::Fill => (count == 3) && fill(buffers, lengths, first, second, third),
-        Keyword::Length => (count == 2) && set_length(lengths, first, second),
-        Keyword::Words => words(buffers, count, numbers),
-        _ => false,
-    }
-}
-
-// Carries a command out, and answers whether it can be.
-fn carry_out(
-    k: Keyword,
-    count: usize,
-    numbers: [u32; 79],
-    modules: &mut [u32],
-    stations: &mut [u32],
-    buffers: &mut [u32],
-    lengths: &mut [u32],
-) -> bool
-    requires { ⌜ Sized (now modules) (now stations) (now buffers) (now lengths) × Short (now lengths) × (count ≤ 79) ⌝ }
-    ensures { λ _. ⌜ Short (now (lengths .exit)) ⌝ }
-{
-    match k {
-        Keyword::Adopt | Keyword::Raw => set_module(k, count, numbers, modules),
-        Keyword::Keep | Keyword::Station | Keyword::Zero => {
-            set_station(k, count, numbers, stations)
-        }
-        Keyword::Bring | Keyword::Fill | Keyword::Length | Keyword::Words => {
-            set_buffer(k, count, numbers, buffers, lengths)
-        }
-        _ => call(k, count, numbers, modules, stations, buffers, lengths),
-    }
-}
-
-// Reads a command and carries it out.
-fn command(
-    text: &[u8],
-    modules: &mut [u32],
-    stations: &mut [u32],
-    buffers: &mut [u32],
-    lengths: &mut [u32],
-) -> bool
-    requires { ⌜ Sized (now modules) (now stations) (now buffers) (now lengths) × Short (now lengths) ⌝ }
-    ensures { λ _. ⌜ Short (now (lengths .exit)) ⌝ }
-{
-    let end = token_end(text, 0);
-    let k = keyword_of(text, end);
-    let read = numbers_from(text, end);
-    if !read.readable {
-        return false;
-    }
-    let words = read.words;
-    carry_out(k, read.count, words, modules, stations, buffers, lengths)
 }
 
 // Reads and carries out one line, without its newline, and answers whether it can be read.
-fn read_line(
-    text: &[u8],
-    modules: &mut [u32],
-    stations: &mut [u32],
-    buffers: &mut [u32],
-    lengths: &mut [u32],
-) -> bool
-    requires { ⌜ Sized (now modules) (now stations) (now buffers) (now lengths) × Short (now lengths) ⌝ }
-    ensures { λ _. ⌜ Short (now (lengths .exit)) ⌝ }
+fn read_line(text: &[u8], registers: &mut [u32]) -> bool
+    requires { ⌜ length (now registers) ≡ all-words ⌝ }
 {
     if text.len() == 0 {
         return false;
     }
-    if text[0] == b'#' {
+    let k = text[0];
+    if k == b'#' {
         return true;
     }
-    command(text, modules, stations, buffers, lengths)
+    let end = token_end(text, 0);
+    let count = numbers_from(text, end, &mut registers[0..MOST_NUMBERS]);
+    let list =
+        b" adopt bring check fill give keep length make open plain raw station toss words zero ";
+    if !is_in(list, &text[0..end]) {
+        return false;
+    }
+    if MOST_NUMBERS < count {
+        return false;
+    }
+    carry_out(k, count, registers)
 }
 
 // How far the script is read: how many bytes of the line are there, the line's number from 1 on, and whether the run goes on.
@@ -1445,75 +864,44 @@ fn stop(number: u64) {
     io::write_all(STDOUT_FILENO, b"\n");
 }
 
-// Carries out a whole line, and says whether the run goes on.
-fn print_line(
-    text: &[u8],
-    number: u64,
-    modules: &mut [u32],
-    stations: &mut [u32],
-    buffers: &mut [u32],
-    lengths: &mut [u32],
-) -> bool
-    requires { ⌜ Sized (now modules) (now stations) (now buffers) (now lengths) × Short (now lengths) ⌝ }
-    ensures { λ _. ⌜ Short (now (lengths .exit)) ⌝ }
-{
-    if read_line(text, modules, stations, buffers, lengths) {
-        return true;
-    }
-    stop(number);
-    false
-}
-
 // Takes one more byte of the script.
-fn step(
-    byte: u8,
-    line: &mut [u8],
-    at: Place,
-    modules: &mut [u32],
-    stations: &mut [u32],
-    buffers: &mut [u32],
-    lengths: &mut [u32],
-) -> Place
-    requires { ⌜ (length (now line) ≡ 800) × (at .held ≤ 800) × Sized (now modules) (now stations) (now buffers) (now lengths) × Short (now lengths) ⌝ }
-    ensures { λ r. ⌜ (r .held ≤ 800) × Short (now (lengths .exit)) ⌝ }
+fn step(byte: u8, line: &mut [u8], at: Place, registers: &mut [u32]) -> Place
+    requires { ⌜ (length (now line) ≡ 800) × (at .held ≤ 800) × (length (now registers) ≡ all-words) ⌝ }
+    ensures { λ r. ⌜ r .held ≤ 800 ⌝ }
 {
     let held = at.held;
     let number = at.number;
     if byte == b'\n' {
+        let going = read_line(&line[0..held], registers);
+        if !going {
+            stop(number);
+        }
         return Place {
             held: 0,
             number: std::num::wrapping_add_u64(number, 1),
-            going: print_line(&line[..held], number, modules, stations, buffers, lengths),
+            going,
         };
     }
-    if held == 800 {
+    if held == LINE_BYTES {
         stop(number);
         return Place {
-            held: held,
-            number: number,
+            held,
+            number,
             going: false,
         };
     }
     line[held] = byte;
     Place {
         held: held + 1,
-        number: number,
+        number,
         going: true,
     }
 }
 
 // Takes the bytes of a chunk, as far as the run goes.
-fn feed(
-    chunk: &[u8],
-    line: &mut [u8],
-    at: Place,
-    modules: &mut [u32],
-    stations: &mut [u32],
-    buffers: &mut [u32],
-    lengths: &mut [u32],
-) -> Place
-    requires { ⌜ (length (now line) ≡ 800) × (at .held ≤ 800) × Sized (now modules) (now stations) (now buffers) (now lengths) × Short (now lengths) ⌝ }
-    ensures { λ r. ⌜ (r .held ≤ 800) × Short (now (lengths .exit)) ⌝ }
+fn feed(chunk: &[u8], line: &mut [u8], at: Place, registers: &mut [u32]) -> Place
+    requires { ⌜ (length (now line) ≡ 800) × (at .held ≤ 800) × (length (now registers) ≡ all-words) ⌝ }
+    ensures { λ r. ⌜ r .held ≤ 800 ⌝ }
 {
     let mut place = at;
     let mut i = 0;
@@ -1521,60 +909,39 @@ fn feed(
         if !place.going {
             return place;
         }
-        let next = step(chunk[i], line, place, modules, stations, buffers, lengths);
+        let next = step(chunk[i], line, place, registers);
         place = next;
         i += 1;
     }
     place
 }
 
-// The end of the script, at which no line may have begun.
-fn end(at: Place) -> Place
-    requires { ⌜ at .held ≤ 800 ⌝ }
+// Reads once, and takes what came. At the script's end no line may have begun.
+fn more(line: &mut [u8], at: Place, registers: &mut [u32]) -> Place
+    requires { ⌜ (length (now line) ≡ 800) × (at .held ≤ 800) × (length (now registers) ≡ all-words) ⌝ }
     ensures { λ r. ⌜ r .held ≤ 800 ⌝ }
-{
-    if 0 < at.held {
-        stop(at.number);
-    }
-    Place {
-        held: 0,
-        number: at.number,
-        going: false,
-    }
-}
-
-// Reads once, and takes what came.
-fn more(
-    line: &mut [u8],
-    at: Place,
-    modules: &mut [u32],
-    stations: &mut [u32],
-    buffers: &mut [u32],
-    lengths: &mut [u32],
-) -> Place
-    requires { ⌜ (length (now line) ≡ 800) × (at .held ≤ 800) × Sized (now modules) (now stations) (now buffers) (now lengths) × Short (now lengths) ⌝ }
-    ensures { λ r. ⌜ (r .held ≤ 800) × Short (now (lengths .exit)) ⌝ }
 {
     let mut space = io::large_buffer();
     let got = libc::read(STDIN_FILENO, &mut space);
     let n = io::count(got, &space);
     if n == 0 {
-        return end(at);
+        if 0 < at.held {
+            stop(at.number);
+        }
+        return Place {
+            held: 0,
+            number: at.number,
+            going: false,
+        };
     }
-    feed(&space[..n], line, at, modules, stations, buffers, lengths)
+    feed(&space[..n], line, at, registers)
 }
 
 // Reads until the script ends. A proved loop has to end, and nothing says that a script does. So the loop counts its turns down, from a
 // number that no run uses up.
-fn run(
-    line: &mut [u8],
-    modules: &mut [u32],
-    stations: &mut [u32],
-    buffers: &mut [u32],
-    lengths: &mut [u32],
-)
-    requires { ⌜ (length (now line) ≡ 800) × Sized (now modules) (now stations) (now buffers) (now lengths) × Short (now lengths) ⌝ }
-{
+fn main() {
+    let mut line = [0u8; LINE_BYTES];
+    let mut registers = [0u32; ALL_WORDS];
     let mut place = Place {
         held: 0,
         number: 1,
@@ -1585,23 +952,8 @@ fn run(
         if !place.going {
             return;
         }
-        let next = more(line, place, modules, stations, buffers, lengths);
+        let next = more(&mut line, place, &mut registers);
         place = next;
         turns -= 1;
     }
-}
-
-fn main() {
-    let mut line = [0u8; 800];
-    let mut modules = [0u32; 416];
-    let mut stations = [0u32; 40896];
-    let mut buffers = [0u32; 51200];
-    let mut lengths = [0u32; 128];
-    run(
-        &mut line,
-        &mut modules,
-        &mut stations,
-        &mut buffers,
-        &mut lengths,
-    );
 }

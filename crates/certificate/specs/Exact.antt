@@ -8,15 +8,16 @@ use lib.Dec.{eqb, leb}
 use lib.ListN.{getD, length}
 use borrow.Author.Tests.{eqb-true, eq-eqb, leb-true, le-leb}
 use Rattle.laws.specs.Bools.{both, join}
-use Rattle.laws.specs.Refusals.{All, all-map, all-passed, none-failed}
+use Rattle.laws.specs.Refusals.{all-passed, none-failed}
+use Rattle.laws.specs.All.{All, all-map}
 use Rattle.format.specs.Numbers.{bundle-words}
 use Rattle.format.specs.Words.{formed, fields-of}
 use Rattle.format.specs.Statement.{Statement, statements, hmac-code, verifies, well-formed}
 use Rattle.format.specs.Bundle.{head-fits, count-in, laid-out, main-of, certificate-of, all-formed, bundle-fits}
-use Rattle.format.specs.Layout.{formed-well}
+use Rattle.format.specs.Laws.Layout.{formed-well}
 use Rattle.rules.specs.declared.Which.the-variants.{Any}
 use Rattle.certificate.specs.Check.{every, one-question, check-tests, check-by, judged, checked}
-use Rattle.format.specs.Shape.{formed-out}
+use Rattle.format.specs.Laws.Shape.{formed-out}
 use Rattle.rules.specs.Backed.{rule-backed, backed-rule}
 use Rattle.certificate.specs.Valid.{Bundle, Valid, Exact}
 

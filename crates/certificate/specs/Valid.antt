@@ -4,10 +4,10 @@ use mathlib.Core.Bool.{true}
 use mathlib.Core.List.{List}
 use mathlib.Core.Path.{_≡_}
 use lib.ListN.{getD, length}
-use Rattle.laws.specs.Refusals.{All}
-use Rattle.format.specs.Numbers.{most-statements, bundle-words}
+use Rattle.laws.specs.All.{All}
+use Rattle.format.specs.Numbers.{most-statements, bundle-words, most-stations}
 use Rattle.format.specs.Statement.{statements, verifies, hmac-code}
-use Rattle.format.specs.Bundle.{count-in, main-of, certificate-of, all-formed}
+use Rattle.format.specs.Bundle.{count-in, main-of, certificate-of, all-formed, count-bits, zero-bits}
 use Rattle.rules.specs.Rules.{Backed}
 use Rattle.certificate.specs.Check.{checked}
 
@@ -15,14 +15,14 @@ use Rattle.certificate.specs.Check.{checked}
 -- the certificate. It has 1 + 10 × (1 + count) words", and each statement's word 0 has its fields in place
 pub record Bundle (n : ℕ) (ws : List ℕ) : Type 0 where
   pub head-kind : getD ws 0 0 / 2 ^ 30 ≡ 3
-  pub head-zeros : getD ws 0 0 / 2 ^ 16 % 2 ^ 14 ≡ 0
+  pub head-zeros : getD ws 0 0 / 2 ^ count-bits % 2 ^ zero-bits ≡ 0
   pub few : count-in ws ≤ most-statements
   pub size : length ws ≡ bundle-words (count-in ws)
   pub fields : all-formed n ws 1 (suc (count-in ws)) ≡ true
 
 pub record Valid (code : List ℕ → List ℕ) (n : ℕ) (ws : List ℕ) : Type 0 where
   pub at-least-2 : 2 ≤ n
-  pub at-most-31 : n ≤ 31
+  pub at-most-31 : n ≤ most-stations
   pub bundle : Bundle n ws
   pub question : All (λ s. s .question ≡ main-of ws .question) (certificate-of ws)
   pub codes : All (λ s. verifies code s ≡ true) (statements ws 1 (suc (count-in ws)))

@@ -1,6 +1,10 @@
 // A certificate held against the rules, and the validity check (document 01, "Validity"). The contracts cite specs/.
+use format::COUNTS;
 use format::Fields;
-use format::Round;
+use format::HEAD_MARK;
+use format::HEAD_ZEROS;
+use format::MARK;
+use format::MOST_STATEMENTS;
 use hmac::Prepared;
 use rules::Group;
 use rules::Which;
@@ -13,8 +17,11 @@ ghost use Rattle.format.specs.Words.{fields-of, spare-of};
 ghost use Rattle.format.specs.Statement.{statement, statements, same-words, hmac-code, verifies};
 ghost use Rattle.format.specs.Bundle.{laid-out, all-formed, main-of};
 ghost use Rattle.rules.specs.Rules.{which, some, holds, rest-holds, spread as Spread, groups-hold, rule};
-ghost use Rattle.certificate.specs.Parts.{least};
+ghost use Rattle.laws.specs.Least.{least};
 ghost use Rattle.certificate.specs.Check.{one-question, all-verify, question-fits, judged, checked};
+
+// The most statements that a head counts.
+const MOST: u32 = MOST_STATEMENTS as u32;
 
 // Whether the `have` statements from word `at` on are the group.
 fn group_holds(ws: &[u32], at: usize, have: usize, g: Group) -> bool
@@ -78,7 +85,7 @@ fn rest_holds(ws: &[u32], n: u32, m: Fields, have: usize, rest: usize) -> bool
 }
 
 // The smaller of two numbers.
-fn smaller(a: usize, b: usize) -> usize
+pub fn smaller(a: usize, b: usize) -> usize
     ensures { λ r. ⌜ r ≡ least a b ⌝ }
 {
     if a < b { a } else { b }
@@ -120,10 +127,10 @@ fn layout(ws: &[u32]) -> bool
         return false;
     }
     let h = ws[0];
-    let count = (h % 65536) as usize;
-    (h / 1073741824 == 3)
-        & (h / 65536 % 16384 == 0)
-        & (h % 65536 <= 32)
+    let count = (h % COUNTS) as usize;
+    (h / MARK == HEAD_MARK)
+        & (h / COUNTS % HEAD_ZEROS == 0)
+        & (h % COUNTS <= MOST)
         & (ws.len() == 1 + 10 * (1 + count))
 }
 
@@ -148,10 +155,10 @@ fn same_question(ws: &[u32], count: usize) -> bool
     requires { ⌜ 11 + count * 10 ≤ length (now ws) ⌝ }
     ensures { λ r. ⌜ r ≡ one-question (main-of (now (ws .entry))) (statements (now (ws .entry)) 11 count) ⌝ }
 {
-    let q = ws[2];
+    let question = ws[2];
     let mut i: usize = 0;
     while i < count {
-        if ws[11 + i * 10 + 1] != q {
+        if ws[11 + i * 10 + 1] != question {
             return false;
         }
         i += 1;
@@ -229,7 +236,7 @@ pub fn judge(key: [u8; 32], n: u32, asked: Which, ws: &[u32]) -> u32
     if !layout(ws) {
         return 3;
     }
-    let count = (ws[0] % 65536) as usize;
+    let count = (ws[0] % COUNTS) as usize;
     if !all_well_formed(ws, n, count + 1) {
         return 3;
     }

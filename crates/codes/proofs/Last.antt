@@ -7,7 +7,7 @@ use lib.ListN.{length, take, set, replicate, length-append, length-replicate}
 use lib.Seq.{set-at}
 use Rattle.laws.specs.Fill.{marked}
 use Rattle.compression.specs.Compression.{compressed}
-use Rattle.compression.specs.Shape.{Below}
+use Rattle.laws.specs.Below.{Below}
 use Rattle.sha256.specs.Sha256.{bytes, padding}
 use Rattle.sha256.specs.Chain.{one-block}
 use Rattle.sha256.specs.Words.{read-back, length-bytes, short-padding, length-padding}

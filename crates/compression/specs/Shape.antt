@@ -5,10 +5,7 @@ use Prim.Native.Nat.{ℕ, zero, suc, _+_, _%_, _^_, _≤_, _<_}
 use native.Mathlib.Omega.{arith}
 use lib.ListN.{length, getD, length-append}
 use Rattle.compression.specs.Compression.{plus, next, extended, constants, T1, T2, rounds, roundsFrom, summed, compressed}
-
--- each element is a word
-abbrev pub Below : List ℕ → Type 0
-Below ws = (i : ℕ) → getD ws i 0 < 2 ^ 32
+use Rattle.laws.specs.Below.{Below}
 
 pub extended-length : (n : ℕ) (ws : List ℕ) → length (extended n ws) ≡ n + length ws
 unfolding extended

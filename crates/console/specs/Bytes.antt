@@ -15,11 +15,11 @@ use Rattle.lines.specs.declared.Line.{Line}
 use Rattle.lines.specs.declared.Line.the-variants.{Group, Open, Give, Unreadable}
 use Rattle.lines.specs.Read.{newline, longer, split, read-line}
 use Rattle.lines.specs.Short.{capped}
-use Rattle.console.specs.declared.Phase.{Phase}
-use Rattle.console.specs.declared.Phase.the-variants.{First, Running, Ended}
+use Rattle.world.specs.declared.Phase.{Phase}
+use Rattle.world.specs.declared.Phase.the-variants.{First, Running, Ended}
 use Rattle.console.specs.declared.Run.{Run}
-use Rattle.console.specs.declared.World.{World}
-use Rattle.console.specs.Valley.{least-n, most-n, group-of, is-open, is-written, opens, gives, after, after-opening, bad, told, one-too-many, event, first-turn, later-turn, turn, missing, run-lines, without-end, lines-of}
+use Rattle.world.specs.declared.World.{World}
+use Rattle.world.specs.Valley.{least-n, most-n, group-of, is-open, is-written, opens, gives, after, after-opening, bad, told, one-too-many, event, first-turn, later-turn, turn, missing, run-lines, without-end, lines-of}
 use Rattle.console.specs.Pieces.{most-kept, lengthened, line-turn, line-done}
 
 -- one more byte

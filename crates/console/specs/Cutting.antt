@@ -11,7 +11,7 @@ use lib.Seq.{take-append-seam}
 use Rattle.laws.specs.Pick.{pick, here, skip}
 use Rattle.lines.specs.Read.{newline}
 use Rattle.console.specs.declared.Run.{Run}
-use Rattle.console.specs.Valley.{missing, no-group, valley}
+use Rattle.world.specs.Valley.{missing, no-group, valley}
 use Rattle.console.specs.Pieces.{Takes, prints, one-more, started, lengthened, line-turn, line-done, taking, finishing}
 use Rattle.console.specs.Bytes.{byte-done, byte-printed, after-bytes, bytes-printed, end-printed, no-newline, Stands, by-lines}
 

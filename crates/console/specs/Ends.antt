@@ -8,13 +8,14 @@ use Rattle.laws.specs.Pick.{pick}
 use Rattle.lines.specs.declared.Line.{Line}
 use Rattle.lines.specs.Read.{read-line}
 use lib.ListN.{take}
-use Rattle.console.specs.declared.Phase.{Phase}
+use Rattle.world.specs.declared.Phase.{Phase}
 use Rattle.console.specs.declared.Run.{Run}
 use Rattle.console.specs.declared.Scanned.{Scanned}
-use Rattle.console.specs.declared.World.{World}
-use Rattle.console.specs.Valley.{turn, missing}
+use Rattle.world.specs.declared.World.{World}
+use Rattle.world.specs.Valley.{turn, missing}
 use Rattle.console.specs.Pieces.{Takes, prints, line-turn, line-done, taking, finishing}
-use Rattle.console.specs.Turns.{Printed, Turned, Took, with-line, turned-as}
+use Rattle.events.specs.Turns.{Printed, Turned, turned-as}
+use Rattle.console.specs.Took.{Took, with-line}
 use Rattle.console.specs.Scans.{scanned, taken-by, taking-is}
 
 took-as : {t : Takes} {u : Takes} {used : ℕ} {count : ℕ} {run : Run} {lent : List ℕ} → t ≡ u → Took t used count run lent → Took u used count run lent

@@ -6,9 +6,9 @@ use lib.Dec.{eqb, ltb}
 use lib.ListN.{length, take, drop, set, replicate}
 use Rattle.laws.specs.Pick.{pick}
 use Rattle.lines.specs.Read.{newline, read-line}
-use Rattle.console.specs.declared.Phase.the-variants.{First}
+use Rattle.world.specs.declared.Phase.the-variants.{First}
 use Rattle.console.specs.declared.Run.{Run}
-use Rattle.console.specs.Valley.{Turn, no-group, turn, missing}
+use Rattle.world.specs.Valley.{Turn, no-group, turn, missing}
 
 -- of a line the first 23 bytes are kept: none of more than 22 can be read
 abbrev pub most-kept : ℕ

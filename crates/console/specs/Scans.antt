@@ -14,7 +14,7 @@ use Rattle.lines.specs.Read.{newline}
 use Rattle.console.specs.declared.Run.{Run}
 use Rattle.console.specs.declared.Scanned.{Scanned}
 use Rattle.console.specs.Pieces.{most-kept, Takes, prints, one-more, lengthened, line-turn, line-done, taking}
-use Rattle.console.specs.Turns.{with-line}
+use Rattle.console.specs.Took.{with-line}
 
 -- i bytes more were taken
 abbrev pub behind : ℕ → Scanned → Scanned

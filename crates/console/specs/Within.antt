@@ -10,7 +10,7 @@ use lib.Seq.{length-take-le}
 use Rattle.laws.specs.Pick.{pick}
 use Rattle.lines.specs.Read.{newline}
 use Rattle.console.specs.declared.Run.{Run}
-use Rattle.console.specs.Valley.{missing}
+use Rattle.world.specs.Valley.{missing}
 use Rattle.console.specs.Pieces.{Takes, prints, one-more, lengthened, line-turn, line-done, taking, finishing}
 
 -- at least one byte of a piece is taken, and none behind its end; the count is of lent bytes

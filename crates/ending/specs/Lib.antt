@@ -1,4 +1,2 @@
-pub mod Number
-pub mod Lowest
 pub mod After
-pub mod LowestSet
+pub mod Laws

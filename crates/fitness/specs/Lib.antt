@@ -1,3 +1,2 @@
 pub mod Parts
-pub mod Groups
-pub mod Scan
+pub mod Among

@@ -7,7 +7,7 @@ use native.Mathlib.Omega.{arith}
 use lib.Dec.{leb, eqb}
 use Rattle.laws.specs.Pick.{pick}
 use Rattle.format.specs.Numbers.{least-stations, most-stations}
-use Rattle.laws.specs.Refusals.{All}
+use Rattle.laws.specs.All.{All}
 use Rattle.laws.specs.Count.{count, Shared, meet, count-not}
 
 -- "A group has n stations, 2 to 31, numbered 1 to n."

@@ -1,10 +1,6 @@
 pub mod Numbers
 pub mod Group
 pub mod Words
-pub mod Word0
 pub mod Statement
 pub mod Bundle
-pub mod Layout
-pub mod Shape
-pub mod Codes
-pub mod ReadBack
+pub mod Laws

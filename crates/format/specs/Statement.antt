@@ -7,7 +7,8 @@ use lib.ListN.{getD, take, drop}
 use Rattle.sha256.specs.Sha256.{words, bytes}
 use Rattle.hmac.specs.Hmac.{hmac}
 use Rattle.format.specs.Numbers.{statement-words, covered-words, code-words}
-use Rattle.format.specs.Words.{kind-of, value-of, flag-of, station-of, round-of, word-of, shaped, of-group, step-of}
+use Rattle.format.specs.declared.Fields.{Fields}
+use Rattle.format.specs.Words.{fields-of, kind-of, value-of, flag-of, station-of, round-of, word-of, shaped, of-group, step-of}
 
 pub record Statement : Type 0 where
   pub kind : ℕ
@@ -27,6 +28,10 @@ covered-at ws at = take covered-words (drop at ws)
 
 abbrev pub code-at : List ℕ → ℕ → List ℕ
 code-at ws at = take code-words (drop (at + covered-words) ws)
+
+-- and the fields of its word 0
+abbrev pub fields-at : List ℕ → ℕ → Fields
+fields-at ws at = fields-of (getD ws at 0)
 
 -- "A statement has 10 words": word 0's fields, the question number, and words 2 to 9 the code. The statement that begins at a place
 abbrev pub statement : List ℕ → ℕ → Statement
@@ -55,6 +60,10 @@ word-0 s =
 -- "The code, HMAC-SHA-256 under the 32-byte group key over the 8 bytes of words 0 and 1. Top byte first throughout."
 abbrev pub covered : Statement → List ℕ
 covered s = word-0 s ∷ s .question ∷ []
+
+-- the code of a statement, by a code of words
+abbrev pub statement-code : (List ℕ → List ℕ) → Statement → List ℕ
+statement-code code s = code (covered s)
 
 unfoldable pub hmac-code : List ℕ → List ℕ → List ℕ
 hmac-code key ws = words (hmac key (bytes ws))

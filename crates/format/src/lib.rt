@@ -45,6 +45,15 @@ const SPARE: u32 = 16777216;
 
 const STATION: u32 = 65536;
 
+// A bundle's head: its mark, the mark's weight, and the weight behind the count and behind the zeros.
+pub const HEAD_MARK: u32 = 3;
+
+pub const MARK: u32 = 1073741824;
+
+pub const COUNTS: u32 = 65536;
+
+pub const HEAD_ZEROS: u32 = 16384;
+
 // The table of returns: a bundle that is valid or kept, what ends a step, and the refusals.
 pub const VALID: u32 = 0;
 

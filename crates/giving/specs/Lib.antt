@@ -1,5 +1,2 @@
 pub mod Gives
-pub mod Law
-pub mod Whole
-pub mod Found
-pub mod Give
+pub mod Laws

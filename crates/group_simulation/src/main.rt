@@ -5,13 +5,17 @@
 // question: at `0` all sites propose 0, at `1` all propose 1, at any other byte sites of even number propose 1 and the others 0; a zero byte ends the
 // input. A line is printed for each question: n, the question, the sites' decisions, how many bundles were given in all so far, and how many calls were
 // refused, openings included.
-use counter::Module;
+use format::OUTPUT_WORDS;
 use libc::STDIN_FILENO;
 use libc::STDOUT_FILENO;
+use modules::Module;
 use station::Station;
 ghost use mathlib.Core.Path.{_≡_};
 ghost use Prim.Native.Nat.{_+_, _*_, _≤_, _<_};
 ghost use lib.ListN.{length};
+
+// The sites of the largest group.
+const SITES: usize = format::MOST_STATIONS as usize;
 
 // What a host keeps of its site: what making the module returned, the module and the station as the last call returned them, the last bundle that was
 // written, and how many were written on this question, one for each step.
@@ -19,7 +23,7 @@ struct Site {
     made: u32,
     own: Module,
     station: Station,
-    bundle: [u32; 331],
+    bundle: [u32; OUTPUT_WORDS],
     count: usize,
     written: u32,
 }
@@ -33,14 +37,14 @@ struct Heard {
 
 // Before the first question: a module that has coded nothing, and no station.
 fn fresh(n: u32, number: u32) -> Site {
-    let made = counter::make([7; 32], n, number);
+    let made = modules::make([7; 32], n, number);
     let own = made.made;
     let station = opening::none();
     Site {
         made: made.number,
         own,
         station,
-        bundle: [0; 331],
+        bundle: [0; OUTPUT_WORDS],
         count: 0,
         written: 0,
     }
@@ -61,7 +65,7 @@ fn proposal(kind: u8, number: u32) -> u32 {
 // site as it was.
 fn open(s: Site, question: u32, value: u32) -> Heard {
     let own = s.own;
-    let mut bundle = [0u32; 331];
+    let mut bundle = [0u32; OUTPUT_WORDS];
     let o = opening::open(own, question, value, &mut bundle);
     if o.number != 20 {
         return Heard {
@@ -93,7 +97,7 @@ fn hear(h: Heard, words: &[u32], coin: u32) -> Heard {
     let s = h.site;
     let own = s.own;
     let station = s.station;
-    let mut bundle = [0u32; 331];
+    let mut bundle = [0u32; OUTPUT_WORDS];
     let g = giving::give(own, station, words, coin, &mut bundle);
     let after = g.after;
     let next = g.station;
@@ -137,16 +141,16 @@ fn spot(written: u32, place: usize) -> usize
     requires { ⌜ place < 31 ⌝ }
     ensures { λ r. ⌜ r < 124 ⌝ }
 {
-    (written % 4) as usize * 31 + place
+    (written % 4) as usize * SITES + place
 }
 
 // Puts a bundle in the air.
-fn send(bundle: [u32; 331], spot: usize, air: &mut [u32; 41044])
+fn send(bundle: [u32; OUTPUT_WORDS], spot: usize, air: &mut [u32; 41044])
     requires { ⌜ spot < 124 ⌝ }
 {
-    let at = spot * 331;
+    let at = spot * OUTPUT_WORDS;
     let mut i = 0;
-    while i < 331 {
+    while i < OUTPUT_WORDS {
         air[at + i] = bundle[i];
         i += 1;
     }
@@ -157,9 +161,9 @@ fn hear_spot(h: Heard, spot: usize, air: &[u32; 41044], lengths: [usize; 124], c
     requires { ⌜ spot < 124 ⌝ }
 {
     let words = &air[..];
-    let at = spot * 331;
+    let at = spot * OUTPUT_WORDS;
     let l = lengths[spot];
-    if l <= 331 {
+    if l <= OUTPUT_WORDS {
         let end = at + l;
         return hear(h, &words[at..end], coin);
     }
@@ -230,9 +234,9 @@ fn decision_of(s: Site, question: u32) -> u32 {
 }
 
 // Prints the decisions one behind the other.
-fn print_decisions(decisions: [u32; 31], n: usize) {
+fn print_decisions(decisions: [u32; SITES], n: usize) {
     let mut i = 0;
-    while i < 31 {
+    while i < SITES {
         if i == n {
             return;
         }
@@ -241,7 +245,7 @@ fn print_decisions(decisions: [u32; 31], n: usize) {
     }
 }
 
-fn print_line(n: usize, question: u32, decisions: [u32; 31], given: u64, refused: u64) {
+fn print_line(n: usize, question: u32, decisions: [u32; SITES], given: u64, refused: u64) {
     io::print_decimal(STDOUT_FILENO, n as u64);
     io::write_all(STDOUT_FILENO, b" ");
     io::print_decimal(STDOUT_FILENO, question as u64);
@@ -255,11 +259,11 @@ fn print_line(n: usize, question: u32, decisions: [u32; 31], given: u64, refused
 }
 
 // The sites of a group before the first question.
-fn group(n: usize) -> [Site; 31]
+fn group(n: usize) -> [Site; SITES]
     requires { ⌜ n ≤ 31 ⌝ }
 {
     let none = fresh(n as u32, 1);
-    let mut sites = [none; 31];
+    let mut sites = [none; SITES];
     let mut i = 1;
     while i < n {
         let s = fresh(n as u32, i as u32 + 1);
@@ -270,7 +274,7 @@ fn group(n: usize) -> [Site; 31]
 }
 
 // Whether all sites have decided.
-fn all_decided(decisions: [u32; 31], n: usize) -> bool
+fn all_decided(decisions: [u32; SITES], n: usize) -> bool
     requires { ⌜ n ≤ 31 ⌝ }
 {
     let mut i = 0;
@@ -296,11 +300,15 @@ fn next_place(k: usize, n: usize) -> usize
 
 // The byte that stands for a question, or 0 behind the last.
 fn kind_of(kinds: &[u8], question: u32) -> u8 {
-    let q = question as usize;
-    if q == 0 {
+    let number = question as usize;
+    if number == 0 {
         return 0;
     }
-    if q <= kinds.len() { kinds[q - 1] } else { 0 }
+    if number <= kinds.len() {
+        kinds[number - 1]
+    } else {
+        0
+    }
 }
 
 // Puts the questions to a group one after the other. The sites take turns, and behind each round of turns in which all have decided the next question
@@ -311,7 +319,7 @@ fn votes(n: usize, kinds: &[u8])
     let mut sites = group(n);
     let mut air = [0u32; 41044];
     let mut lengths = [0usize; 124];
-    let mut decisions = [2u32; 31];
+    let mut decisions = [2u32; SITES];
     let mut given: u64 = 0;
     let mut refused: u64 = 0;
     let mut question: u32 = 1;

@@ -9,7 +9,8 @@ use lib.Dec.{leb}
 use borrow.Author.Tests.{leb-true, lt-ltb}
 use Rattle.laws.specs.Pick.{pick}
 use Rattle.compression.specs.Compression.{compressed}
-use Rattle.compression.specs.Shape.{Below, compressed-below}
+use Rattle.compression.specs.Shape.{compressed-below}
+use Rattle.laws.specs.Below.{Below}
 use Rattle.sha256.specs.Sha256.{words, bytes, padding, initial, hashed, sha256, limit}
 use Rattle.sha256.specs.Chain.{after-block}
 use Rattle.sha256.specs.Words.{words-bytes, length-bytes}

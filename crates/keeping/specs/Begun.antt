@@ -1,51 +1,41 @@
 -- A station that has just sent, as words: a blank station that keeps the bundle it wrote. The law ties it to the state's definition, `began`.
-use Prim.Native.Nat.{ℕ, zero, suc, _+_, _-_, _*_, _/_, _%_, _^_, _≤_, _<_}
-use mathlib.Core.Bool.{Bool, true, false, not, _&&_, _||_}
-use mathlib.Core.List.{List, [], _∷_, _++_, append-nil}
+use Prim.Native.Nat.{ℕ, zero, suc, _*_, _≤_}
+use mathlib.Core.Bool.{Bool, true, false, _&&_}
+use mathlib.Core.List.{List, [], _∷_, _++_}
 use mathlib.Core.Path.{_≡_, refl, sym, ap, _∙_}
 use native.Mathlib.Omega.{arith}
-use native.Mathlib.Nat.{div-eq-of-lt}
 use lib.Dec.{eqb}
-use lib.Pow.{pow-pos}
-use lib.ListN.{length, getD, take, drop, replicate}
+use lib.ListN.{length, getD, take, replicate}
 use borrow.Author.Tests.{eq-eqb}
 use lib.Seq.{take-at}
 use Rattle.laws.specs.Pick.{pick, skip}
 use Rattle.laws.specs.Bools.{join}
 use Rattle.laws.specs.Sets.{bit}
-use Rattle.laws.specs.Refusals.{All}
-use Rattle.format.specs.Numbers.{most-statements, bundle-words}
+use Rattle.laws.specs.All.{All}
+use Rattle.format.specs.Numbers.{most-statements}
 use Rattle.format.specs.Group.{quorum}
 use Rattle.format.specs.Statement.{Statement, statements}
-use Rattle.format.specs.Bundle.{main-of, certificate-of, all-formed}
+use Rattle.format.specs.Bundle.{main-of, certificate-of, all-formed, bundle-of}
 use Rattle.rules.specs.declared.Group.{Group}
 use Rattle.certificate.specs.Check.{every}
 use Rattle.station.specs.declared.Stage.{Stage}
-use Rattle.station.specs.declared.Stage.the-variants.{Gathering, Proposing, Voting}
 use Rattle.station.specs.declared.Station.{Station}
 use Rattle.rules.specs.Rules.{some, holds, in-order}
-use Rattle.station.specs.Machine.{State, stage-step, keeping, insert, held-of, takes, began, supplies-for-value, supplies-for-none}
-use Rattle.station.specs.Words.{state-of, bundle-of, held-in, held-by, kept-for-value, kept-for-none, no-group, Lengths}
+use Rattle.station.specs.Machine.{State, stage-step, keeping, insert, held-of, began, supplies-for-value, supplies-for-none, kept-for-value, kept-for-none, no-group}
+use Rattle.station.specs.Words.{empty-station, state-of, held-in, held-by, Lengths}
 use Rattle.station.specs.Words as W
-use Rattle.format.specs.ReadBack.{Proper}
-use Rattle.station.specs.Bundles.{main-is, certificate-is, bundle-there}
+use Rattle.format.specs.Laws.ReadBack.{Proper}
+use Rattle.station.specs.Laws.Bundles.{main-is, certificate-is, bundle-there}
 use Rattle.station.specs.Fit.{slots-fit, zeros, group-fits}
-use Rattle.compression.specs.Shape.{Below}
-use Rattle.keeping.specs.One.{LowWords, Fit}
-use Rattle.keeping.specs.Kept.{kept-words}
-use Rattle.keeping.specs.Law.{kept-is}
+use Rattle.laws.specs.Below.{Below}
+use Rattle.held.specs.Laws.Sets.{no-bit}
+use Rattle.keeping.specs.Laws.One.{LowWords, Fit}
+use Rattle.keeping.specs.Kept.{with-bundle}
+use Rattle.keeping.specs.Laws.Law.{kept-is}
 
 -- an open station that holds nothing
 unfoldable pub blank : ℕ → ℕ → ℕ → Stage → ℕ → Station
-blank n number question g d =
-    record {
-      identity = record { n = n; station = number; question = question };
-      stage = g;
-      closed = false;
-      decision = d;
-      held = record { heard = 0; slots = replicate 310 0 };
-      groups = record { value = replicate 160 0; none = replicate 160 0 };
-    }
+blank n number question g d = empty-station (record { n = n; station = number; question = question }) g false d
 
 -- its state
 abbrev empty : ℕ → Stage → ℕ → State
@@ -67,9 +57,6 @@ zeros-there : (m k at : ℕ) → zeros (replicate m 0) at k ≡ true
 unfolding zeros
 zeros-there m zero at = refl
 zeros-there m (suc k) at = join (eqb (getD (replicate m 0) at 0) 0) _ (eq-eqb _ 0 (zero-at m at)) (zeros-there m k (suc at))
-
-no-bit : (i : ℕ) → bit 0 i ≡ false
-no-bit i = let e : 0 / 2 ^ i ≡ 0 = div-eq-of-lt (pow-pos i) in rw e
 
 none-held : (slots : List ℕ) (k i : ℕ) → held-in 0 slots i k ≡ []
 unfolding held-in
@@ -156,7 +143,7 @@ module _ (n number question : ℕ) (g : Stage) (d : ℕ) where
 
   pub begun : (s : Statement) (c e : List Statement) → n ≤ 31 → Proper n s → All (Proper n) (c ++ e) → length (c ++ e) ≤ most-statements
       → Below (bundle-of s (c ++ e)) → (supplies-for-value g s ≡ true → length c ≡ quorum n) → (supplies-for-none g s ≡ true → length c ≡ quorum n)
-      → kept-words (blank n number question g d) (bundle-of s (c ++ e)) ≡ W.as-station n number (began question g d s c)
+      → with-bundle (blank n number question g d) (bundle-of s (c ++ e)) ≡ W.as-station n number (began question g d s c)
   unfolding bundle-of some
   begun s c e top p a few low one two =
       kept-is n number (blank n number question g d) (bundle-of s (c ++ e)) top blank-lengths blank-low low blank-fit (bundle-there n s (c ++ e) top p a few)

@@ -4,8 +4,7 @@ ghost use mathlib.Core.Bool.{true};
 ghost use mathlib.Core.List.{[], _∷_};
 ghost use Prim.Native.Nat.{_+_, _-_, _≤_, _<_};
 ghost use lib.ListN.{length, take, drop};
-ghost use Rattle.lines.specs.Read.{space, split, all-digits, is-number, read-words, read-line};
-ghost use Rattle.lines.specs.Read.{same as Read·same, value as Read·value};
+ghost use Rattle.lines.specs.Read.{space, split, all-digits, is-number, read-words, read-line, same as Read·same, value as Read·value};
 ghost use Rattle.lines.specs.Words.{word-length};
 
 // What a line says. `Unreadable` is a line that can't be read.

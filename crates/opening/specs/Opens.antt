@@ -13,8 +13,8 @@ use Rattle.laws.specs.Refusals.{Test, test, first-failed, all-passed}
 use Rattle.format.specs.Numbers.{output-words, short-output, out-of-range, not-above}
 use Rattle.format.specs.Statement.{hmac-code, step}
 use Rattle.format.specs.Words.{step-of}
-use Rattle.counter.specs.declared.Module.{Module}
-use Rattle.counter.specs.Counter.{module-fits, above, last-for}
+use Rattle.modules.specs.declared.Module.{Module}
+use Rattle.modules.specs.Counter.{module-fits, above, last-for}
 use Rattle.station.specs.declared.Station.{Station}
 use Rattle.station.specs.Calls.{Returned, returned, opening, no-station}
 use Rattle.station.specs.Answers.{Answers}

@@ -1,11 +1,12 @@
 // Opening a station (document 01, "The station" and "Table of returns"). The contracts cite specs/.
-use counter::Module;
 use format::Fields;
+use format::NONE;
 use format::Round;
 use format::Step;
-use station::Groups;
-use station::Held;
+use modules::Module;
 use station::Identity;
+use station::KEPT_WORDS;
+use station::SLOTS_WORDS;
 use station::Stage;
 use station::Station;
 ghost use mathlib.Core.Path.{_≡_};
@@ -28,13 +29,13 @@ fn first(room: bool, range: bool, later: bool) -> u32
     ensures { λ r. ⌜ r ≡ first-failed (tests room range later) ⌝ }
 {
     if !room {
-        return 1;
+        return format::SHORT_OUTPUT;
     }
     if !range {
-        return 2;
+        return format::OUT_OF_RANGE;
     }
     if !later {
-        return 12;
+        return format::NOT_ABOVE;
     }
     0
 }
@@ -43,9 +44,9 @@ fn first(room: bool, range: bool, later: bool) -> u32
 fn refusal(m: Module, question: u32, proposal: u32, lent: usize) -> u32
     ensures { λ r. ⌜ r ≡ open-refusal m question proposal lent ⌝ }
 {
-    let range = counter::fits(m) & (proposal < 2);
-    let later = counter::is_above(m, question, Step(0));
-    first(331 <= lent, range, later)
+    let range = modules::fits(m) & (proposal < 2);
+    let later = modules::is_above(m, question, Step(0));
+    first(format::OUTPUT_WORDS <= lent, range, later)
 }
 
 // The station that a refused opening returns: of no group, closed, undecided and otherwise zero.
@@ -57,22 +58,7 @@ pub fn none() -> Station
         station: 0,
         question: 0,
     };
-    let held = Held {
-        heard: 0,
-        slots: [0; 310],
-    };
-    let groups = Groups {
-        value: [0; 160],
-        none: [0; 160],
-    };
-    Station {
-        identity,
-        stage: Stage::Gathering,
-        closed: true,
-        decision: 2,
-        held,
-        groups,
-    }
+    held::empty(identity, Stage::Gathering, true, NONE)
 }
 
 // The fields of the station's INIT.
@@ -80,9 +66,9 @@ fn init(number: u32, proposal: u32) -> Fields
     ensures { λ r. ⌜ r ≡ record { kind = 0; value = proposal; flag = 0; spare = 0; station = number; round = record { 0 = 0 } } ⌝ }
 {
     Fields {
-        kind: 0,
+        kind: format::INIT,
         value: proposal,
-        flag: 0,
+        flag: format::D_GET,
         spare: 0,
         station: number,
         round: Round(0),
@@ -103,14 +89,14 @@ pub fn open(m: Module, question: u32, proposal: u32, out: &mut [u32]) -> Opened
         };
     }
     let f = init(m.station, proposal);
-    let slots = [0u32; 310];
-    let group = [0u32; 160];
+    let slots = [0u32; SLOTS_WORDS];
+    let group = [0u32; KEPT_WORDS];
     let s = sending::send(
         m,
         question,
         f,
         Stage::Gathering,
-        2,
+        NONE,
         &slots,
         0,
         &group,
@@ -120,7 +106,7 @@ pub fn open(m: Module, question: u32, proposal: u32, out: &mut [u32]) -> Opened
     let station = s.station;
     let after = s.after;
     Opened {
-        number: 20,
+        number: format::SENT,
         count: s.count,
         station,
         after,

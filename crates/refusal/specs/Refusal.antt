@@ -1,6 +1,6 @@
 -- The first refusal of a giving, and the parts of it that the code has.
-use Prim.Native.Nat.{ℕ, _-_, _*_}
-use mathlib.Core.Bool.{Bool, false, not, _&&_, _||_}
+use Prim.Native.Nat.{ℕ, _-_}
+use mathlib.Core.Bool.{Bool, true, false, not, _&&_, _||_}
 use mathlib.Core.List.{List, [], _∷_}
 use mathlib.Core.Path.{_≡_, refl}
 use lib.Dec.{eqb, ltb, leb}
@@ -10,18 +10,19 @@ use Rattle.laws.specs.Sets.{bit}
 use Rattle.format.specs.Numbers.{D-GET, too-late, too-early, already-held, conflicting as conflict-number}
 use Rattle.format.specs.declared.Fields.{Fields}
 use Rattle.format.specs.Words.{fields-of, step-of}
-use Rattle.format.specs.Statement.{Statement, statement, hmac-code, step}
+use Rattle.format.specs.Statement.{Statement, hmac-code, step}
 use Rattle.format.specs.Bundle.{main-of}
 use Rattle.rules.specs.declared.Which.{Which}
 use Rattle.rules.specs.declared.Which.the-variants.{Any, Only}
 use Rattle.rules.specs.Rules.{which, some}
-use Rattle.counter.specs.declared.Module.{Module}
+use Rattle.modules.specs.declared.Module.{Module}
 use Rattle.station.specs.declared.Stage.{Stage}
 use Rattle.station.specs.declared.Stage.the-variants.{Gathering, Proposing, Voting}
 use Rattle.station.specs.declared.Station.{Station}
-use Rattle.station.specs.Machine.{stage-step, held-of, conflict, step-tests}
+use Rattle.station.specs.Machine.{stage-step, held-of, has-value, conflict, step-tests}
 use Rattle.station.specs.Words.{state-of, held-by}
 use Rattle.station.specs.Calls.{give-tests}
+use Rattle.held.specs.Scan.{such}
 
 -- the number of the first test that a giving fails, where the lent output has so many words; or 0
 unfoldable pub first-refusal : Module → Station → List ℕ → ℕ → ℕ → ℕ
@@ -34,29 +35,34 @@ unfolding first-refusal
 first-refusal-by-length m t ws coin out = rw (length-replicate {A = ℕ} (length out) 0)
 
 -- ---- the parts
--- a statement with such a flag and this value
-abbrev pub having : Which → ℕ → Statement → Bool
-having w v s = which w (s .flag) && eqb (s .value) v
-
-pub having-read : (w : Which) (v : ℕ) (slots : List ℕ) (i : ℕ) (f : Fields) → f ≡ fields-of (getD slots (i * 10) 0)
-    → (which w (f .flag) && eqb (f .value) v) ≡ having w v (statement slots (i * 10))
-unfolding fields-of
-having-read w v slots i f e = rw e
-
 -- one more statement, with a value and a flag, and those of a list have both values with such a flag
 unfoldable pub both-values : Which → ℕ → ℕ → List Statement → Bool
-both-values w value flag h = ((which w flag && eqb value 0) || some (having w 0) h) && ((which w flag && eqb value 1) || some (having w 1) h)
+both-values w value flag h =
+    ((eqb value 0 && which w flag) || some (such (Only 0) w) h) && ((eqb value 1 && which w flag) || some (such (Only 1) w) h)
 
 unfoldable pub conflicting : Stage → ℕ → ℕ → List Statement → Bool
 conflicting Gathering value flag h = false
 conflicting (Proposing r f) value flag h = ltb 1 (r .0) && both-values (Only D-GET) value flag h
 conflicting (Voting r) value flag h = both-values Any value flag h
 
+swap : (a b : Bool) → (a && b) ≡ (b && a)
+swap true true = refl
+swap true false = refl
+swap false true = refl
+swap false false = refl
+
+flag-first : (v : ℕ) → such (Only v) (Only D-GET) ≡ (λ s. eqb (s .flag) D-GET && has-value v s)
+flag-first v = λ i s. swap (eqb (s .value) v) (eqb (s .flag) D-GET) i
+
+value-alone : (v : ℕ) → such (Only v) Any ≡ has-value v
+value-alone v = λ i s. swap (eqb (s .value) v) true i
+
 pub conflict-is : (g : Stage) (s : Statement) (h : List Statement) → conflicting g (s .value) (s .flag) h ≡ conflict g (s ∷ h)
 unfolding conflicting both-values conflict some
 conflict-is Gathering s h = refl
-conflict-is (Proposing r f) s h = refl
-conflict-is (Voting r) s h = refl
+conflict-is (Proposing r f) s h =
+    λ i. ltb 1 (r .0) && ((flag-first 0 i s || some (flag-first 0 i) h) && (flag-first 1 i s || some (flag-first 1 i) h))
+conflict-is (Voting r) s h = λ i. (value-alone 0 i s || some (value-alone 0 i) h) && (value-alone 1 i s || some (value-alone 1 i) h)
 
 -- the station's own tests, of a statement with these fields
 unfoldable pub step-refused : Stage → ℕ → List Statement → Fields → ℕ

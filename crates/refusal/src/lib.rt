@@ -1,82 +1,67 @@
 // The first refusal of a given bundle (document 01, "Table of returns"). The contracts cite specs/.
-use counter::Module;
 use format::Fields;
+use modules::Module;
 use rules::Which;
+use station::SLOTS_WORDS;
 use station::Stage;
 use station::Station;
 ghost use mathlib.Core.Path.{_≡_};
 ghost use mathlib.Core.List.{[], _∷_};
 ghost use Prim.Native.Nat.{_-_, _≤_};
 ghost use Rattle.laws.specs.Refusals.{test, first-failed};
-ghost use Rattle.rules.specs.Rules.{some};
+ghost use Rattle.format.specs.Numbers.{too-late, too-early, already-held, conflicting as conflicting-number};
 ghost use Rattle.station.specs.Words.{held-in, sites};
-ghost use Rattle.refusal.specs.Refusal.{having, both-values as BothValues, conflicting, step-refused, first-refusal};
-
-// Whether one of the held statements has such a flag and this value.
-fn some_held(slots: &[u32; 310], heard: u32, flag: Which, value: u32) -> bool
-    ensures { λ r. ⌜ r ≡ some (having flag value) (held-in heard (now (slots .entry)) 0 sites) ⌝ }
-{
-    let mut i: u32 = 0;
-    while i < 31 {
-        let at = (i * 10) as usize;
-        let f = format::read_fields(slots[at]);
-        if fitness::is_heard(heard, i) & (rules::allows(flag, f.flag) & (f.value == value)) {
-            return true;
-        }
-        i += 1;
-    }
-    false
-}
+ghost use Rattle.refusal.specs.Refusal.{both-values as BothValues, conflicting, step-refused, first-refusal};
 
 // Whether the held statements and one more, with this value and flag, have both values with such a flag.
-fn both_values(slots: &[u32; 310], heard: u32, wanted: Which, value: u32, flag: u32) -> bool
+fn both_values(slots: &[u32; SLOTS_WORDS], heard: u32, wanted: Which, value: u32, flag: u32) -> bool
     ensures { λ r. ⌜ r ≡ BothValues wanted value flag (held-in heard (now (slots .entry)) 0 sites) ⌝ }
 {
-    let zero = some_held(slots, heard, wanted, 0);
-    let one = some_held(slots, heard, wanted, 1);
+    let zero = held::scan(slots, heard, Which::Only(0), wanted);
+    let one = held::scan(slots, heard, Which::Only(1), wanted);
     let such = rules::allows(wanted, flag);
-    ((such & (value == 0)) | zero) & ((such & (value == 1)) | one)
+    (((value == 0) & such) | (0 < zero)) & (((value == 1) & such) | (0 < one))
 }
 
 // Whether the held statements and one more, with this value and flag, conflict.
-fn conflicts(slots: &[u32; 310], heard: u32, stage: Stage, value: u32, flag: u32) -> bool
+fn conflicts(slots: &[u32; SLOTS_WORDS], heard: u32, stage: Stage, value: u32, flag: u32) -> bool
     ensures { λ r. ⌜ r ≡ conflicting stage value flag (held-in heard (now (slots .entry)) 0 sites) ⌝ }
 {
     match stage {
         Stage::Gathering => false,
         Stage::Proposing(r, _) => (1 < r.0)
-            & both_values(slots, heard, Which::Only(0), value, flag),
+            & both_values(slots, heard, Which::Only(format::D_GET), value, flag),
         Stage::Voting(_) => both_values(slots, heard, Which::Any, value, flag),
     }
 }
 
 // The table of the station's own tests, in its order.
 fn table(reached: bool, due: bool, fresh: bool, calm: bool) -> u32
-    ensures { λ r. ⌜ r ≡ first-failed (test reached 7 ∷ test due 8 ∷ test fresh 9 ∷ test calm 10 ∷ []) ⌝ }
+    ensures { λ r. ⌜ r ≡ first-failed (test reached too-late ∷ test due too-early ∷ test fresh already-held ∷ test calm conflicting-number ∷ []) ⌝ }
 {
     if !reached {
-        return 7;
+        return format::TOO_LATE;
     }
     if !due {
-        return 8;
+        return format::TOO_EARLY;
     }
     if !fresh {
-        return 9;
+        return format::ALREADY_HELD;
     }
     if !calm {
-        return 10;
+        return format::CONFLICTING;
     }
     0
 }
 
 // The first of the station's own tests that a statement with these fields fails.
-fn step_refusal(slots: &[u32; 310], heard: u32, stage: Stage, f: Fields) -> u32
+fn step_refusal(slots: &[u32; SLOTS_WORDS], heard: u32, stage: Stage, f: Fields) -> u32
     requires { ⌜ 1 ≤ f .station ⌝ }
     ensures { λ r. ⌜ r ≡ step-refused stage heard (held-in heard (now (slots .entry)) 0 sites) f ⌝ }
 {
     let own = fitness::step_in(stage);
     let step = format::step_of(f);
-    let held = fitness::is_heard(heard, f.station - 1);
+    let held = held::in_set(heard, f.station - 1);
     let clash = conflicts(slots, heard, stage, f.value, f.flag);
     table(own.0 <= step.0, step.0 <= own.0, !held, !clash)
 }
@@ -86,20 +71,20 @@ fn step_refusal(slots: &[u32; 310], heard: u32, stage: Stage, f: Fields) -> u32
 pub fn refusal(m: Module, t: Station, ws: &[u32], coin: u32, room: usize) -> u32
     ensures { λ r. ⌜ r ≡ first-refusal m t (now (ws .entry)) coin room ⌝ }
 {
-    if room < 331 {
-        return 1;
+    if room < format::OUTPUT_WORDS {
+        return format::SHORT_OUTPUT;
     }
     let fits = fitness::fits_module(t, m);
     if !(fits & (coin < 2)) {
-        return 2;
+        return format::OUT_OF_RANGE;
     }
     if t.closed {
-        return 11;
+        return format::STATION_CLOSED;
     }
     let id = t.identity;
     let key = m.key;
     let judged = certificate::judge(key, m.n, Which::Only(id.question), ws);
-    if judged != 0 {
+    if judged != format::VALID {
         return judged;
     }
     let held = t.held;

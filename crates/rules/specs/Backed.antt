@@ -11,10 +11,10 @@ use lib.Seq.{take-at, drop-at}
 use borrow.Author.Tests.{eqb-true, eqb-false, eq-eqb, ne-eqb, ltb-true, ltb-false, lt-ltb, le-ltb}
 use Rattle.laws.specs.Pick.{pick}
 use Rattle.laws.specs.Bools.{never, both, join, either, left, right, is-false}
-use Rattle.laws.specs.Refusals.{All}
+use Rattle.laws.specs.All.{All}
 use Rattle.format.specs.Numbers.{kind-INIT, kind-P, kind-V, none, D-GET, R-GET}
 use Rattle.format.specs.Statement.{Statement}
-use Rattle.format.specs.Shape.{Shape, init, proposal, vote}
+use Rattle.format.specs.Laws.Shape.{Shape, init, proposal, vote}
 use Rattle.rules.specs.declared.Which.the-variants.{Any, Only}
 use Rattle.rules.specs.declared.Group.{Group}
 use Rattle.rules.specs.Rules.{matches, Rising, Holds, in-order, holds, inits, proposals, none-votes, some-D-GET, some-value, BothValues, Backed, rule-1, rule-2, rule-3, rule-4, rule-5, rule-6, rule-7, first-group, second-group, has-second, early-toss, rest-holds, spread, groups-hold, rule}

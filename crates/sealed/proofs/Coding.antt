@@ -10,14 +10,15 @@ use borrow.Author.Tests.{eqb-true, eq-eqb, ne-eqb}
 use native.Mathlib.Omega.{arith}
 use Rattle.laws.specs.Pick.{pick}
 use Rattle.laws.specs.Bools.{both}
-use Rattle.laws.specs.Refusals.{All, test, first-failed, all-passed}
+use Rattle.laws.specs.Refusals.{test, first-failed, all-passed}
+use Rattle.laws.specs.All.{All}
 use Rattle.format.specs.declared.Fields.{Fields}
 use Rattle.format.specs.declared.Step.{Step}
 use Rattle.format.specs.Numbers.{statement-words, out-of-range, malformed, wrong-code, not-above}
 use Rattle.format.specs.Words.{formed, fields-of, step-in}
 use Rattle.format.specs.Statement.{Statement, statement, written, step, hmac-code}
-use Rattle.counter.specs.declared.Module.{Module}
-use Rattle.counter.specs.Counter.{above, last-for, module-fits, advanced}
+use Rattle.modules.specs.declared.Module.{Module}
+use Rattle.modules.specs.Counter.{above, last-for, module-fits, advanced}
 use Rattle.sealed.specs.Sealed.{Coded, by-plain, by-coin, signed, with-value, tossed, coding, coding-tests, coding-plain, coding-coin}
 use Rattle.sealed.specs.Answers.{Answered, Tested, word-with, lent-with}
 

@@ -10,9 +10,9 @@ use Rattle.laws.specs.Pick.{pick}
 use Rattle.laws.specs.Refusals.{test, first-failed, all-passed}
 use Rattle.format.specs.Numbers.{out-of-range}
 use Rattle.format.specs.Statement.{Statement, statement, written, step}
-use Rattle.counter.specs.declared.Module.{Module}
-use Rattle.counter.specs.Counter.{pair, module-fits, advanced, last-for}
-use Rattle.counter.specs.Above.{Above, above-out}
+use Rattle.modules.specs.declared.Module.{Module}
+use Rattle.modules.specs.Counter.{pair, module-fits, advanced, last-for}
+use Rattle.modules.specs.Above.{Above, above-out}
 use Rattle.sealed.specs.Sealed.{Coded, by-plain, by-coin, tossed, signed, coding, coding-plain, coding-coin, coding-tests}
 
 -- what a coding of a statement did: it was answered 0, the pair rose above the last, and the module's new last pair is the statement's; or it was

@@ -1,4 +1,4 @@
--- The sealed module's coding: plain, and with the coin (document 01, "The sealed module"). The module and its last pair are those of crate counter.
+-- The sealed module's coding: plain, and with the coin (document 01, "The sealed module"). The module and its last pair are those of crate modules.
 use Prim.Native.Nat.{ℕ}
 use mathlib.Core.Bool.{Bool, not, _&&_}
 use mathlib.Core.List.{List, [], _∷_}
@@ -9,8 +9,8 @@ use Rattle.laws.specs.Refusals.{Test, test, first-failed}
 use Rattle.format.specs.Numbers.{kind-P, R-GET, statement-words, out-of-range, malformed, wrong-code, not-above}
 use Rattle.format.specs.Words.{formed, fields-of}
 use Rattle.format.specs.Statement.{Statement, statement, covered, written, step}
-use Rattle.counter.specs.declared.Module.{Module}
-use Rattle.counter.specs.Counter.{above, last-for, advanced, module-fits}
+use Rattle.modules.specs.declared.Module.{Module}
+use Rattle.modules.specs.Counter.{above, last-for, advanced, module-fits}
 
 pub record Coded : Type 0 where
   pub number : ℕ

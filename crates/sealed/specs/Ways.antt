@@ -15,11 +15,11 @@ use Rattle.format.specs.Numbers.{kind-P, R-GET, statement-words, out-of-range}
 use Rattle.format.specs.Group.{size-fits}
 use Rattle.format.specs.Words.{formed, fields-of}
 use Rattle.format.specs.Statement.{Statement, statement, word-0, written, well-formed, step}
-use Rattle.format.specs.Layout.{formed-well}
-use Rattle.format.specs.Shape.{Shape, init, proposal, vote, formed-out, formed-in}
-use Rattle.format.specs.ReadBack.{Proper, word-back, formed-back, length-written, statement-back}
-use Rattle.counter.specs.declared.Module.{Module}
-use Rattle.counter.specs.Counter.{above, last-for, advanced, module-fits, no-module}
+use Rattle.format.specs.Laws.Layout.{formed-well}
+use Rattle.format.specs.Laws.Shape.{Shape, init, proposal, vote, formed-out, formed-in}
+use Rattle.format.specs.Laws.ReadBack.{Proper, word-back, formed-back, length-written, statement-back}
+use Rattle.modules.specs.declared.Module.{Module}
+use Rattle.modules.specs.Counter.{above, last-for, advanced, module-fits, no-module}
 use Rattle.sealed.specs.Sealed.{Coded, is-toss, by-plain, by-coin, tossed, signed, coding, coding-tests, coding-plain, coding-coin}
 
 -- a statement with other words where its code stands

@@ -1,7 +1,7 @@
 // The sealed module's coding: plain, and with the coin (document 01, "The sealed module"). The contracts cite specs/.
-use counter::Last;
-use counter::Module;
 use format::Fields;
+use modules::Last;
+use modules::Module;
 ghost use mathlib.Core.Path.{_≡_};
 ghost use mathlib.Core.List.{[], _∷_};
 ghost use lib.ListN.{length, getD};
@@ -59,10 +59,10 @@ fn refusal(m: Module, ws: &[u32], range: bool, way: bool) -> u32
     ensures { λ r. ⌜ Tested m (now (ws .entry)) range way r ⌝ }
 {
     let f = format::read_fields(word(ws, 0));
-    let q = word(ws, 1);
+    let question = word(ws, 1);
     let shape = (ws.len() == format::STATEMENT_WORDS) & format::well_formed(f, m.n) & way;
     let own = f.station == m.station;
-    let later = counter::is_above(m, q, format::step_of(f));
+    let later = modules::is_above(m, question, format::step_of(f));
     first(range, shape, own, later)
 }
 
@@ -132,7 +132,7 @@ pub fn code_plain(m: Module, ws: &mut [u32]) -> Coded
     let number = refusal(
         m,
         ws,
-        counter::fits(m),
+        modules::fits(m),
         !((f.kind == format::P) & (f.flag == format::R_GET)),
     );
     finish(m, ws, f.value, number)
@@ -146,7 +146,7 @@ pub fn code_coin(m: Module, ws: &mut [u32], coin: u32) -> Coded
     let number = refusal(
         m,
         ws,
-        counter::fits(m) & (coin < 2),
+        modules::fits(m) & (coin < 2),
         (f.kind == format::P) & (f.flag == format::R_GET),
     );
     finish(m, ws, coin, number)

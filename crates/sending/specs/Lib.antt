@@ -1,3 +1,3 @@
 pub mod Sent
-pub mod Law
 pub mod Sends
+pub mod Laws

@@ -10,28 +10,28 @@ use lib.Seq.{take-at}
 use borrow.Author.Tests.{eqb-true, ne-eqb}
 use Rattle.laws.specs.Pick.{pick}
 use Rattle.laws.specs.Bools.{both}
-use Rattle.laws.specs.Refusals.{All}
+use Rattle.laws.specs.All.{All, all-append}
 use Rattle.format.specs.declared.Fields.{Fields}
 use Rattle.format.specs.Numbers.{kind-P, bundle-words, most-statements}
 use Rattle.format.specs.Group.{quorum}
-use Rattle.format.specs.Statement.{Statement, written, well-formed, hmac-code, step}
-use Rattle.format.specs.Shape.{Shape, init, proposal, vote, formed-out}
-use Rattle.counter.specs.declared.Module.{Module}
-use Rattle.counter.specs.Counter.{above, last-for, advanced, module-fits}
+use Rattle.format.specs.Statement.{Statement, written, well-formed, hmac-code, step, statement-code}
+use Rattle.format.specs.Laws.Shape.{Shape, init, proposal, vote, formed-out}
+use Rattle.modules.specs.declared.Module.{Module}
+use Rattle.modules.specs.Counter.{above, last-for, advanced, module-fits}
 use Rattle.sealed.specs.Sealed.{is-toss, Coded, coding-plain, coding-coin}
 use Rattle.sealed.specs.Ways.{with-code, coded-as, own-plain, own-coin}
 use Rattle.station.specs.declared.Stage.{Stage}
 use Rattle.station.specs.Machine.{own, began, supplies-for-value, supplies-for-none}
-use Rattle.station.specs.Words.{set-of, all-written, bundle-of, over}
+use Rattle.station.specs.Words.{set-of}
+use Rattle.format.specs.Bundle.{all-written, bundle-of, over}
 use Rattle.station.specs.Words as W
-use Rattle.format.specs.ReadBack.{Proper, length-written}
-use Rattle.station.specs.Bundles.{ws-length}
-use Rattle.station.specs.Written.{all-append}
+use Rattle.format.specs.Laws.ReadBack.{Proper, length-written}
+use Rattle.station.specs.Laws.Bundles.{ws-length}
 use Rattle.station.specs.Seal.{main-words}
 use Rattle.writer.specs.Written.{count-after}
 use Rattle.writer.specs.Bundle.{Certificate, lent-bundle, count-bundle}
-use Rattle.compression.specs.Shape.{Below}
-use Rattle.keeping.specs.Kept.{kept-words}
+use Rattle.laws.specs.Below.{Below}
+use Rattle.keeping.specs.Kept.{with-bundle}
 use Rattle.keeping.specs.Begun.{blank, begun}
 use Rattle.sending.specs.Sent.{drafted, asked, main-part, with-main, coded-lent, coded-after, sent-count, sent-lent, sent-bundle, sent-station, sent-after}
 
@@ -47,7 +47,7 @@ own-fields m kind value flag round =
     record { kind = kind; value = value; flag = flag; spare = 0; station = m .station; round = record { 0 = round } }
 
 abbrev pub own-statement : Module → ℕ → ℕ → ℕ → ℕ → ℕ → Statement
-own-statement m question kind value flag round = own (hmac-code (m .key)) (m .station) question kind value flag round
+own-statement m question kind value flag round = own (statement-code (hmac-code (m .key))) (m .station) question kind value flag round
 
 module _ (m : Module) (question kind value flag round : ℕ) (g : Stage) (d : ℕ) (first second : List Statement) (slots group : List ℕ)
     (C : Certificate (m .n) first second slots group) (c e : List Statement) (same : first ++ second ≡ c ++ e) (out : List ℕ) (room : 331 ≤ length out)
@@ -140,7 +140,7 @@ module _ (m : Module) (question kind value flag round : ℕ) (g : Stage) (d : �
       → sent-station m question g d (sent-bundle m question f slots (set-of first) group (length second) out) ≡ W.as-station (m .n) (m .station) (began question g d s c)
   unfolding sent-station
   station-is low one two =
-      ap (kept-words (blank (m .n) (m .station) question g d)) bundle-is
+      ap (with-bundle (blank (m .n) (m .station) question g d)) bundle-is
       ∙ begun (m .n) (m .station) question g d s c e (C .top) p proper few
       (low-front (bundle-of s (c ++ e)) (drop (length (bundle-of s (c ++ e))) out) (subst Below lent-is low)) one two
 

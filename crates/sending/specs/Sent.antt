@@ -7,12 +7,12 @@ use Rattle.laws.specs.Pick.{pick}
 use Rattle.format.specs.declared.Fields.{Fields}
 use Rattle.format.specs.Words.{word-of}
 use Rattle.format.specs.Statement.{hmac-code}
-use Rattle.counter.specs.declared.Module.{Module}
+use Rattle.modules.specs.declared.Module.{Module}
 use Rattle.sealed.specs.Sealed.{Coded, by-coin, coding-plain, coding-coin}
 use Rattle.station.specs.declared.Stage.{Stage}
 use Rattle.station.specs.declared.Station.{Station}
 use Rattle.writer.specs.Written.{lent-after, count-after}
-use Rattle.keeping.specs.Kept.{kept-words}
+use Rattle.keeping.specs.Kept.{with-bundle}
 use Rattle.keeping.specs.Begun.{blank}
 
 -- the word count
@@ -55,4 +55,4 @@ sent-bundle m question f slots set group k out = take (sent-count set k out) (se
 
 -- the station: nothing held but the bundle that it wrote
 unfoldable pub sent-station : Module → ℕ → Stage → ℕ → List ℕ → Station
-sent-station m question g d ws = kept-words (blank (m .n) (m .station) question g d) ws
+sent-station m question g d ws = with-bundle (blank (m .n) (m .station) question g d) ws

@@ -1,15 +1,14 @@
 // Sending (document 01, "The station"): the station's own statement is coded, its bundle written, and it alone is held. The contracts cite specs/.
-use counter::Module;
 use format::Fields;
-use station::Groups;
-use station::Held;
+use modules::Module;
 use station::Identity;
+use station::KEPT_WORDS;
+use station::SLOTS_WORDS;
 use station::Stage;
 use station::Station;
 ghost use mathlib.Core.Path.{_≡_};
 ghost use Prim.Native.Nat.{_≤_};
 ghost use lib.ListN.{length, take};
-ghost use Rattle.keeping.specs.Begun.{blank as Blank};
 ghost use Rattle.sending.specs.Sent.{coded-lent, coded-after, sent-count, sent-lent, sent-bundle, sent-station, sent-after};
 
 // What sending answers: the word count, the station and the module. The bundle's words are lent.
@@ -17,33 +16,6 @@ pub struct Sent {
     pub count: usize,
     pub station: Station,
     pub after: Module,
-}
-
-// An open station that holds nothing.
-fn blank(n: u32, number: u32, question: u32, stage: Stage, decision: u32) -> Station
-    ensures { λ r. ⌜ r ≡ Blank n number question stage decision ⌝ }
-{
-    let identity = Identity {
-        n,
-        station: number,
-        question,
-    };
-    let held = Held {
-        heard: 0,
-        slots: [0; 310],
-    };
-    let groups = Groups {
-        value: [0; 160],
-        none: [0; 160],
-    };
-    Station {
-        identity,
-        stage,
-        closed: false,
-        decision,
-        held,
-        groups,
-    }
 }
 
 // The station in the stage that follows, with the bundle that it wrote: the first words of those lent.
@@ -58,7 +30,12 @@ fn begin(
     requires { ⌜ count ≤ length (now out) ⌝ }
     ensures { λ r. ⌜ r ≡ sent-station m question stage decision (take count (now (out .entry))) ⌝ }
 {
-    let t = blank(m.n, m.station, question, stage, decision);
+    let identity = Identity {
+        n: m.n,
+        station: m.station,
+        question,
+    };
+    let t = held::empty(identity, stage, false, decision);
     keeping::keep(t, &out[..count])
 }
 
@@ -71,7 +48,7 @@ fn code_main(m: Module, f: Fields, count: usize, out: &mut [u32]) -> Module
     if count == 0 {
         return m;
     }
-    if (f.kind == 1) & (f.flag == 1) {
+    if (f.kind == format::P) & (f.flag == format::R_GET) {
         let tossed = sealed::code_coin(m, &mut out[1..11], f.value);
         return tossed.after;
     }
@@ -86,9 +63,9 @@ pub fn send(
     f: Fields,
     stage: Stage,
     decision: u32,
-    slots: &[u32; 310],
+    slots: &[u32; SLOTS_WORDS],
     set: u32,
-    group: &[u32; 160],
+    group: &[u32; KEPT_WORDS],
     k: u32,
     out: &mut [u32],
 ) -> Sent
@@ -98,7 +75,7 @@ pub fn send(
         × (now (out .exit) ≡ sent-lent m question f (now (slots .entry)) set (now (group .entry)) k (now (out .entry))) ⌝ }
 {
     let w0 = format::write_fields(f);
-    let blank_code = [0u32; 8];
+    let blank_code = [0u32; format::CODE_WORDS];
     let count = writer::write_bundle(out, w0, question, &blank_code, slots, set, group, k);
     let after = code_main(m, f, count, out);
     let station = begin(m, question, stage, decision, out, count);

@@ -5,15 +5,16 @@
 //
 // Printed are n; for each site what making its module and opening its station returned; each time what the givings returned, site by site; and for
 // each site what reading its station returned, and its decision on question 1, if it has one.
-use counter::Module;
+use format::OUTPUT_WORDS;
 use libc::STDOUT_FILENO;
+use modules::Module;
 use station::Station;
 
 // What a host keeps of its site: module and station as the last call returned them, and the last bundle that was written, with its word count.
 struct Site {
     own: Module,
     station: Station,
-    bundle: [u32; 331],
+    bundle: [u32; OUTPUT_WORDS],
     count: usize,
 }
 
@@ -24,8 +25,8 @@ fn print(text: &[u8], number: u32) {
 
 // Makes the site's module and opens a station on question 1. A site where one of the two is refused has no bundle to send.
 fn start(n: u32, number: u32, proposal: u32) -> Site {
-    let made = counter::make([7; 32], n, number);
-    let mut bundle = [0u32; 331];
+    let made = modules::make([7; 32], n, number);
+    let mut bundle = [0u32; OUTPUT_WORDS];
     let opened = opening::open(made.made, 1, proposal, &mut bundle);
     print(b"\nsite ", number);
     print(b": made ", made.number);
@@ -50,7 +51,7 @@ fn hear(s: Site, from: Site, coin: u32) -> Site {
     if words.len() < count {
         return s;
     }
-    let mut bundle = [0u32; 331];
+    let mut bundle = [0u32; OUTPUT_WORDS];
     let given = giving::give(s.own, s.station, &words[0..count], coin, &mut bundle);
     print(b" ", given.number);
     let after = given.after;

@@ -10,24 +10,25 @@ use lib.ListN.{length}
 use borrow.Author.Tests.{lt-ltb, le-leb}
 use Rattle.laws.specs.Pick.{pick}
 use Rattle.laws.specs.Bools.{join}
-use Rattle.laws.specs.Refusals.{All, Test, test}
-use Rattle.format.specs.Numbers.{kept, output-words, no-certificate}
-use Rattle.format.specs.Statement.{statements}
+use Rattle.laws.specs.Refusals.{Test, test, passed-front}
+use Rattle.laws.specs.All.{All}
+use Rattle.format.specs.Numbers.{kept, output-words, no-certificate, last-round}
+use Rattle.format.specs.Statement.{statements, statement-code}
 use Rattle.format.specs.Bundle.{count-in, main-of, certificate-of, bundle-fits}
 use Rattle.rules.specs.declared.Which.the-variants.{Only}
 use Rattle.rules.specs.Rules.{rule}
 use Rattle.certificate.specs.Check.{question-fits, all-verify}
-use Rattle.counter.specs.declared.Module.{Module}
-use Rattle.counter.specs.Counter.{module-fits, last-for}
+use Rattle.modules.specs.declared.Module.{Module}
+use Rattle.modules.specs.Counter.{module-fits, last-for}
 use Rattle.station.specs.declared.Station.{Station}
 use Rattle.station.specs.Machine.{State, Outcome, refused, keeps, sends, taken, step-tests}
 use Rattle.station.specs.Words.{Lengths, state-of}
 use Rattle.station.specs.Fit.{fits}
 use Rattle.station.specs.Calls.{returned, station-tests, giving, giving-outcome}
 use Rattle.station.specs.Marked.{_by_, given}
-use Rattle.station.specs.Views.{passed-front, after, Gives, refuses, holds-on, shuts, goes-on, gives-view}
-use Rattle.station.specs.Sane.{state-back}
-use Rattle.station.specs.Fits.{kept-sane}
+use Rattle.station.specs.Laws.Views.{after, Gives, refuses, holds-on, shuts, goes-on, gives-view}
+use Rattle.station.specs.Laws.Sane.{state-back}
+use Rattle.station.specs.Laws.Fits.{kept-sane}
 
 module _ (mac : List ℕ → List ℕ → List ℕ) (m : Module) (t : Station) (ws : List ℕ) (coin : ℕ) (out : List ℕ) where
   -- where the tests 1, 2, 11, 3, 4 and 5 pass, giving is what the table's rows use
@@ -35,12 +36,12 @@ module _ (mac : List ℕ → List ℕ → List ℕ) (m : Module) (t : Station) (
       → bundle-fits (m .n) ws ≡ true → question-fits (Only (t .identity .question)) (main-of ws) (certificate-of ws) ≡ true
       → all-verify (mac (m .key)) (statements ws 1 (suc (count-in ws))) ≡ true
       → giving-outcome mac m t ws coin out
-      ≡ given (mac (m .key)) (m .n) (m .station) (last-for m (t .identity .question)) coin (state-of t) (main-of ws by certificate-of ws)
+      ≡ given (statement-code (mac (m .key))) (m .n) (m .station) (last-for m (t .identity .question)) coin (state-of t) (main-of ws by certificate-of ws)
   given-as-called room fit bit fitting still three four five =
       ap (λ (k : ℕ). pick (eqb k 0) whole (refused k)) (passed-front front rest passed)
     where
       whole : Outcome
-      whole = taken (mac (m .key)) (m .n) (m .station) (last-for m (t .identity .question)) (state-of t) (main-of ws) (certificate-of ws) coin
+      whole = taken (statement-code (mac (m .key))) last-round (m .n) (m .station) (last-for m (t .identity .question)) (state-of t) (main-of ws) (certificate-of ws) coin
 
       rest : List Test
       rest = test (rule (m .n) (main-of ws) (certificate-of ws)) no-certificate ∷ step-tests (state-of t) (main-of ws)

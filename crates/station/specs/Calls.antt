@@ -3,20 +3,20 @@ use Prim.Native.Nat.{ℕ}
 use mathlib.Core.Bool.{true, not, _&&_}
 use mathlib.Core.List.{List, [], _∷_, _++_}
 use lib.Dec.{eqb, ltb, leb}
-use lib.ListN.{length, replicate}
+use lib.ListN.{length}
 use Rattle.laws.specs.Pick.{pick}
 use Rattle.laws.specs.Refusals.{Test, test, first-failed}
-use Rattle.format.specs.Numbers.{none, short-output, output-words, out-of-range, station-closed, bundle-words}
-use Rattle.format.specs.Statement.{step}
-use Rattle.format.specs.Bundle.{main-of, certificate-of}
+use Rattle.format.specs.Numbers.{none, short-output, output-words, out-of-range, station-closed, bundle-words, last-round}
+use Rattle.format.specs.Statement.{step, statement-code}
+use Rattle.format.specs.Bundle.{main-of, certificate-of, bundle-of, over}
 use Rattle.rules.specs.declared.Which.the-variants.{Only}
 use Rattle.certificate.specs.Check.{bundle-tests}
-use Rattle.counter.specs.declared.Module.{Module}
-use Rattle.counter.specs.Counter.{module-fits, last-for, advanced}
+use Rattle.modules.specs.declared.Module.{Module}
+use Rattle.modules.specs.Counter.{module-fits, last-for, advanced}
 use Rattle.station.specs.declared.Stage.the-variants.{Gathering}
 use Rattle.station.specs.declared.Station.{Station}
 use Rattle.station.specs.Machine.{Outcome, refused, keeps, sends, opened, taken, step-tests}
-use Rattle.station.specs.Words.{state-of, as-station, bundle-of, over}
+use Rattle.station.specs.Words.{empty-station, state-of, as-station}
 use Rattle.station.specs.Fit.{fits}
 
 -- all that a call returns: the number, the word count, the station, the module, and the lent output
@@ -46,15 +46,7 @@ unless l o = pick (eqb (first-failed l) 0) o (refused (first-failed l))
 
 -- a refused opening returns this station: of no group, closed, undecided and otherwise zero. Every call refuses it
 unfoldable pub no-station : Station
-no-station =
-    record {
-      identity = record { n = 0; station = 0; question = 0 };
-      stage = Gathering;
-      closed = true;
-      decision = none;
-      held = record { heard = 0; slots = replicate 310 0 };
-      groups = record { value = replicate 160 0; none = replicate 160 0 };
-    }
+no-station = empty-station (record { n = 0; station = 0; question = 0 }) Gathering true none
 
 -- what a giving tests before it looks at the words: 1, 2, 11
 abbrev pub station-tests : Module → Station → ℕ → List ℕ → List Test
@@ -71,7 +63,7 @@ module _ (mac : List ℕ → List ℕ → List ℕ) where
 
   abbrev pub opening-outcome : Module → ℕ → ℕ → List ℕ → Outcome
   opening-outcome m question proposal out =
-      unless (open-tests m proposal out) (opened (mac (m .key)) (m .n) (m .station) (last-for m question) question proposal)
+      unless (open-tests m proposal out) (opened (statement-code (mac (m .key))) last-round (m .n) (m .station) (last-for m question) question proposal)
 
   unfoldable pub opening : Module → ℕ → ℕ → List ℕ → Returned
   opening m question proposal out = returned m no-station out (opening-outcome m question proposal out)
@@ -84,7 +76,7 @@ module _ (mac : List ℕ → List ℕ → List ℕ) where
   abbrev pub giving-outcome : Module → Station → List ℕ → ℕ → List ℕ → Outcome
   giving-outcome m t ws coin out =
       unless (give-tests m t ws coin out)
-      (taken (mac (m .key)) (m .n) (m .station) (last-for m (t .identity .question)) (state-of t) (main-of ws) (certificate-of ws) coin)
+      (taken (statement-code (mac (m .key))) last-round (m .n) (m .station) (last-for m (t .identity .question)) (state-of t) (main-of ws) (certificate-of ws) coin)
 
   unfoldable pub giving : Module → Station → List ℕ → ℕ → List ℕ → Returned
   giving m t ws coin out = returned m t out (giving-outcome m t ws coin out)

@@ -9,20 +9,20 @@ use lib.ListN.{length}
 use Rattle.laws.specs.Pick.{pick}
 use Rattle.laws.specs.Bools.{never}
 use Rattle.laws.specs.Refusals.{first-failed}
-use Rattle.format.specs.Numbers.{kind-P, none, D-GET, R-GET, kept, sent, sent-decided, closed-now, not-above}
+use Rattle.format.specs.Numbers.{kind-P, none, D-GET, R-GET, kept, sent, sent-decided, closed-now, not-above, last-round}
 use Rattle.format.specs.Group.{quorum}
-use Rattle.format.specs.Statement.{Statement, step}
-use Rattle.format.specs.Bundle.{main-of, certificate-of}
+use Rattle.format.specs.Statement.{Statement, step, statement-code}
+use Rattle.format.specs.Bundle.{main-of, certificate-of, bundle-of, over}
 use Rattle.rules.specs.Rules.{some, some-value}
 use Rattle.certificate.specs.Check.{every}
-use Rattle.counter.specs.declared.Last.{Last}
-use Rattle.counter.specs.declared.Module.{Module}
-use Rattle.counter.specs.Counter.{last-for, above}
+use Rattle.modules.specs.declared.Last.{Last}
+use Rattle.modules.specs.declared.Module.{Module}
+use Rattle.modules.specs.Counter.{last-for, above}
 use Rattle.station.specs.declared.Stage.{Stage}
 use Rattle.station.specs.declared.Stage.the-variants.{Gathering, Proposing, Voting}
 use Rattle.station.specs.declared.Station.{Station}
 use Rattle.station.specs.Machine.{State, Outcome, refused, keeps, sends, Next, next, proposing, insert, has-value, vote-value, decided, carried, decision-after, keeping, follows, decision-at, closes, shut, moved, own, began, ended, taken}
-use Rattle.station.specs.Words.{state-of, bundle-of, over}
+use Rattle.station.specs.Words.{state-of}
 use Rattle.station.specs.Calls.{returned, give-tests, giving}
 use Rattle.station.specs.Demand.{tossing, CoinEffect, no-effect, tossed}
 
@@ -55,22 +55,22 @@ number-20 old new e = rw e (go (ltb old none))
     go true = refl
     go false = refl
 
-module _ (code : List ℕ → List ℕ) (n number : ℕ) (last : Last) where
+module _ (code : Statement → List ℕ) (top n number : ℕ) (last : Last) where
   -- what comes of coin 0 and of coin 1
   pub data Tossed (question : ℕ) (of-0 of-1 : Outcome) : Type 0 where
     no-toss : of-0 ≡ of-1 → Tossed question of-0 of-1
     toss : (r d : ℕ) (votes : List Statement) → of-0 ≡ tossing code number question r d votes 0 → of-1 ≡ tossing code number question r d votes 1 → Tossed question of-0 of-1
 
-  ended-tossed : (t : State) → (ltb (carried (t .held)) none ≡ false → decided (t .held) ≡ none) → Tossed (t .question) (ended code n number last t 0) (ended code n number last t 1)
+  ended-tossed : (t : State) → (ltb (carried (t .held)) none ≡ false → decided (t .held) ≡ none) → Tossed (t .question) (ended code top n number last t 0) (ended code top n number last t 1)
   unfolding ended pick follows step
-  ended-tossed t nothing = go (closes (t .stage)) (t .stage)
+  ended-tossed t nothing = go (closes top (t .stage)) (t .stage)
     where
       d : Stage → ℕ
       d g = decision-at g (t .decision) (t .held)
 
       go : (c : Bool) (g : Stage) → Tossed (t .question)
-          (pick c (keeps closed-now (shut code n number last t (d g))) (moved code n number last t (follows n g t 0) (d g)))
-          (pick c (keeps closed-now (shut code n number last t (d g))) (moved code n number last t (follows n g t 1) (d g)))
+          (pick c (keeps closed-now (shut t (d g))) (moved code top n number last t (follows n g t 0) (d g)))
+          (pick c (keeps closed-now (shut t (d g))) (moved code top n number last t (follows n g t 1) (d g)))
       go true g = no-toss refl
       go false Gathering = no-toss refl
       go false (Proposing r f) = no-toss refl
@@ -92,7 +92,7 @@ module _ (code : List ℕ → List ℕ) (n number : ℕ) (last : Last) where
           answer = pick (ltb (t .decision) none || eqb e none) sent sent-decided
 
           votes : (b : Bool) → ltb (carried (t .held)) none ≡ b
-              → Tossed (t .question) (moved code n number last t (pick b by-votes by-coin-0) e) (moved code n number last t (pick b by-votes by-coin-1) e)
+              → Tossed (t .question) (moved code top n number last t (pick b by-votes by-coin-0) e) (moved code top n number last t (pick b by-votes by-coin-1) e)
           votes true h = no-toss refl
           votes false h = coins (above last (t .question) (step (own code number (t .question) kind-P 0 R-GET (r .0 + 1))))
             where
@@ -109,20 +109,20 @@ module _ (code : List ℕ → List ℕ) (n number : ℕ) (last : Last) where
                   toss (r .0 + 1) e (t .held) (ap (λ (x : ℕ). sends x (s 0) (t .held ++ []) (u 0)) k) (ap (λ (x : ℕ). sends x (s 1) (t .held ++ []) (u 1)) k)
               coins false = no-toss refl
 
-  taken-tossed : (t : State) (m : Statement) (c : List Statement) → Tossed (t .question) (taken code n number last t m c 0) (taken code n number last t m c 1)
+  taken-tossed : (t : State) (m : Statement) (c : List Statement) → Tossed (t .question) (taken code top n number last t m c 0) (taken code top n number last t m c 1)
   unfolding taken pick
   taken-tossed t m c = go (ltb (length (insert m (t .held))) (quorum n))
     where
-      go : (b : Bool) → Tossed (t .question) (pick b (keeps kept (keeping n t m c)) (ended code n number last (keeping n t m c) 0))
-          (pick b (keeps kept (keeping n t m c)) (ended code n number last (keeping n t m c) 1))
+      go : (b : Bool) → Tossed (t .question) (pick b (keeps kept (keeping n t m c)) (ended code top n number last (keeping n t m c) 0))
+          (pick b (keeps kept (keeping n t m c)) (ended code top n number last (keeping n t m c) 1))
       go true = no-toss refl
       go false = ended-tossed (keeping n t m c) (inserted m (t .held))
 
 -- ---- all that giving returns
 module _ (mac : List ℕ → List ℕ → List ℕ) (m : Module) (t : Station) (ws out : List ℕ) where
   -- what a toss returns: 20, and a bundle whose main statement is a P flagged R-GET of round r with the coin as its value
-  pub tossed-says : (r d : ℕ) (votes : List Statement) (coin : ℕ) → let x = returned m t out (tossing (mac (m .key)) (m .station) (t .identity .question) r d votes coin) in
-      (x .number ≡ sent) × (x .lent ≡ over (bundle-of (own (mac (m .key)) (m .station) (t .identity .question) kind-P coin R-GET r) (votes ++ [])) out)
+  pub tossed-says : (r d : ℕ) (votes : List Statement) (coin : ℕ) → let x = returned m t out (tossing (statement-code (mac (m .key))) (m .station) (t .identity .question) r d votes coin) in
+      (x .number ≡ sent) × (x .lent ≡ over (bundle-of (own (statement-code (mac (m .key))) (m .station) (t .identity .question) kind-P coin R-GET r) (votes ++ [])) out)
   unfolding returned
   tossed-says r d votes coin = (refl, refl)
 
@@ -134,12 +134,12 @@ module _ (mac : List ℕ → List ℕ → List ℕ) (m : Module) (t : Station) (
       k = first-failed (give-tests mac m t ws 0 out)
 
       whole : ℕ → Outcome
-      whole coin = taken (mac (m .key)) (m .n) (m .station) (last-for m (t .identity .question)) (state-of t) (main-of ws) (certificate-of ws) coin
+      whole coin = taken (statement-code (mac (m .key))) last-round (m .n) (m .station) (last-for m (t .identity .question)) (state-of t) (main-of ws) (certificate-of ws) coin
 
       go : (b : Bool) → giving mac m t ws 0 out ≡ returned m t out (pick b (whole 0) (refused k)) → giving mac m t ws 1 out ≡ returned m t out (pick b (whole 1) (refused k)) → CoinEffect mac m t ws out
-      go true x y = from (taken-tossed (mac (m .key)) (m .n) (m .station) (last-for m (t .identity .question)) (state-of t) (main-of ws) (certificate-of ws))
+      go true x y = from (taken-tossed (statement-code (mac (m .key))) last-round (m .n) (m .station) (last-for m (t .identity .question)) (state-of t) (main-of ws) (certificate-of ws))
         where
-          from : Tossed (mac (m .key)) (m .n) (m .station) (last-for m (t .identity .question)) (t .identity .question) (whole 0) (whole 1) → CoinEffect mac m t ws out
+          from : Tossed (statement-code (mac (m .key))) last-round (m .n) (m .station) (last-for m (t .identity .question)) (t .identity .question) (whole 0) (whole 1) → CoinEffect mac m t ws out
           from (no-toss e) = no-effect (x ∙ ap (returned m t out) e ∙ sym y)
           from (toss r d votes e f) = tossed r d votes (x ∙ ap (returned m t out) e) (y ∙ ap (returned m t out) f)
       go false x y = no-effect (x ∙ sym y)

@@ -7,24 +7,24 @@ use lib.Dec.{eqb, ltb, leb}
 use lib.ListN.{length}
 use Rattle.laws.specs.Pick.{pick}
 use Rattle.laws.specs.Refusals.{first-failed}
-use Rattle.format.specs.Numbers.{kind-INIT, none, D-GET, kept, sent, sent-decided, closed-now, not-above, output-words, bundle-words}
+use Rattle.format.specs.Numbers.{kind-INIT, none, D-GET, kept, sent, sent-decided, closed-now, not-above, output-words, bundle-words, last-round}
 use Rattle.format.specs.Group.{quorum}
 use Rattle.format.specs.Words.{step-of}
-use Rattle.format.specs.Statement.{Statement, step}
-use Rattle.format.specs.Bundle.{main-of, certificate-of}
-use Rattle.counter.specs.declared.Module.{Module}
-use Rattle.counter.specs.Counter.{module-fits, last-for, above, advanced}
+use Rattle.format.specs.Statement.{Statement, step, statement-code}
+use Rattle.format.specs.Bundle.{main-of, certificate-of, bundle-of, over}
+use Rattle.modules.specs.declared.Module.{Module}
+use Rattle.modules.specs.Counter.{module-fits, last-for, above, advanced}
 use Rattle.station.specs.declared.Stage.{Stage}
 use Rattle.station.specs.declared.Stage.the-variants.{Gathering, Proposing, Voting}
 use Rattle.station.specs.declared.Station.{Station}
 use Rattle.station.specs.Machine.{State, Outcome, refused, keeps, sends, Next, own, began, shut, moved, keeping, follows, decision-at, closes, ended, taken}
-use Rattle.station.specs.Words.{state-of, as-station, bundle-of, over}
+use Rattle.station.specs.Words.{state-of, as-station}
 use Rattle.station.specs.Calls.{Returned, returned, opening, give-tests, giving}
 
 -- 20, eleven words, and a station that gathers, holds its INIT alone and names no decision
 abbrev pub opened-with : (List ℕ → List ℕ → List ℕ) → Module → ℕ → ℕ → List ℕ → Returned
 opened-with mac m question proposal out =
-    let s = own (mac (m .key)) (m .station) question kind-INIT proposal D-GET 0 in
+    let s = own (statement-code (mac (m .key))) (m .station) question kind-INIT proposal D-GET 0 in
     record {
       number = sent;
       count = bundle-words 0;
@@ -69,23 +69,23 @@ module _ (mac : List ℕ → List ℕ → List ℕ) (m : Module) (t : Station) (
       x = follows (m .n) (t .stage) k coin
 
       s : Statement
-      s = own (mac (m .key)) (m .station) (t .identity .question) (x .kind) (x .value) (x .flag) (x .round)
+      s = own (statement-code (mac (m .key))) (m .station) (t .identity .question) (x .kind) (x .value) (x .flag) (x .round)
 
       sent-on : (a : Bool) (number : ℕ) → Keeps (pick a (sends number s (x .first ++ x .second) (began (t .identity .question) (x .stage) d s (x .first))) (refused not-above))
       sent-on true number = stays (t .stage) (t .decision) (k .held) there
       sent-on false number = refl
 
-      end : (c : Bool) → Keeps (pick c (keeps closed-now (shut (mac (m .key)) (m .n) (m .station) (last-for m (t .identity .question)) k d))
-          (moved (mac (m .key)) (m .n) (m .station) (last-for m (t .identity .question)) k x d))
+      end : (c : Bool) → Keeps (pick c (keeps closed-now (shut k d))
+          (moved (statement-code (mac (m .key))) last-round (m .n) (m .station) (last-for m (t .identity .question)) k x d))
       end true = stays (t .stage) (t .decision) (k .held) there
       end false =
           sent-on (above (last-for m (t .identity .question)) (t .identity .question) (step s)) (pick (ltb (t .decision) none || eqb d none) sent sent-decided)
 
-      take-in : (b : Bool) → Keeps (pick b (keeps kept k) (ended (mac (m .key)) (m .n) (m .station) (last-for m (t .identity .question)) k coin))
+      take-in : (b : Bool) → Keeps (pick b (keeps kept k) (ended (statement-code (mac (m .key))) last-round (m .n) (m .station) (last-for m (t .identity .question)) k coin))
       take-in true = refl
-      take-in false = end (closes (t .stage))
+      take-in false = end (closes last-round (t .stage))
 
-      go : (b : Bool) → Keeps (pick b (taken (mac (m .key)) (m .n) (m .station) (last-for m (t .identity .question)) (state-of t) (main-of ws) (certificate-of ws) coin)
+      go : (b : Bool) → Keeps (pick b (taken (statement-code (mac (m .key))) last-round (m .n) (m .station) (last-for m (t .identity .question)) (state-of t) (main-of ws) (certificate-of ws) coin)
           (refused (first-failed (give-tests mac m t ws coin out))))
       go true = take-in (ltb (length (k .held)) (quorum (m .n)))
       go false = refl

@@ -8,12 +8,12 @@ use mathlib.Core.Path.{_≡_}
 use lib.Dec.{eqb}
 use lib.ListN.{length, take}
 use Rattle.format.specs.Numbers.{kind-P, R-GET, code-words, place-of, sent, output-words, out-of-range, malformed, other-question, wrong-code, no-certificate}
-use Rattle.format.specs.Statement.{Statement, words-at, covered-at}
+use Rattle.format.specs.Statement.{Statement, words-at, covered-at, statement-code}
 use Rattle.format.specs.Bundle.{main-of}
 use Rattle.rules.specs.declared.Which.the-variants.{Any}
 use Rattle.certificate.specs.Check.{check-by}
-use Rattle.counter.specs.declared.Module.{Module}
-use Rattle.counter.specs.Counter.{module-fits}
+use Rattle.modules.specs.declared.Module.{Module}
+use Rattle.modules.specs.Counter.{module-fits}
 use Rattle.sealed.specs.Sealed.{is-toss, coding-plain, coding-coin}
 use Rattle.station.specs.declared.Station.{Station}
 use Rattle.station.specs.Machine.{Outcome, sends, own, began, proposing}
@@ -39,7 +39,7 @@ abbrev pub as-given : ℕ → Module → Station → List ℕ → Returned
 as-given k m t out = record { number = k; count = 0; station = t; after = m; lent = out }
 
 -- "P flagged R-GET with the call's coin": 20, a P of round r with the coin as its value; the votes are its certificate
-abbrev pub tossing : (List ℕ → List ℕ) → ℕ → ℕ → ℕ → ℕ → List Statement → ℕ → Outcome
+abbrev pub tossing : (Statement → List ℕ) → ℕ → ℕ → ℕ → ℕ → List Statement → ℕ → Outcome
 tossing code number question r d votes coin =
     let s = own code number question kind-P coin R-GET r in
     sends sent s (votes ++ []) (began question (proposing r R-GET) d s votes)
@@ -79,8 +79,8 @@ module _ (mac : List ℕ → List ℕ → List ℕ) where
   pub data CoinEffect (m : Module) (t : Station) (ws out : List ℕ) : Type 0 where
     no-effect : giving mac m t ws 0 out ≡ giving mac m t ws 1 out → CoinEffect m t ws out
     tossed : (r d : ℕ) (votes : List Statement)
-        → giving mac m t ws 0 out ≡ returned m t out (tossing (mac (m .key)) (m .station) (t .identity .question) r d votes 0)
-        → giving mac m t ws 1 out ≡ returned m t out (tossing (mac (m .key)) (m .station) (t .identity .question) r d votes 1) → CoinEffect m t ws out
+        → giving mac m t ws 0 out ≡ returned m t out (tossing (statement-code (mac (m .key))) (m .station) (t .identity .question) r d votes 0)
+        → giving mac m t ws 1 out ≡ returned m t out (tossing (statement-code (mac (m .key))) (m .station) (t .identity .question) r d votes 1) → CoinEffect m t ws out
 
   pub record Demand-2 : Type 0 where
     -- "every message that a station writes is valid to every station of its group"; "its word count with it"

@@ -1,6 +1,6 @@
 -- "A station fits if, unless closed, it holds fewer than q well-formed statements of its question and step, its own among them, and the set names
 -- exactly their stations; docs/ lists what its other kept words need": docs/STATION.md.
-use Prim.Native.Nat.{ℕ, zero, suc, _+_, _-_, _*_, _/_, _^_}
+use Prim.Native.Nat.{ℕ, zero, suc, _+_, _-_, _*_, _^_}
 use mathlib.Core.Bool.{Bool, true, _&&_, _||_}
 use mathlib.Core.List.{List}
 use lib.Count.{ones}
@@ -8,7 +8,7 @@ use lib.Dec.{eqb, leb, ltb}
 use lib.ListN.{getD}
 use Rattle.laws.specs.Pick.{pick}
 use Rattle.laws.specs.Sets.{bit}
-use Rattle.format.specs.Numbers.{none, last-round}
+use Rattle.format.specs.Numbers.{none, last-round, statement-words}
 use Rattle.format.specs.Group.{quorum}
 use Rattle.format.specs.Words.{flag-of, formed, fields-of, step-of, kind-of, round-of, station-of}
 use Rattle.format.specs.Statement.{statements}
@@ -19,8 +19,8 @@ use Rattle.certificate.specs.Check.{every}
 use Rattle.station.specs.declared.Stage.{Stage}
 use Rattle.station.specs.declared.Stage.the-variants.{Gathering, Proposing, Voting}
 use Rattle.station.specs.declared.Station.{Station}
-use Rattle.station.specs.Machine.{stage-step}
-use Rattle.station.specs.Words.{sites, held-by, kept-for-value, kept-for-none}
+use Rattle.station.specs.Machine.{stage-step, kept-for-value, kept-for-none}
+use Rattle.station.specs.Words.{sites, kept-words, held-by}
 
 -- k words from a place on, all zero
 unfoldable pub zeros : List ℕ → ℕ → ℕ → Bool
@@ -30,16 +30,16 @@ zeros ws at (suc k) = eqb (getD ws at 0) 0 && zeros ws (suc at) k
 -- a slot whose bit is set: a well-formed statement of its station, of the question and of the step
 abbrev pub slot-fits : ℕ → ℕ → ℕ → ℕ → List ℕ → Bool
 slot-fits n question step i slots =
-    formed n (fields-of (getD slots (i * 10) 0))
-    && eqb (station-of (getD slots (i * 10) 0)) (i + 1)
-    && eqb (getD slots (i * 10 + 1) 0) question
-    && eqb (step-of (kind-of (getD slots (i * 10) 0)) (round-of (getD slots (i * 10) 0))) step
+    formed n (fields-of (getD slots (i * statement-words) 0))
+    && eqb (station-of (getD slots (i * statement-words) 0)) (i + 1)
+    && eqb (getD slots (i * statement-words + 1) 0) question
+    && eqb (step-of (kind-of (getD slots (i * statement-words) 0)) (round-of (getD slots (i * statement-words) 0))) step
 
 -- k slots from slot i on: as above where the bit is set, zero elsewhere
 unfoldable pub slots-fit : ℕ → ℕ → ℕ → ℕ → List ℕ → ℕ → ℕ → Bool
 slots-fit n question step set slots i zero = true
 slots-fit n question step set slots i (suc k) =
-    pick (bit set i) (slot-fits n question step i slots) (zeros slots (i * 10) 10) && slots-fit n question step set slots (suc i) k
+    pick (bit set i) (slot-fits n question step i slots) (zeros slots (i * statement-words) statement-words) && slots-fit n question step set slots (suc i) k
 
 -- the stage's round is in range; a proposing station's flag is its own proposal's, whose word 0 this is
 abbrev pub stage-fits : Stage → ℕ → Bool
@@ -53,7 +53,7 @@ group-fits n question g ws =
     holds g (statements ws 0 (g .size))
     && all-formed n ws 0 (g .size)
     && every (λ s. eqb (s .question) question) (statements ws 0 (g .size))
-    && zeros ws (g .size * 10) (160 - g .size * 10)
+    && zeros ws (g .size * statement-words) (kept-words - g .size * statement-words)
 
 -- the held statements: no bit behind the last slot, fewer than q, the own among them, and each slot as its bit says
 abbrev pub held-fits : ℕ → ℕ → Station → Bool
@@ -66,7 +66,7 @@ held-fits n number t =
 -- the other kept words
 abbrev pub rest-fits : ℕ → ℕ → Station → Bool
 rest-fits n number t =
-    stage-fits (t .stage) (getD (t .held .slots) ((number - 1) * 10) 0)
+    stage-fits (t .stage) (getD (t .held .slots) ((number - 1) * statement-words) 0)
     && leb (t .decision) none
     && group-fits n (t .identity .question) (kept-for-value n (t .stage) (held-by t)) (t .groups .value)
     && group-fits n (t .identity .question) (kept-for-none n (t .stage) (held-by t)) (t .groups .none)

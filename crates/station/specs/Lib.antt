@@ -8,17 +8,6 @@ pub mod Marked
 pub mod Order
 pub mod Coin
 pub mod Decision
-pub mod ReadBack
-pub mod Slots
-pub mod Sane
-pub mod FitSane
-pub mod Insert
-pub mod Keep
-pub mod Pieces
-pub mod End
-pub mod Views
-pub mod Fits
-pub mod Bundles
 pub mod Written
 pub mod Answers
 pub mod Refused
@@ -26,3 +15,4 @@ pub mod NoStation
 pub mod Seal
 pub mod Theorem
 pub mod AsCalled
+pub mod Laws

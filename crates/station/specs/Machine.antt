@@ -10,10 +10,12 @@ use Rattle.format.specs.Numbers.{kind-INIT, kind-P, kind-V, none, D-GET, R-GET,
 use Rattle.format.specs.Group.{quorum, backing}
 use Rattle.format.specs.Words.{step-of}
 use Rattle.format.specs.Statement.{Statement, step}
-use Rattle.rules.specs.Rules.{group, proposals, some, some-D-GET, some-value}
+use Rattle.rules.specs.declared.Group.{Group}
+use Rattle.rules.specs.declared.Which.the-variants.{Any, Only}
+use Rattle.rules.specs.Rules.{group, proposals, some, some-D-GET, some-value, none-votes}
 use Rattle.certificate.specs.Check.{every}
-use Rattle.counter.specs.declared.Last.{Last}
-use Rattle.counter.specs.Counter.{above}
+use Rattle.modules.specs.declared.Last.{Last}
+use Rattle.modules.specs.Counter.{above}
 use Rattle.sealed.specs.Sealed.{signed}
 use Rattle.station.specs.declared.Stage.{Stage}
 use Rattle.station.specs.declared.Stage.the-variants.{Gathering, Proposing, Voting}
@@ -66,6 +68,27 @@ supplies-for-none (Voting r) s = false
 -- "the lowest-numbered station's is taken": a new bundle's, unless a lower-numbered station supplies it already
 abbrev pub takes : (Statement → Bool) → List Statement → Statement → Bool
 takes p held m = p m && not (some (λ s. p s && ltb (s .station) (m .station)) held)
+
+-- the value of the first statement that a test takes, or 2
+unfoldable pub leading : (Statement → Bool) → List Statement → ℕ
+leading p [] = 2
+leading p (s ∷ h) = pick (p s) (s .value) (leading p h)
+
+-- no statement at all
+abbrev pub no-group : Group
+no-group = group 0 0 0 Any Any
+
+-- what the kept groups are, by the stage and the statements held: there exactly where one of these supplies it
+abbrev pub value-group : ℕ → Stage → ℕ → Group
+value-group n Gathering v = no-group
+value-group n (Proposing r f) v = proposals n (r .0 - 1) (Only v) Any
+value-group n (Voting r) v = proposals n (r .0) (Only v) Any
+
+unfoldable pub kept-for-value : ℕ → Stage → List Statement → Group
+kept-for-value n g h = pick (some (supplies-for-value g) h) (value-group n g (leading (supplies-for-value g) h)) no-group
+
+unfoldable pub kept-for-none : ℕ → Stage → List Statement → Group
+kept-for-none n g h = pick (some (supplies-for-none g) h) (none-votes n (round-in g - 1)) no-group
 
 -- a statement among those held, by rising station
 unfoldable pub insert : Statement → List Statement → List Statement
@@ -155,11 +178,11 @@ follows n Gathering t coin = after-inits n (t .held)
 follows n (Proposing r f) t coin = after-proposals (r .0) t
 follows n (Voting r) t coin = after-votes (r .0) t coin
 
--- "The votes of round 65,535 are counted, then the station closes without a bundle."
-abbrev pub closes : Stage → Bool
-closes Gathering = false
-closes (Proposing r f) = false
-closes (Voting r) = eqb (r .0) last-round
+-- "The votes of round 65,535 are counted, then the station closes without a bundle.": those of the last round that there is
+abbrev pub closes : ℕ → Stage → Bool
+closes top Gathering = false
+closes top (Proposing r f) = false
+closes top (Voting r) = eqb (r .0) top
 
 -- the decision behind the end of a step: only votes decide
 abbrev pub decision-at : Stage → ℕ → List Statement → ℕ
@@ -173,10 +196,18 @@ pub data Outcome : Type 0 where
   keeps : ℕ → State → Outcome
   sends : ℕ → Statement → List Statement → State → Outcome
 
--- a statement of the module's station, with its code
-abbrev pub own : (List ℕ → List ℕ) → ℕ → ℕ → ℕ → ℕ → ℕ → ℕ → Statement
+-- a statement of the module's station, with the code that is made of it
+abbrev pub own : (Statement → List ℕ) → ℕ → ℕ → ℕ → ℕ → ℕ → ℕ → Statement
 own code number question kind value flag round =
-    signed code (record { kind = kind; value = value; flag = flag; station = number; round = round; question = question; code = [] })
+    record {
+      kind = kind;
+      value = value;
+      flag = flag;
+      station = number;
+      round = round;
+      question = question;
+      code = code (record { kind = kind; value = value; flag = flag; station = number; round = round; question = question; code = [] });
+    }
 
 -- the state of a station that has just sent: its own statement held, its own certificate kept where a later bundle needs it
 abbrev pub began : ℕ → Stage → ℕ → Statement → List Statement → State
@@ -195,7 +226,13 @@ began question g decision s c =
 abbrev pub sending : Last → ℕ → Statement → List Statement → List Statement → State → Outcome
 sending last number s c d t = pick (above last (s .question) (step s)) (sends number s (c ++ d) t) (refused not-above)
 
-module _ (code : List ℕ → List ℕ) (n number : ℕ) (last : Last) where
+-- a closed station: its decision alone is left
+abbrev pub shut : State → ℕ → State
+shut t d =
+    record { question = t .question; stage = t .stage; closed = true; decision = d; held = []; for-value = []; for-none = [] }
+
+-- by a code of statements, the last round that there is, the group's size, the station's number, and the module's last pair
+module _ (code : Statement → List ℕ) (top n number : ℕ) (last : Last) where
   -- opening: an INIT is sent, and the station gathers
   abbrev pub opened : ℕ → ℕ → Outcome
   opened question proposal =
@@ -208,14 +245,10 @@ module _ (code : List ℕ → List ℕ) (n number : ℕ) (last : Last) where
       let s = own code number (t .question) (x .kind) (x .value) (x .flag) (x .round) in
       sending last (pick (ltb (t .decision) none || eqb d none) sent sent-decided) s (x .first) (x .second) (began (t .question) (x .stage) d s (x .first))
 
-  abbrev pub shut : State → ℕ → State
-  shut t d =
-      record { question = t .question; stage = t .stage; closed = true; decision = d; held = []; for-value = []; for-none = [] }
-
   unfoldable pub ended : State → ℕ → Outcome
   ended t coin =
       let d = decision-at (t .stage) (t .decision) (t .held) in
-      pick (closes (t .stage)) (keeps closed-now (shut t d)) (moved t (follows n (t .stage) t coin) d)
+      pick (closes top (t .stage)) (keeps closed-now (shut t d)) (moved t (follows n (t .stage) t coin) d)
 
   -- "The q-th statement ends the step in that call."
   unfoldable pub taken : State → Statement → List Statement → ℕ → Outcome

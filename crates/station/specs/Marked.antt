@@ -5,16 +5,17 @@ use mathlib.Core.List.{List, [], _∷_}
 use mathlib.Core.Path.{_≡_, refl}
 use lib.ListN.{replicate}
 use Rattle.laws.specs.Pick.{pick}
-use Rattle.laws.specs.Refusals.{All, test, first-failed}
-use Rattle.format.specs.Numbers.{kind-INIT, kind-P, kind-V, none, D-GET, R-GET, no-certificate, kept, sent, sent-decided, conflicting, not-above}
+use Rattle.laws.specs.Refusals.{test, first-failed}
+use Rattle.laws.specs.All.{All}
+use Rattle.format.specs.Numbers.{kind-INIT, kind-P, kind-V, none, D-GET, R-GET, no-certificate, kept, sent, sent-decided, conflicting, not-above, last-round}
 use Rattle.format.specs.Group.{quorum, backing}
 use Rattle.format.specs.Words.{fields-of, word-of, formed, step-of}
-use Rattle.format.specs.Statement.{Statement, written, step}
+use Rattle.format.specs.Statement.{Statement, written, step, statement-code}
 use Rattle.rules.specs.Rules.{rule, wanted, some, in-order, holds, first-group, second-group, has-second, early-toss, rest-holds, spread, groups-hold}
 use Rattle.certificate.specs.Check.{every}
-use Rattle.counter.specs.declared.Last.{Last}
-use Rattle.counter.specs.declared.Module.{Module}
-use Rattle.counter.specs.Counter.{no-pair, pair, above}
+use Rattle.modules.specs.declared.Last.{Last}
+use Rattle.modules.specs.declared.Module.{Module}
+use Rattle.modules.specs.Counter.{no-pair, pair, above}
 use Rattle.sealed.specs.Sealed.{coding-plain}
 use Rattle.station.specs.declared.Stage.{Stage}
 use Rattle.station.specs.declared.Stage.the-variants.{Gathering}
@@ -65,11 +66,11 @@ unless-kept f (sends k s c t) = writes k (s .kind) (s .value) (s .flag) (s .roun
 
 -- a station is given a bundle that is read already, well-formed, of its question and with codes that verify: what giving comes to then
 -- (`given-as-called`)
-abbrev pub given : (List ℕ → List ℕ) → ℕ → ℕ → Last → ℕ → State → Bundle → Outcome
+abbrev pub given : (Statement → List ℕ) → ℕ → ℕ → Last → ℕ → State → Bundle → Outcome
 given code n number last coin t b =
-    unless (test (rule n (b .main) (b .certificate)) no-certificate ∷ step-tests t (b .main)) (taken code n number last t (b .main) (b .certificate) coin)
+    unless (test (rule n (b .main) (b .certificate)) no-certificate ∷ step-tests t (b .main)) (taken code last-round n number last t (b .main) (b .certificate) coin)
 
-module _ (code : List ℕ → List ℕ) (n coin : ℕ) where
+module _ (code : Statement → List ℕ) (n coin : ℕ) where
   -- station 1, whose module has coded nothing yet; while it keeps, it is given the next
   unfoldable pub seen : List Bundle → Outcome → Seen
   seen [] o = unless-kept (λ k t. answers k) o
@@ -90,7 +91,7 @@ module-at key last = record { key = key; n = 4; station = 1; last = pair 1 last 
 
 abbrev pub Holds : (List ℕ → List ℕ → List ℕ) → List ℕ → Row → Type 0
 Holds mac key (counts n q a b) = (quorum n ≡ q) × ((backing n 0 ≡ a) × (backing n 1 ≡ b))
-Holds mac key (gives n g b l coin x) = seen (mac key) n coin l (keeps kept (began 1 g none (b .main) (b .certificate))) ≡ x
+Holds mac key (gives n g b l coin x) = seen (statement-code (mac key)) n coin l (keeps kept (began 1 g none (b .main) (b .certificate))) ≡ x
 Holds mac key (codes last s k) = coding-plain mac (module-at key last) (written s) .number ≡ k
 
 abbrev pub marked : List Row

@@ -12,12 +12,12 @@ use Rattle.laws.specs.Pick.{pick}
 use Rattle.laws.specs.Bools.{never, both, is-false}
 use Rattle.laws.specs.Refusals.{first-failed}
 use Rattle.format.specs.Numbers.{none, output-words, short-output, out-of-range}
-use Rattle.counter.specs.declared.Module.{Module}
-use Rattle.counter.specs.Counter.{module-fits}
+use Rattle.modules.specs.declared.Module.{Module}
+use Rattle.modules.specs.Counter.{module-fits}
 use Rattle.station.specs.Fit.{fits}
 use Rattle.station.specs.Returns.{unrefused}
 use Rattle.station.specs.Calls.{Returned, returned, opening, giving, no-station}
-use Rattle.station.specs.Views.{in-range}
+use Rattle.station.specs.Laws.Views.{in-range}
 use Rattle.station.specs.Refused.{opening-refused}
 
 -- it names no decision, so that a refused opening never looks like a decided station

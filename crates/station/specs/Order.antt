@@ -3,13 +3,14 @@ use Prim.Native.Nat.{ℕ}
 use mathlib.Core.List.{List, [], _∷_}
 use mathlib.Core.Path.{_≡_, refl}
 use Rattle.laws.specs.Pick.{pick}
-use Rattle.laws.specs.Refusals.{All, Test, first-failed}
+use Rattle.laws.specs.Refusals.{Test, first-failed}
+use Rattle.laws.specs.All.{All}
 use Rattle.format.specs.Numbers.{D-GET, R-GET, too-early, too-late, already-held}
 use Rattle.format.specs.Group.{backing}
 use Rattle.format.specs.Words.{step-of}
 use Rattle.format.specs.Statement.{step}
 use Rattle.rules.specs.Rules.{rule, wanted, some, in-order, holds, first-group, second-group, has-second, early-toss, rest-holds, spread, groups-hold}
-use Rattle.counter.specs.declared.Module.{Module}
+use Rattle.modules.specs.declared.Module.{Module}
 use Rattle.station.specs.declared.Stage.the-variants.{Gathering}
 use Rattle.station.specs.declared.Station.{Station}
 use Rattle.station.specs.Machine.{proposing, insert, taken, conflict}

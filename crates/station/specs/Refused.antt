@@ -6,13 +6,13 @@ use mathlib.Core.Path.{_≡_, refl, ap, _∙_}
 use lib.Dec.{eqb, ltb}
 use Rattle.laws.specs.Bools.{never}
 use Rattle.format.specs.Numbers.{none}
-use Rattle.counter.specs.declared.Module.{Module}
+use Rattle.modules.specs.declared.Module.{Module}
 use Rattle.station.specs.declared.Station.{Station}
 use Rattle.station.specs.Machine.{Outcome}
 use Rattle.station.specs.Demand.{as-given}
 use Rattle.station.specs.Calls.{returned, opening, opening-outcome, giving, giving-outcome, no-station}
 use Rattle.station.specs.Words.{Lengths}
-use Rattle.station.specs.Views.{decision-then, Gives, refuses, holds-on, shuts, goes-on, gives-view, Opens, no-opening, begins, opens-view}
+use Rattle.station.specs.Laws.Views.{decision-then, Gives, refuses, holds-on, shuts, goes-on, gives-view, Opens, no-opening, begins, opens-view}
 use Rattle.station.specs.Returns.{unrefused, wrote, wrote-unrefused, sent-wrote}
 
 module _ (mac : List ℕ → List ℕ → List ℕ) (m : Module) where

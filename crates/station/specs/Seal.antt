@@ -11,28 +11,28 @@ use lib.Seq.{take-at}
 use borrow.Author.Tests.{le-leb}
 use Rattle.laws.specs.Pick.{pick}
 use Rattle.laws.specs.Bools.{never, join}
-use Rattle.laws.specs.Refusals.{All}
+use Rattle.laws.specs.All.{All, all-append}
 use Rattle.format.specs.Numbers.{kind-INIT, kind-P, none, D-GET, R-GET, bundle-words}
 use Rattle.format.specs.Group.{size-fits}
 use Rattle.format.specs.Statement.{Statement, statement, covered, written, well-formed, step}
-use Rattle.format.specs.Shape.{init}
-use Rattle.format.specs.ReadBack.{Proper, length-written, statement-drop, statement-back}
-use Rattle.counter.specs.declared.Module.{Module}
-use Rattle.counter.specs.Counter.{above, last-for, advanced, module-fits}
+use Rattle.format.specs.Laws.Shape.{init}
+use Rattle.format.specs.Laws.ReadBack.{Proper, length-written, statement-drop, statement-back}
+use Rattle.modules.specs.declared.Module.{Module}
+use Rattle.modules.specs.Counter.{above, last-for, advanced, module-fits}
 use Rattle.sealed.specs.Sealed.{is-toss, signed, coding-plain, coding-coin}
 use Rattle.sealed.specs.Ways.{with-code, coded-as, own-plain, own-coin}
 use Rattle.station.specs.declared.Stage.{Stage}
 use Rattle.station.specs.declared.Stage.the-variants.{Gathering, Proposing, Voting}
 use Rattle.station.specs.declared.Station.{Station}
 use Rattle.station.specs.Machine.{State, Outcome, Next, next, proposing, carried, follows}
-use Rattle.station.specs.Words.{Lengths, all-written, bundle-of, over}
+use Rattle.station.specs.Words.{Lengths}
+use Rattle.format.specs.Bundle.{all-written, bundle-of, over}
 use Rattle.station.specs.Returns.{unrefused, wrote, wrote-unrefused, sent-wrote}
 use Rattle.station.specs.Calls.{returned, opening, giving, opening-outcome, giving-outcome, no-station}
 use Rattle.station.specs.Demand.{message, BySeal}
-use Rattle.station.specs.ReadBack.{length-all}
-use Rattle.station.specs.Views.{InRange, after, sent-statement, Gives, refuses, holds-on, shuts, goes-on, gives-view, init-statement, Opens, no-opening, begins, opens-view, decision-then}
-use Rattle.station.specs.Fits.{own-proper, next-ready, sent-proper}
-use Rattle.station.specs.Written.{all-append}
+use Rattle.station.specs.Laws.ReadBack.{length-all}
+use Rattle.station.specs.Laws.Views.{InRange, after, sent-statement, Gives, refuses, holds-on, shuts, goes-on, gives-view, init-statement, Opens, no-opening, begins, opens-view, decision-then}
+use Rattle.station.specs.Laws.Fits.{own-proper, next-ready, sent-proper}
 
 pub range-fits : (m : Module) → InRange m → module-fits m ≡ true
 range-fits m r =

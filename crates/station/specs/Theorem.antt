@@ -9,23 +9,24 @@ use lib.ListN.{length}
 use borrow.Author.Tests.{eqb-false, eq-eqb, lt-ltb, le-leb}
 use Rattle.laws.specs.Pick.{pick}
 use Rattle.laws.specs.Bools.{both, join}
-use Rattle.laws.specs.Refusals.{All, first-failed, all-passed}
-use Rattle.format.specs.Numbers.{output-words}
-use Rattle.format.specs.Statement.{hmac-code}
+use Rattle.laws.specs.Refusals.{first-failed, all-passed, failed-one, passed-front}
+use Rattle.laws.specs.All.{All}
+use Rattle.format.specs.Numbers.{output-words, last-round}
+use Rattle.format.specs.Statement.{hmac-code, statement-code}
 use Rattle.format.specs.Bundle.{main-of, certificate-of}
-use Rattle.format.specs.Codes.{hmac-eight}
+use Rattle.format.specs.Laws.Codes.{hmac-eight}
 use Rattle.rules.specs.declared.Which.the-variants.{Any, Only}
 use Rattle.certificate.specs.Check.{one-question, bundle-tests, check-tests, check-by}
-use Rattle.counter.specs.declared.Module.{Module}
-use Rattle.counter.specs.Counter.{module-fits, last-for}
+use Rattle.modules.specs.declared.Module.{Module}
+use Rattle.modules.specs.Counter.{module-fits, last-for}
 use Rattle.station.specs.declared.Station.{Station}
 use Rattle.station.specs.Machine.{refused, taken, step-tests}
 use Rattle.station.specs.Words.{state-of}
 use Rattle.station.specs.Fit.{fits}
 use Rattle.station.specs.Calls.{returned, giving, station-tests, give-tests}
 use Rattle.station.specs.Demand.{invalid, OfGroup, ValidToAll, Demand-2}
-use Rattle.station.specs.Views.{failed-one, passed-front, taken-number}
-use Rattle.station.specs.Fits as Fits
+use Rattle.station.specs.Laws.Views.{taken-number}
+use Rattle.station.specs.Laws.Fits as Fits
 use Rattle.station.specs.Written as Written
 use Rattle.station.specs.Refused as Refused
 use Rattle.station.specs.Coin as Coin
@@ -64,7 +65,7 @@ module _ (mac : List ℕ → List ℕ → List ℕ) (key : List ℕ) (n : ℕ) (
           ∙ passed-front (bundle-tests (mac (m .key)) (m .n) (Only (t .identity .question)) ws) (step-tests (state-of t) (main-of ws)) here
 
       go : (b : Bool) → eqb (first-failed (give-tests mac m t ws coin out)) 0 ≡ b
-          → invalid (returned m t out (pick b (taken (mac (m .key)) (m .n) (m .station) (last-for m (t .identity .question)) (state-of t) (main-of ws) (certificate-of ws) coin)
+          → invalid (returned m t out (pick b (taken (statement-code (mac (m .key))) last-round (m .n) (m .station) (last-for m (t .identity .question)) (state-of t) (main-of ws) (certificate-of ws) coin)
           (refused (first-failed (give-tests mac m t ws coin out)))) .number) ≡ false
       go true e = taken-number mac m t ws coin out (λ k. invalid k ≡ false) refl refl refl refl refl
       go false e =

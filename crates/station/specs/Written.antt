@@ -12,45 +12,41 @@ use lib.Seq.{take-at}
 use borrow.Author.Tests.{eq-eqb}
 use Rattle.laws.specs.Pick.{pick}
 use Rattle.laws.specs.Bools.{never, join}
-use Rattle.laws.specs.Refusals.{All, all-map}
-use Rattle.format.specs.Numbers.{kind-INIT, kind-P, none, D-GET, R-GET, bundle-words, most-statements}
+use Rattle.laws.specs.All.{All, all-map, all-append}
+use Rattle.format.specs.Numbers.{kind-INIT, kind-P, none, D-GET, R-GET, bundle-words, most-statements, last-round}
 use Rattle.format.specs.Group.{quorum, backing}
-use Rattle.format.specs.Statement.{Statement, statements, covered, same-words, verifies, hmac-code}
-use Rattle.format.specs.Bundle.{main-of, certificate-of}
-use Rattle.format.specs.Shape.{init}
-use Rattle.format.specs.Codes.{hmac-eight}
+use Rattle.format.specs.Statement.{Statement, statements, covered, same-words, verifies, hmac-code, statement-code}
+use Rattle.format.specs.Bundle.{main-of, certificate-of, all-written, bundle-of, over}
+use Rattle.format.specs.Laws.Shape.{init}
+use Rattle.format.specs.Laws.Codes.{hmac-eight}
 use Rattle.rules.specs.declared.Which.the-variants.{Any}
 use Rattle.rules.specs.Rules.{Backed, rule-1, rule-2, rule-3, rule-4, rule-5, rule-6, rule-7, some-D-GET}
 use Rattle.certificate.specs.Check.{check-by, judged, checked}
 use Rattle.certificate.specs.Valid.{Valid}
 use Rattle.certificate.specs.Exact.{valid-found}
-use Rattle.counter.specs.declared.Module.{Module}
-use Rattle.counter.specs.Counter.{last-for}
+use Rattle.modules.specs.declared.Module.{Module}
+use Rattle.modules.specs.Counter.{last-for}
 use Rattle.station.specs.declared.Stage.{Stage}
 use Rattle.station.specs.declared.Stage.the-variants.{Gathering, Proposing, Voting}
 use Rattle.station.specs.declared.Station.{Station}
 use Rattle.station.specs.Machine.{State, Outcome, Next, own, began, shut, supplies-for-value, supplies-for-none, takes, closes, those, has-value, first-value, vote-value, carried, follows}
 use Rattle.station.specs.Words as W
-use Rattle.station.specs.Words.{state-of, all-written, group-words, sites, bundle-of, over, Lengths}
+use Rattle.station.specs.Words.{state-of, group-words, sites, Lengths}
 use Rattle.station.specs.Calls.{returned, opening, giving, opening-outcome, giving-outcome, no-station}
-use Rattle.station.specs.ReadBack.{length-all}
-use Rattle.format.specs.ReadBack.{Proper}
-use Rattle.station.specs.Slots.{slots-length}
-use Rattle.station.specs.Insert.{insert-all}
-use Rattle.station.specs.Sane.{Sane, state-back}
-use Rattle.station.specs.FitSane.{for-value-size, for-none-size}
-use Rattle.station.specs.Keep.{all-take}
-use Rattle.station.specs.Pieces.{those-all}
-use Rattle.station.specs.End.{Given}
-use Rattle.station.specs.Views.{Accepted, after, decision-then, sent-statement, Gives, refuses, holds-on, shuts, goes-on, gives-view, full-after, init-statement, Opens, no-opening, begins, opens-view}
+use Rattle.station.specs.Laws.ReadBack.{length-all}
+use Rattle.format.specs.Laws.ReadBack.{Proper}
+use Rattle.station.specs.Laws.Slots.{slots-length}
+use Rattle.station.specs.Laws.Insert.{insert-all}
+use Rattle.station.specs.Laws.Sane.{Sane, state-back}
+use Rattle.station.specs.Laws.FitSane.{for-value-size, for-none-size}
+use Rattle.station.specs.Laws.Keep.{all-take}
+use Rattle.station.specs.Laws.Pieces.{those-all}
+use Rattle.station.specs.Laws.End.{Given}
+use Rattle.station.specs.Laws.Views.{Accepted, after, decision-then, sent-statement, Gives, refuses, holds-on, shuts, goes-on, gives-view, full-after, init-statement, Opens, no-opening, begins, opens-view}
 use Rattle.station.specs.Returns.{unrefused, wrote, wrote-unrefused}
 use Rattle.station.specs.Demand.{message, OfGroup, Reached, by-opening, by-giving}
-use Rattle.station.specs.Fits.{backed, own-proper, init-sane, next-ready, sent-proper, sent-sane, kept-sane}
-use Rattle.station.specs.Bundles.{bundle-valid, backed-few, ws-length}
-
-pub all-append : {A : Type 0} (P : A → Type 0) (c d : List A) → All P c → All P d → All P (c ++ d)
-all-append P [] d a b = b
-all-append P (s ∷ c) d a b = (a .0, all-append P c d (a .1) b)
+use Rattle.station.specs.Laws.Fits.{backed, own-proper, init-sane, next-ready, sent-proper, sent-sane, kept-sane}
+use Rattle.station.specs.Laws.Bundles.{bundle-valid, backed-few, ws-length}
 
 -- ---- the lengths of a station that is written from a state
 pub lengths-of : (n number : ℕ) (t : State) → n ≤ 31 → Sane n number t → Lengths (W.as-station n number t)
@@ -67,7 +63,7 @@ lengths-of n number t top S =
         length-append (all-written c) (replicate (160 - length c * 10) 0) ∙ omega (arith, length-all n c p, length-replicate {A = ℕ} (160 - length c * 10) 0)
 
 pub shut-lengths : (n number : ℕ) (t : State) → t .held ≡ [] → t .for-value ≡ [] → t .for-none ≡ [] → Lengths (W.as-station n number t)
-unfolding W.as-station W.slots-of W.slot-of W.all-written
+unfolding W.as-station W.slots-of W.slot-of all-written
 shut-lengths n number t a b c = record { slots = rw a; for-value = rw b; for-none = rw c }
 
 -- ---- what is held and kept verifies
@@ -76,9 +72,9 @@ unfolding same-words
 same-self [] = refl
 same-self (x ∷ l) = join (eqb x x) _ (eq-eqb x x refl) (same-self l)
 
-pub own-verifies : (code : List ℕ → List ℕ) (number question kind value flag round : ℕ) → verifies code (own code number question kind value flag round) ≡ true
+pub own-verifies : (code : List ℕ → List ℕ) (number question kind value flag round : ℕ) → verifies code (own (statement-code code) number question kind value flag round) ≡ true
 unfolding verifies
-own-verifies code number question kind value flag round = same-self (code (covered (own code number question kind value flag round)))
+own-verifies code number question kind value flag round = same-self (code (covered (own (statement-code code) number question kind value flag round)))
 
 pub record Certain (code : List ℕ → List ℕ) (t : State) : Type 0 where
   pub held : All (λ s. verifies code s ≡ true) (t .held)
@@ -156,7 +152,7 @@ module _ (mac : List ℕ → List ℕ → List ℕ) (m : Module) (t : Station) (
       part false = tt
 
   module _ (eight : (key ws : List ℕ) → length (mac key ws) ≡ 8) (L : Lengths t) (C : Certain code (state-of t))
-      (size : length (after mac m t ws coin out .held) ≡ quorum (m .n)) (more : closes (t .stage) ≡ false) where
+      (size : length (after mac m t ws coin out .held) ≡ quorum (m .n)) (more : closes last-round (t .stage) ≡ false) where
     abbrev x : Next
     x = follows (m .n) (t .stage) (after mac m t ws coin out) coin
 
@@ -248,8 +244,8 @@ module _ (mac : List ℕ → List ℕ → List ℕ) (key : List ℕ) (n : ℕ) w
             here (after mac m t ws coin out) (good-state (m .station) (m .n) (after mac m t ws coin out) (A .range .at-most-31) (A .range .low) (A .range .high)
             (kept-sane mac eight m t ws coin out (good .lengths) A few) (of-key (kept-certain mac m t ws coin out A (C A))))
         go _ (shuts A size c) u =
-            here (shut (mac (m .key)) (m .n) (m .station) (last-for m (t .identity .question)) (after mac m t ws coin out) (decision-then mac m t ws coin out))
-            (good-shut (m .station) (m .n) (shut (mac (m .key)) (m .n) (m .station) (last-for m (t .identity .question)) (after mac m t ws coin out) (decision-then mac m t ws coin out)) refl refl refl refl)
+            here (shut (after mac m t ws coin out) (decision-then mac m t ws coin out))
+            (good-shut (m .station) (m .n) (shut (after mac m t ws coin out) (decision-then mac m t ws coin out)) refl refl refl refl)
         go _ (goes-on A size c above k) u =
             here _ (good-state (m .station) (m .n) _ (A .range .at-most-31) (A .range .low) (A .range .high)
             (sent-sane mac eight m t ws coin out (good .lengths) A size c) (of-key (sent-certain mac m t ws coin out A eight (good .lengths) (C A) size c)))
@@ -301,7 +297,7 @@ module _ (mac : List ℕ → List ℕ → List ℕ) (key : List ℕ) (n : ℕ) w
         go _ (shuts A size c) u = never false refl u
         go _ (goes-on A size c above k) u = checks A size c
           where
-            checks : (A : Accepted mac m t ws coin out) (size : length (after mac m t ws coin out .held) ≡ quorum (m .n)) (c : closes (t .stage) ≡ false)
+            checks : (A : Accepted mac m t ws coin out) (size : length (after mac m t ws coin out .held) ≡ quorum (m .n)) (c : closes last-round (t .stage) ≡ false)
                 → let x = follows (m .n) (t .stage) (after mac m t ws coin out) coin in
                 check-by (mac key) n Any (take (bundle-words (length (x .first ++ x .second))) (over (bundle-of (sent-statement mac m t ws coin out) (x .first ++ x .second)) out)) ≡ 0
             checks A size c =

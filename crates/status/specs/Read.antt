@@ -9,8 +9,8 @@ use Rattle.laws.specs.Pick.{pick}
 use Rattle.laws.specs.Bools.{never, both, is-false}
 use Rattle.format.specs.Numbers.{none, out-of-range}
 use Rattle.format.specs.declared.Round.{Round}
-use Rattle.counter.specs.declared.Module.{Module}
-use Rattle.counter.specs.Counter.{module-fits}
+use Rattle.modules.specs.declared.Module.{Module}
+use Rattle.modules.specs.Counter.{module-fits}
 use Rattle.station.specs.declared.Station.{Station}
 use Rattle.station.specs.Machine.{round-in}
 use Rattle.station.specs.Fit.{fits}

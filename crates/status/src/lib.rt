@@ -1,6 +1,7 @@
 // Reading a station: a call that changes nothing. The contracts cite specs/.
-use counter::Module;
+use format::NONE;
 use format::Round;
+use modules::Module;
 use station::Stage;
 use station::Station;
 ghost use mathlib.Core.Path.{_≡_};
@@ -35,7 +36,7 @@ fn decision_on(t: Station, question: u32) -> u32
     if id.question == question {
         return t.decision;
     }
-    2
+    NONE
 }
 
 // What is told of a station that is not this module's.
@@ -43,8 +44,8 @@ fn refused() -> Status
     ensures { λ r. ⌜ r ≡ nothing ⌝ }
 {
     Status {
-        number: 2,
-        decision: 2,
+        number: format::OUT_OF_RANGE,
+        decision: NONE,
         stage: Stage::Gathering,
         round: Round(0),
         closed: true,

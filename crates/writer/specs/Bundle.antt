@@ -11,19 +11,20 @@ use lib.Seq.{take-suc, take-at, getD-drop}
 use borrow.Author.Tests.{eqb-true, eqb-false, ne-eqb, lt-ltb, le-leb}
 use Rattle.laws.specs.Pick.{pick, here}
 use Rattle.laws.specs.Bools.{join}
-use Rattle.laws.specs.Refusals.{All, all-map}
+use Rattle.laws.specs.All.{All, all-map, all-two}
 use Rattle.laws.specs.Sets.{bit}
 use Rattle.format.specs.Numbers.{bundle-words}
 use Rattle.format.specs.Statement.{Statement, word-0, written}
-use Rattle.format.specs.Shape.{formed-out}
+use Rattle.format.specs.Laws.Shape.{formed-out}
 use Rattle.rules.specs.Rules.{Rising, some}
 use Rattle.station.specs.Machine.{held-of, those}
-use Rattle.station.specs.Words.{set-of, slot-of, slots-of, all-written, group-words, bundle-of, over, sites}
-use Rattle.station.specs.ReadBack.{length-all}
-use Rattle.format.specs.ReadBack.{Proper, length-written}
-use Rattle.station.specs.Slots.{all-two, rising-above, below-not-held, bit-set, ones-set, set-low, slot-at, slot-held}
-use Rattle.station.specs.Pieces.{those-all, those-rising, take-rising}
-use Rattle.station.specs.Keep.{all-take}
+use Rattle.station.specs.Words.{set-of, slot-of, slots-of, group-words, sites}
+use Rattle.format.specs.Bundle.{all-written, bundle-of, over}
+use Rattle.station.specs.Laws.ReadBack.{length-all}
+use Rattle.format.specs.Laws.ReadBack.{Proper, length-written}
+use Rattle.station.specs.Laws.Slots.{rising-above, below-not-held, bit-set, ones-set, set-low, slot-at, slot-held}
+use Rattle.station.specs.Laws.Pieces.{those-all, those-rising, take-rising}
+use Rattle.station.specs.Laws.Keep.{all-take}
 use Rattle.writer.specs.Written.{part, held-words, main-words, words-of, writable, lent-after, count-after}
 
 -- ---- a part of a list

@@ -8,7 +8,8 @@ use lib.ListN.{length, getD}
 use Rattle.laws.specs.Pick.{pick}
 use Rattle.laws.specs.Sets.{bit}
 use Rattle.format.specs.Numbers.{output-words, most-statements, bundle-words}
-use Rattle.station.specs.Words.{over, sites}
+use Rattle.station.specs.Words.{sites}
+use Rattle.format.specs.Bundle.{over}
 
 -- words written over the front of those lent
 unfoldable pub laid : List ℕ → List ℕ → List ℕ

@@ -8,9 +8,8 @@ use lib.Dec.{eqb}
 use lib.ListN.{length}
 use borrow.Author.Tests.{eqb-true, eqb-false, eq-eqb, ne-eqb}
 use Rattle.laws.specs.Bools.{never}
-use Rattle.laws.specs.Refusals.{All, all-map}
+use Rattle.laws.specs.All.{All, all-map, all-two}
 use Rattle.laws.specs.Count.{one-if, count}
-use Rattle.station.specs.Slots.{all-two}
 
 -- a test that takes all that another takes counts no less
 pub count-mono : (f g : ℕ → Bool) → ((i : ℕ) → f i ≡ true → g i ≡ true) → (n : ℕ) → count f n ≤ count g n

@@ -8,7 +8,7 @@ use lib.Dec.{eqb}
 use lib.ListN.{length}
 use borrow.Author.Tests.{eqb-true}
 use Rattle.laws.specs.Bools.{both}
-use Rattle.laws.specs.Refusals.{All, all-map}
+use Rattle.laws.specs.All.{All, all-map, all-two, all-left, all-right}
 use Rattle.laws.specs.Count.{count}
 use Rattle.format.specs.Numbers.{kind-INIT, kind-P, kind-V, none}
 use Rattle.format.specs.Group.{quorum, backing}
@@ -17,7 +17,6 @@ use Rattle.rules.specs.declared.Which.{Which}
 use Rattle.rules.specs.declared.Which.the-variants.{Any, Only}
 use Rattle.rules.specs.Rules.{wanted, matches, group, Holds, Backed, rule-1, rule-2, rule-3, rule-4, rule-5, rule-6, rule-7}
 use Rattle.rules.specs.Rules as R
-use Rattle.station.specs.Slots.{all-two}
 use Rattle.agreement.specs.Maths.Counting.{Rise, rise-dist, dist-count, count-mono}
 use Rattle.agreement.specs.Maths.Log.{In, has, has-out, has-at, Supp}
 use Rattle.agreement.specs.Maths.Safe.{Just, Split}
@@ -61,14 +60,6 @@ group-supp n l q size kind round v flag c a b h =
         let y = both (eqb (s .kind) kind && eqb (s .round) round) _ (x .0) in
         let z = both (eqb (s .kind) kind) _ (y .0) in
         ((p .0 .low, p .0 .high), has-at (bare s) l (p .0 .mem) (eqb-true _ _ (z .0)) (p .1 .0) (eqb-true _ _ (z .1)) (eqb-true _ _ (y .1)))
-
-all-left : (P : Statement → Type 0) (c d : List Statement) → All P (c ++ d) → All P c
-all-left P [] d a = tt
-all-left P (s ∷ c) d a = (a .0, all-left P c d (a .1))
-
-all-right : (P : Statement → Type 0) (c d : List Statement) → All P (c ++ d) → All P d
-all-right P [] d a = a
-all-right P (s ∷ c) d a = all-right P c d (a .1)
 
 module _ (n : ℕ) (l : List Statement) (m : Statement) where
   no-proposal : m .kind ≡ kind-V → (m .value < none → Supp n l kind-P (m .question) (m .round) (m .value) (quorum n))

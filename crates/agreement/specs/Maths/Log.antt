@@ -7,7 +7,7 @@ use Prim.Native.Nat.{ℕ, _≤_}
 use lib.Dec.{eqb}
 use borrow.Author.Tests.{eqb-true, eq-eqb}
 use Rattle.laws.specs.Bools.{never, both, left, right}
-use Rattle.laws.specs.Refusals.{All}
+use Rattle.laws.specs.All.{All}
 use Rattle.laws.specs.Count.{count}
 use Rattle.format.specs.Words.{step-of}
 use Rattle.format.specs.Statement.{Statement, step}

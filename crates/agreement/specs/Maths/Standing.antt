@@ -3,14 +3,14 @@ use mathlib.Core.Path.{_≡_}
 use mathlib.Core.Bool.{false}
 use mathlib.Core.List.{List, _∷_}
 use Prim.Native.Nat.{ℕ, _≤_, _<_}
-use Rattle.laws.specs.Refusals.{All, all-map}
+use Rattle.laws.specs.All.{All, all-map}
 use Rattle.laws.specs.Count.{count}
 use Rattle.format.specs.Numbers.{none}
 use Rattle.format.specs.Group.{quorum}
 use Rattle.format.specs.Statement.{Statement, step}
 use Rattle.station.specs.Machine.{State, stage-step}
-use Rattle.station.specs.Sane.{Sane}
-use Rattle.station.specs.End.{Given}
+use Rattle.station.specs.Laws.Sane.{Sane}
+use Rattle.station.specs.Laws.End.{Given}
 use Rattle.agreement.specs.Maths.Votes.{votes}
 use Rattle.agreement.specs.Maths.Log.{In}
 use Rattle.agreement.specs.Maths.Safe.{Just}

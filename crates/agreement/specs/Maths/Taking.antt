@@ -11,27 +11,25 @@ use lib.ListN.{length, take}
 use borrow.Author.Tests.{eqb-true, eqb-false, eq-eqb, ltb-true, lt-ltb}
 use Rattle.laws.specs.Pick.{pick}
 use Rattle.laws.specs.Bools.{never, both, join, left, right}
-use Rattle.laws.specs.Refusals.{All, all-map}
+use Rattle.laws.specs.All.{All, all-map, all-two, all-append}
 use Rattle.laws.specs.Count.{count}
-use Rattle.format.specs.Numbers.{kind-INIT, kind-P, kind-V, none, D-GET, R-GET}
+use Rattle.format.specs.Numbers.{kind-INIT, kind-P, kind-V, none, D-GET, R-GET, last-round}
 use Rattle.format.specs.Group.{quorum}
 use Rattle.format.specs.Statement.{Statement, step}
-use Rattle.format.specs.ReadBack.{Proper}
+use Rattle.format.specs.Laws.ReadBack.{Proper}
 use Rattle.rules.specs.Rules.{some, some-value, which, Holds, Backed}
 use Rattle.rules.specs.declared.Which.the-variants.{Any, Only}
 use Rattle.certificate.specs.Check.{every}
 use Rattle.station.specs.declared.Stage.{Stage}
 use Rattle.station.specs.declared.Stage.the-variants.{Gathering, Proposing, Voting}
-use Rattle.station.specs.Machine.{State, stage-step, kind-in, round-in, has-value, decided, decision-at, closes, follows, Next, began, takes, supplies-for-value, supplies-for-none, vote-value, carried, keeping, held-of, conflict}
-use Rattle.station.specs.Words.{value-group}
-use Rattle.station.specs.Slots.{all-two}
-use Rattle.station.specs.Insert.{insert-all, some-insert}
-use Rattle.station.specs.Sane.{Sane}
-use Rattle.station.specs.Keep.{Fitting, keep-sane, all-take, steps-P, steps-V, steps-0}
-use Rattle.station.specs.Pieces.{Found, find-some}
-use Rattle.station.specs.End.{Full, full-grown, Given, Known, known, Ready, both-values}
-use Rattle.station.specs.Fits.{began-sane, decision-low, ready, backed}
-use Rattle.station.specs.Written.{next-all, backed-given, all-append}
+use Rattle.station.specs.Machine.{State, stage-step, kind-in, round-in, has-value, decided, decision-at, closes, follows, Next, began, takes, supplies-for-value, supplies-for-none, vote-value, carried, keeping, held-of, conflict, value-group}
+use Rattle.station.specs.Laws.Insert.{insert-all, some-insert}
+use Rattle.station.specs.Laws.Sane.{Sane}
+use Rattle.station.specs.Laws.Keep.{Fitting, keep-sane, all-take, steps-P, steps-V, steps-0}
+use Rattle.station.specs.Laws.Pieces.{Found, find-some}
+use Rattle.station.specs.Laws.End.{Full, full-grown, Given, Known, known, Ready, both-values}
+use Rattle.station.specs.Laws.Fits.{began-sane, decision-low, ready, backed}
+use Rattle.station.specs.Written.{next-all, backed-given}
 use Rattle.agreement.specs.Maths.Log.{In, all-at}
 use Rattle.agreement.specs.Maths.Safe.{Just, Split}
 use Rattle.agreement.specs.Maths.Just.{bare, Coded, backed-just, bare-just, just-more, coded-more}
@@ -255,7 +253,7 @@ module _ (n number : ℕ) (l : List Statement) (u : State) (took : List Statemen
         }
 
     -- ---- sent: the station's own statement, as it follows
-    module _ (coin : ℕ) (bit : coin < 2) (more : closes (u .stage) ≡ false) (big : 2 ≤ n) (s : Statement) (p : Proper n s) (mine : s .station ≡ number) (low : 1 ≤ s .station) (high : s .station ≤ n)
+    module _ (coin : ℕ) (bit : coin < 2) (more : closes last-round (u .stage) ≡ false) (big : 2 ≤ n) (s : Statement) (p : Proper n s) (mine : s .station ≡ number) (low : 1 ≤ s .station) (high : s .station ≤ n)
         (on : s .question ≡ u .question) (kind≡ : s .kind ≡ follows n (u .stage) k coin .kind) (value≡ : s .value ≡ follows n (u .stage) k coin .value)
         (flag≡ : s .flag ≡ follows n (u .stage) k coin .flag) (round≡ : s .round ≡ follows n (u .stage) k coin .round) where
       abbrev x : Next

@@ -9,7 +9,7 @@ use lib.ListN.{length}
 use borrow.Author.Tests.{eqb-true, eq-eqb, ne-eqb}
 use Rattle.laws.specs.Pick.{pick}
 use Rattle.laws.specs.Bools.{never, both, join, right}
-use Rattle.laws.specs.Refusals.{All, all-map}
+use Rattle.laws.specs.All.{All, all-map, all-two}
 use Rattle.laws.specs.Count.{count, one-if}
 use Rattle.format.specs.Numbers.{kind-V, none}
 use Rattle.format.specs.Statement.{Statement, step}
@@ -18,9 +18,8 @@ use Rattle.rules.specs.Rules as R
 use Rattle.certificate.specs.Check.{every}
 use Rattle.station.specs.Machine.{has-value, vote-value, decided, number-of}
 use Rattle.certificate.specs.Exact.{every-out}
-use Rattle.station.specs.Slots.{all-two}
-use Rattle.station.specs.Pieces.{Found, find-some}
-use Rattle.station.specs.Keep.{steps-V}
+use Rattle.station.specs.Laws.Pieces.{Found, find-some}
+use Rattle.station.specs.Laws.Keep.{steps-V}
 use Rattle.agreement.specs.Maths.Counting.{count-mono}
 use Rattle.agreement.specs.Maths.Log.{In, some-in}
 use Rattle.agreement.specs.Maths.Just.{rising-count}

@@ -1,27 +1,20 @@
--- The part lent is the words of the buffer up to its length: the law `lent`.
-use Rattle.call_cases.specs.Registers.{lent, check-of}
-use mathlib.Core.Path.{ap, _∙_}
+-- The part lent is what a call sees of the buffer: the law `check-is`.
+use Rattle.call_cases.specs.Registers.{check-is}
 use borrow.Author.Needs.{needs}
 use Rattle.call_cases.proofs.check.Statement.{statement}
 use Rattle.call_cases.proofs.check.Tie as tie
 
-mul-n : tie.Need-mul-n
-mul-n c = search needs
-
 add-n : tie.Need-add-n
 add-n c = search needs
 
-mul-n-2 : tie.Need-mul-n-2
-mul-n-2 c = search needs
+mul-n : tie.Need-mul-n
+mul-n c = search needs
 
 shared-slice-read-n : tie.Need-shared-slice-read-n
 shared-slice-read-n c = search needs
 
-length-of-requires : tie.Need-length-of-requires
-length-of-requires c κs = search needs
-
-mul-at : tie.Need-mul-at
-mul-at c = search needs
+length-at-requires : tie.Need-length-at-requires
+length-at-requires c κs = search needs
 
 add-end : tie.Need-add-end
 add-end c = search needs
@@ -46,21 +39,19 @@ check-requires c κs = search needs
 
 returns : tie.Need-returns
 returns c =
-    let a = c .before .before .before .before .before .before .before .before .args in
-    let l = c .before .before .before .length-of in
-    lent (a .modules .now) (a .buffers .now) (c .before .before .key .result) (a .m) (a .b) (l .result) (c .check .result) (c .before .before .key .ensures) (c .check .ensures)
-    ∙ ap (check-of (a .modules .now) (a .buffers .now) (a .m) (a .b)) (l .ensures .1)
+    let k = c .before .before in
+    let l = k .before in
+    let a = l .before .before .before .args in
+    check-is (a .registers .now) (k .key .result) (a .m) (a .b) (l .length-at .result) _ (k .key .ensures) (l .length-at .ensures .1) (c .check .ensures)
 
 pub check-spec : {M : Type 1} → statement M
 check-spec =
     tie.close
     (tie.spec
-    mul-n
     add-n
-    mul-n-2
+    mul-n
     shared-slice-read-n
-    length-of-requires
-    mul-at
+    length-at-requires
     add-end
     key-requires
     mul-check

@@ -1,37 +1,37 @@
 -- Every read and store is inside the slice, and the loop ends.
-use mathlib.Core.Path.{_≡_}
 use Prim.Native.Nat.{_≤_, _-_}
+use mathlib.Core.Path.{_≡_}
 use lib.ListN.{length}
 use borrow.Author.Needs.{needs}
 use Rattle.call_cases.proofs.copy.Statement.{statement}
 use Rattle.call_cases.proofs.copy.Tie as tie
 
 abbrev Inv-loop : tie.InvT-loop
-Inv-loop ws₀ from to count i₀ ws i = (i ≤ count) × (length ws ≡ length ws₀)
+Inv-loop registers₀ to from count i₀ registers i = (i ≤ count) × (length registers ≡ length registers₀)
 
 abbrev μ-loop : tie.MeasureT-loop
-μ-loop ws₀ from to count i₀ ws i = count - i
+μ-loop registers₀ to from count i₀ registers i = count - i
 
 loop-holds : tie.Need-loop-holds Inv-loop μ-loop
 loop-holds c = search needs
 
-add-ws : tie.Need-add-ws Inv-loop μ-loop
-add-ws c = search needs
+add-registers : tie.Need-add-registers Inv-loop μ-loop
+add-registers c = search needs
 
-mul-ws : tie.Need-mul-ws Inv-loop μ-loop
-mul-ws c = search needs
+mul-registers : tie.Need-mul-registers Inv-loop μ-loop
+mul-registers c = search needs
 
-slice-read-ws : tie.Need-slice-read-ws Inv-loop μ-loop
-slice-read-ws c = search needs
+slice-read-registers : tie.Need-slice-read-registers Inv-loop μ-loop
+slice-read-registers c = search needs
 
-add-ws-2 : tie.Need-add-ws-2 Inv-loop μ-loop
-add-ws-2 c = search needs
+add-registers-2 : tie.Need-add-registers-2 Inv-loop μ-loop
+add-registers-2 c = search needs
 
-mul-ws-2 : tie.Need-mul-ws-2 Inv-loop μ-loop
-mul-ws-2 c = search needs
+mul-registers-2 : tie.Need-mul-registers-2 Inv-loop μ-loop
+mul-registers-2 c = search needs
 
-slice-write-ws : tie.Need-slice-write-ws Inv-loop μ-loop
-slice-write-ws c = search needs
+slice-write-registers : tie.Need-slice-write-registers Inv-loop μ-loop
+slice-write-registers c = search needs
 
 add-i : tie.Need-add-i Inv-loop μ-loop
 add-i c = search needs
@@ -55,12 +55,12 @@ copy-spec =
     Inv-loop
     μ-loop
     loop-holds
-    add-ws
-    mul-ws
-    slice-read-ws
-    add-ws-2
-    mul-ws-2
-    slice-write-ws
+    add-registers
+    mul-registers
+    slice-read-registers
+    add-registers-2
+    mul-registers-2
+    slice-write-registers
     add-i
     loop-less
     loop-again

@@ -1,19 +1,17 @@
--- Every turn keeps the held bytes inside the line, the registers as large as they were and the lengths short; the loop ends with the chunk.
-use mathlib.Core.Path.{_≡_}
+-- Every turn keeps the held bytes inside the line and the registers as large as they were; the loop ends with the chunk.
 use Prim.Native.Nat.{_≤_, _-_}
+use mathlib.Core.Path.{_≡_}
 use lib.ListN.{length}
-use Rattle.call_cases.specs.Registers.{Sized, Short}
 use borrow.Author.Needs.{needs}
 use Rattle.call_cases.proofs.feed.Statement.{statement}
 use Rattle.call_cases.proofs.feed.Tie as tie
 
 abbrev Inv-loop : tie.InvT-loop
-Inv-loop chunk line₀ modules₀ stations₀ buffers₀ lengths₀ place₀ i₀ line modules stations buffers lengths place i =
-    (i ≤ length chunk) × ((place .held ≤ 800) × ((length line ≡ length line₀) × (Sized modules stations buffers lengths × Short lengths)))
+Inv-loop chunk line₀ registers₀ place₀ i₀ line registers place i =
+    (i ≤ length chunk) × ((place .held ≤ 800) × ((length line ≡ length line₀) × (length registers ≡ length registers₀)))
 
 abbrev μ-loop : tie.MeasureT-loop
-μ-loop chunk line₀ modules₀ stations₀ buffers₀ lengths₀ place₀ i₀ line modules stations buffers lengths place i =
-    length chunk - i
+μ-loop chunk line₀ registers₀ place₀ i₀ line registers place i = length chunk - i
 
 loop-holds : tie.Need-loop-holds Inv-loop μ-loop
 loop-holds c = search needs
@@ -23,15 +21,6 @@ same-length c = search needs
 
 same-length-2 : tie.Need-same-length-2 Inv-loop μ-loop
 same-length-2 c = search needs
-
-same-length-3 : tie.Need-same-length-3 Inv-loop μ-loop
-same-length-3 c = search needs
-
-same-length-4 : tie.Need-same-length-4 Inv-loop μ-loop
-same-length-4 c = search needs
-
-same-length-5 : tie.Need-same-length-5 Inv-loop μ-loop
-same-length-5 c = search needs
 
 returns : tie.Need-returns Inv-loop μ-loop
 returns c = search needs
@@ -49,22 +38,13 @@ loop-less : tie.Need-loop-less Inv-loop μ-loop
 loop-less c = search needs
 
 loop-again : tie.Need-loop-again Inv-loop μ-loop
-loop-again c = (search needs, (search needs, (search needs, (search needs, search needs))))
+loop-again c = search needs
 
-same-length-6 : tie.Need-same-length-6 Inv-loop μ-loop
-same-length-6 c = search needs
+same-length-3 : tie.Need-same-length-3 Inv-loop μ-loop
+same-length-3 c = search needs
 
-same-length-7 : tie.Need-same-length-7 Inv-loop μ-loop
-same-length-7 c = search needs
-
-same-length-8 : tie.Need-same-length-8 Inv-loop μ-loop
-same-length-8 c = search needs
-
-same-length-9 : tie.Need-same-length-9 Inv-loop μ-loop
-same-length-9 c = search needs
-
-same-length-10 : tie.Need-same-length-10 Inv-loop μ-loop
-same-length-10 c = search needs
+same-length-4 : tie.Need-same-length-4 Inv-loop μ-loop
+same-length-4 c = search needs
 
 returns-2 : tie.Need-returns-2 Inv-loop μ-loop
 returns-2 c = search needs
@@ -78,18 +58,12 @@ feed-spec =
     loop-holds
     same-length
     same-length-2
-    same-length-3
-    same-length-4
-    same-length-5
     returns
     shared-slice-read-step
     step-requires
     add-i
     loop-less
     loop-again
-    same-length-6
-    same-length-7
-    same-length-8
-    same-length-9
-    same-length-10
+    same-length-3
+    same-length-4
     returns-2)

@@ -1,19 +1,17 @@
--- The copy holds the words that the call sees of the buffer given: the laws `seen-copy` and `given-is`.
-use Rattle.call_cases.specs.Registers.{given-is, seen-copy, counted}
-use native.Mathlib.Omega.{arith}
-use lib.ListN.{take, length-take}
+-- The part lent is what a call sees of the buffer, module and station those in the registers: the law `given-is`. A part lent keeps its length.
+use Rattle.call_cases.specs.Registers.{given-is}
+use mathlib.Core.Path.{_∙_}
+use Prim.Native.Nat.{ℕ, _+_, _-_}
+use borrow.Rule.Slice.PartMut.{same-len-mid}
 use borrow.Author.Needs.{needs}
 use Rattle.call_cases.proofs.given.Statement.{statement}
 use Rattle.call_cases.proofs.given.Tie as tie
 
-mul-buffer-at : tie.Need-mul-buffer-at
-mul-buffer-at c = search needs
+length-at-requires : tie.Need-length-at-requires
+length-at-requires c κs = search needs
 
-buffer-at-requires : tie.Need-buffer-at-requires
-buffer-at-requires c κs = search needs
-
-length-of-requires : tie.Need-length-of-requires
-length-of-requires c κs = search needs
+add-end : tie.Need-add-end
+add-end c = search needs
 
 module-at-requires : tie.Need-module-at-requires
 module-at-requires c κs = search needs
@@ -21,43 +19,54 @@ module-at-requires c κs = search needs
 station-at-requires : tie.Need-station-at-requires
 station-at-requires c κs = search needs
 
-array-share-prefix-words : tie.Need-array-share-prefix-words
-array-share-prefix-words c = search needs
+mul-give : tie.Need-mul-give
+mul-give c = search needs
 
-slice-aggregate-given-to : tie.Need-slice-aggregate-given-to
-slice-aggregate-given-to c = simp length-take (omega arith)
+sub-give : tie.Need-sub-give
+sub-give c = search needs
 
-given-to-requires : tie.Need-given-to-requires
-given-to-requires c κs =
-    let pre = c .before .before .before .before .before .before .before .before .before .before .before .before .pre in
-    (pre .0 .buffers-are, pre .0 .lengths-are, pre .1, omega (arith, pre .2 .lent-is, pre .2 .given-is))
+part-give-start : tie.Need-part-give-start
+part-give-start c = search needs
+
+part-give-end : tie.Need-part-give-end
+part-give-end c = search needs
+
+give-requires : tie.Need-give-requires
+give-requires c κs = search needs
+
+store-requires : tie.Need-store-requires
+store-requires c κs =
+    let d = c .before .before .before .before .before in
+    let l = d .before .before .before .before .before .before .before in
+    let s = l .before .before .before .before in
+    let at = s .args .names .lent in
+    (s .pre .0, same-len-mid {X = ℕ} at (at + l .length-at .result - at) (s .args .registers .now) (d .give .last .1 .1 .1 .1 .0) (d .give .kept .1 .1 .1 .1 .0) ∙ s .pre .1)
 
 same-length : tie.Need-same-length
 same-length c = search needs
 
 returns : tie.Need-returns
 returns c =
-    let a = c .before .before .before .before .before .before .before .before .before .before .before .before .before .before .before .args in
-    let l = c .before .before .before .before .before .before .before .length-of in
-    let w = c .before .before .before .before .before .before .before .before .buffer-at in
-    counted _ _ _ _ (given-is (a .modules .now) (a .stations .now) (a .buffers .now) (a .lengths .now) (take (l .result) (w .result)) (a .names) (a .coin) (c .before .before .before .before .before .before .module-at .result) (c .before .before .before .before .before .station-at .result)
-    (c .before .before .before .before .before .before .module-at .ensures)
-    (c .before .before .before .before .before .station-at .ensures)
-    (seen-copy (a .buffers .now) (a .lengths .now) (w .result) (a .names .given) (l .result) (w .ensures .1) (l .ensures .1) (l .ensures .0)))
-    (c .before .before .given-to .ensures .number-is)
-    (c .before .before .given-to .ensures .count-is)
+    let d = c .before .before .before .before .before .before .before .before in
+    let s = d .before .before .before in
+    let m = s .before .before in
+    let l = m .before .before in
+    let a = l .before .before .before .before .args in
+    given-is (a .registers .now) (a .names) (m .module-at .result) (l .length-at .result) _ _ (m .module-at .ensures) (l .length-at .ensures .1) (a .words .now) (s .station-at .result) (a .coin) (s .station-at .ensures) (d .give .ensures .number-is) (d .give .ensures .count-is)
 
 pub given-spec : {M : Type 1} → statement M
 given-spec =
     tie.close
     (tie.spec
-    mul-buffer-at
-    buffer-at-requires
-    length-of-requires
+    length-at-requires
+    add-end
     module-at-requires
     station-at-requires
-    array-share-prefix-words
-    slice-aggregate-given-to
-    given-to-requires
+    mul-give
+    sub-give
+    part-give-start
+    part-give-end
+    give-requires
+    store-requires
     same-length
     returns)

@@ -1,32 +1,29 @@
--- The parts of the definition, with the key and the last pair that were read.
+-- The parts of the definition, with those that were read.
 use Rattle.call_cases.specs.Registers.{module-in}
 use borrow.Author.Needs.{needs}
 use Rattle.call_cases.proofs.module_at.Statement.{statement}
 use Rattle.call_cases.proofs.module_at.Tie as tie
 
-mul-at : tie.Need-mul-at
-mul-at c = search needs
-
 key-requires : tie.Need-key-requires
 key-requires c κs = search needs
 
-add-t5 : tie.Need-add-t5
-add-t5 c = search needs
+add-t4 : tie.Need-add-t4
+add-t4 c = search needs
 
-mul-t6 : tie.Need-mul-t6
-mul-t6 c = search needs
+mul-t5 : tie.Need-mul-t5
+mul-t5 c = search needs
 
-shared-slice-read-t8 : tie.Need-shared-slice-read-t8
-shared-slice-read-t8 c = search needs
+shared-slice-read-t7 : tie.Need-shared-slice-read-t7
+shared-slice-read-t7 c = search needs
 
-add-t9 : tie.Need-add-t9
-add-t9 c = search needs
+add-t8 : tie.Need-add-t8
+add-t8 c = search needs
 
-mul-t10 : tie.Need-mul-t10
-mul-t10 c = search needs
+mul-t9 : tie.Need-mul-t9
+mul-t9 c = search needs
 
-shared-slice-read-t12 : tie.Need-shared-slice-read-t12
-shared-slice-read-t12 c = search needs
+shared-slice-read-t11 : tie.Need-shared-slice-read-t11
+shared-slice-read-t11 c = search needs
 
 add-last-of : tie.Need-add-last-of
 add-last-of c = search needs
@@ -66,14 +63,13 @@ pub module-at-spec : {M : Type 1} → statement M
 module-at-spec =
     tie.close
     (tie.spec
-    mul-at
     key-requires
-    add-t5
-    mul-t6
-    shared-slice-read-t8
-    add-t9
-    mul-t10
-    shared-slice-read-t12
+    add-t4
+    mul-t5
+    shared-slice-read-t7
+    add-t8
+    mul-t9
+    shared-slice-read-t11
     add-last-of
     mul-last-of
     shared-slice-read-last-of

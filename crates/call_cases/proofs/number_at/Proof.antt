@@ -1,23 +1,20 @@
--- Every read is inside the slice, each turn keeps the value within 32 bits, and the loop ends.
-use Prim.Native.Nat.{_≤_, _<_, _-_}
+-- Every read is inside the slice, and the loop ends.
+use Prim.Native.Nat.{_≤_, _-_}
 use borrow.Author.Needs.{needs}
 use Rattle.call_cases.proofs.number_at.Statement.{statement}
 use Rattle.call_cases.proofs.number_at.Tie as tie
 
 abbrev Inv-loop : tie.InvT-loop
-Inv-loop text from to v₀ i₀ v i = (i ≤ to) × (v < 4294967296)
+Inv-loop text from to none v₀ i₀ v i = i ≤ to
 
 abbrev μ-loop : tie.MeasureT-loop
-μ-loop text from to v₀ i₀ v i = to - i
+μ-loop text from to none v₀ i₀ v i = to - i
+
+sub-if1 : tie.Need-sub-if1 Inv-loop μ-loop
+sub-if1 c = search needs
 
 returns : tie.Need-returns Inv-loop μ-loop
 returns c = search needs
-
-sub-if2 : tie.Need-sub-if2 Inv-loop μ-loop
-sub-if2 c = search needs
-
-returns-2 : tie.Need-returns-2 Inv-loop μ-loop
-returns-2 c = search needs
 
 loop-holds : tie.Need-loop-holds Inv-loop μ-loop
 loop-holds c = search needs
@@ -28,11 +25,14 @@ shared-slice-read-digit c = search needs
 digit-requires : tie.Need-digit-requires Inv-loop μ-loop
 digit-requires c κs = search needs
 
-returns-3 : tie.Need-returns-3 Inv-loop μ-loop
-returns-3 c = search needs
+returns-2 : tie.Need-returns-2 Inv-loop μ-loop
+returns-2 c = search needs
 
 mul-v : tie.Need-mul-v Inv-loop μ-loop
 mul-v c = search needs
+
+cast-v : tie.Need-cast-v Inv-loop μ-loop
+cast-v c = search needs
 
 add-v : tie.Need-add-v Inv-loop μ-loop
 add-v c = search needs
@@ -46,8 +46,8 @@ loop-less c = search needs
 loop-again : tie.Need-loop-again Inv-loop μ-loop
 loop-again c = search needs
 
-returns-4 : tie.Need-returns-4 Inv-loop μ-loop
-returns-4 c = search needs
+returns-3 : tie.Need-returns-3 Inv-loop μ-loop
+returns-3 c = search needs
 
 pub number-at-spec : {M : Type 1} → statement M
 number-at-spec =
@@ -55,16 +55,16 @@ number-at-spec =
     (tie.spec
     Inv-loop
     μ-loop
+    sub-if1
     returns
-    sub-if2
-    returns-2
     loop-holds
     shared-slice-read-digit
     digit-requires
-    returns-3
+    returns-2
     mul-v
+    cast-v
     add-v
     add-i
     loop-less
     loop-again
-    returns-4)
+    returns-3)

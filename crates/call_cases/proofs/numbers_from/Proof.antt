@@ -1,25 +1,19 @@
 -- At most 79 numbers are stored, every place is inside the line, and each turn goes on by one byte or more.
-use lib.ListN.{length}
 use Prim.Native.Nat.{_≤_, _-_}
 use mathlib.Core.Path.{_≡_}
+use lib.ListN.{length}
 use borrow.Author.Needs.{needs}
 use Rattle.call_cases.proofs.numbers_from.Statement.{statement}
 use Rattle.call_cases.proofs.numbers_from.Tie as tie
 
 abbrev Inv-loop : tie.InvT-loop
-Inv-loop text from words₀ count₀ at₀ words count at = (count ≤ 79) × ((at ≤ length text) × (length words ≡ 79))
+Inv-loop text from numbers₀ count₀ at₀ numbers count at = (count ≤ 79) × ((at ≤ length text) × (length numbers ≡ 79))
 
 abbrev μ-loop : tie.MeasureT-loop
-μ-loop text from words₀ count₀ at₀ words count at = length text - at
+μ-loop text from numbers₀ count₀ at₀ numbers count at = length text - at
 
 loop-holds : tie.Need-loop-holds Inv-loop μ-loop
 loop-holds c = search needs
-
-unreadable-requires : tie.Need-unreadable-requires Inv-loop μ-loop
-unreadable-requires c κs = search needs
-
-returns : tie.Need-returns Inv-loop μ-loop
-returns c = search needs
 
 add-start : tie.Need-add-start Inv-loop μ-loop
 add-start c = search needs
@@ -30,23 +24,32 @@ token-end-requires c κs = search needs
 number-at-requires : tie.Need-number-at-requires Inv-loop μ-loop
 number-at-requires c κs = search needs
 
-enum-known-v : tie.Need-enum-known-v Inv-loop μ-loop
-enum-known-v c = search needs
+add-result : tie.Need-add-result Inv-loop μ-loop
+add-result c = search needs
 
-enum-told : tie.Need-enum-told Inv-loop μ-loop
-enum-told c = search needs
+same-length : tie.Need-same-length Inv-loop μ-loop
+same-length c = search needs
 
-unreadable-requires-2 : tie.Need-unreadable-requires-2 Inv-loop μ-loop
-unreadable-requires-2 c κs = search needs
+returns : tie.Need-returns Inv-loop μ-loop
+returns c = search needs
+
+add-result-2 : tie.Need-add-result-2 Inv-loop μ-loop
+add-result-2 c = search needs
+
+same-length-2 : tie.Need-same-length-2 Inv-loop μ-loop
+same-length-2 c = search needs
 
 returns-2 : tie.Need-returns-2 Inv-loop μ-loop
 returns-2 c = search needs
 
-mul-words : tie.Need-mul-words Inv-loop μ-loop
-mul-words c = search needs
+cast-numbers : tie.Need-cast-numbers Inv-loop μ-loop
+cast-numbers c = search needs
 
-array-write-words : tie.Need-array-write-words Inv-loop μ-loop
-array-write-words c = search needs
+mul-numbers : tie.Need-mul-numbers Inv-loop μ-loop
+mul-numbers c = search needs
+
+slice-write-numbers : tie.Need-slice-write-numbers Inv-loop μ-loop
+slice-write-numbers c = search needs
 
 add-count : tie.Need-add-count Inv-loop μ-loop
 add-count c = search needs
@@ -56,6 +59,9 @@ loop-less c = search needs
 
 loop-again : tie.Need-loop-again Inv-loop μ-loop
 loop-again c = search needs
+
+same-length-3 : tie.Need-same-length-3 Inv-loop μ-loop
+same-length-3 c = search needs
 
 returns-3 : tie.Need-returns-3 Inv-loop μ-loop
 returns-3 c = search needs
@@ -67,18 +73,20 @@ numbers-from-spec =
     Inv-loop
     μ-loop
     loop-holds
-    unreadable-requires
-    returns
     add-start
     token-end-requires
     number-at-requires
-    enum-known-v
-    enum-told
-    unreadable-requires-2
+    add-result
+    same-length
+    returns
+    add-result-2
+    same-length-2
     returns-2
-    mul-words
-    array-write-words
+    cast-numbers
+    mul-numbers
+    slice-write-numbers
     add-count
     loop-less
     loop-again
+    same-length-3
     returns-3)

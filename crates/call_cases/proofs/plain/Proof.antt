@@ -4,11 +4,8 @@ use borrow.Author.Needs.{needs}
 use Rattle.call_cases.proofs.plain.Statement.{statement}
 use Rattle.call_cases.proofs.plain.Tie as tie
 
-length-of-requires : tie.Need-length-of-requires
-length-of-requires c κs = search needs
-
-mul-at : tie.Need-mul-at
-mul-at c = search needs
+length-at-requires : tie.Need-length-at-requires
+length-at-requires c κs = search needs
 
 add-end : tie.Need-add-end
 add-end c = search needs
@@ -37,20 +34,19 @@ put-module-requires c κs = search needs
 same-length : tie.Need-same-length
 same-length c = search needs
 
-same-length-2 : tie.Need-same-length-2
-same-length-2 c = search needs
-
 returns : tie.Need-returns
 returns c =
-    let a = c .before .before .before .before .before .before .before .before .before .before .before .before .before .before .before .args in
-    plain-number (a .modules .now) (a .buffers .now) (a .lengths .now) (a .m) (a .b) (c .before .before .before .before .before .before .before .before .before .before .before .length-of .result) (c .before .before .before .before .before .before .before .code-plain .result .number) (c .before .before .before .before .before .before .before .before .before .module-at .result) (c .before .before .before .before .before .before .before .before .before .module-at .ensures) (c .before .before .before .before .before .before .before .before .before .before .before .length-of .ensures .1) (c .before .before .before .before .before .before .before .code-plain .ensures .number-is)
+    let d = c .before .before .before .before .before .before .before in
+    let m = d .before .before in
+    let l = m .before .before in
+    let a = l .before .before .before .args in
+    plain-number (a .registers .now) (a .m) (a .b) (l .length-at .result) _ (m .module-at .result) (m .module-at .ensures) (l .length-at .ensures .1) (d .code-plain .ensures .number-is)
 
 pub plain-spec : {M : Type 1} → statement M
 plain-spec =
     tie.close
     (tie.spec
-    length-of-requires
-    mul-at
+    length-at-requires
     add-end
     module-at-requires
     mul-code-plain
@@ -60,5 +56,4 @@ plain-spec =
     code-plain-requires
     put-module-requires
     same-length
-    same-length-2
     returns)

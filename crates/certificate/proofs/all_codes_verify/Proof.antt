@@ -7,7 +7,7 @@ use Rattle.hmac.specs.declared.Keyed.{Keyed}
 use Rattle.hmac.specs.Hmac.{code-from}
 use Rattle.format.specs.Statement.{statements}
 use Rattle.certificate.specs.Check.{all-verify}
-use Rattle.certificate.specs.Codes.{keyed-short, code-is}
+use Rattle.certificate.specs.Laws.Codes.{keyed-short, code-is}
 use borrow.Author.Needs.{needs}
 use Rattle.certificate.proofs.all_codes_verify.Statement.{statement}
 use Rattle.certificate.proofs.all_codes_verify.Tie as tie

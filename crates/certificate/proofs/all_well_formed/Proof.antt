@@ -5,7 +5,7 @@ use mathlib.Core.Path.{_≡_, refl, sym, _∙_}
 use Rattle.laws.specs.Pick.{pick, here, skip, via-not}
 use Rattle.format.specs.Words.{formed}
 use Rattle.format.specs.Bundle.{all-formed}
-use Rattle.certificate.specs.Parts.{formed-start, formed-turn, formed-end}
+use Rattle.certificate.specs.Laws.Parts.{formed-start, formed-turn, formed-end}
 use borrow.Author.Needs.{needs}
 use Rattle.certificate.proofs.all_well_formed.Statement.{statement}
 use Rattle.certificate.proofs.all_well_formed.Tie as tie

@@ -5,7 +5,7 @@ use native.Mathlib.Omega.{arith}
 use mathlib.Core.Path.{_≡_, sym, _∙_}
 use lib.ListN.{length, take, drop}
 use Rattle.format.specs.Statement.{same-words}
-use Rattle.certificate.specs.Codes.{same-start, same-turn, same-end}
+use Rattle.certificate.specs.Laws.Codes.{same-start, same-turn, same-end}
 use borrow.Author.Needs.{needs}
 use Rattle.certificate.proofs.code_matches.Statement.{statement}
 use Rattle.certificate.proofs.code_matches.Tie as tie

@@ -6,7 +6,7 @@ use Rattle.laws.specs.Pick.{pick, here, skip, via-not}
 use Rattle.hmac.specs.Hmac.{code-from}
 use Rattle.format.specs.Statement.{statement as the-statement, statements, verifies}
 use Rattle.certificate.specs.Check.{all-verify}
-use Rattle.certificate.specs.Parts.{parts-start, every-turn, every-end}
+use Rattle.certificate.specs.Laws.Parts.{parts-start, every-turn, every-end}
 use borrow.Author.Needs.{needs}
 use Rattle.certificate.proofs.codes_verify.Statement.{statement}
 use Rattle.certificate.proofs.codes_verify.Tie as tie

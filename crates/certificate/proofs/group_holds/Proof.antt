@@ -6,7 +6,7 @@ use lib.Dec.{ltb}
 use Rattle.laws.specs.Pick.{pick, here, skip}
 use Rattle.format.specs.Statement.{statements}
 use Rattle.rules.specs.Rules.{wanted, in-order, holds}
-use Rattle.certificate.specs.Parts.{holds-start, holds-not, order-turn, order-end}
+use Rattle.certificate.specs.Laws.Parts.{holds-start, holds-not, order-turn, order-end}
 use borrow.Author.Needs.{needs}
 use Rattle.certificate.proofs.group_holds.Statement.{statement}
 use Rattle.certificate.proofs.group_holds.Tie as tie

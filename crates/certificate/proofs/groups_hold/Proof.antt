@@ -1,7 +1,7 @@
 -- The certificate is taken apart behind the first group's size, and each part is what its call answers.
 use native.Mathlib.Omega.{arith}
-use Rattle.certificate.specs.Parts.{least-fits}
-use Rattle.certificate.specs.Groups.{groups-are}
+use Rattle.laws.specs.Least.{least-fits}
+use Rattle.certificate.specs.Laws.Groups.{groups-are}
 use borrow.Author.Needs.{needs}
 use Rattle.certificate.proofs.groups_hold.Statement.{statement}
 use Rattle.certificate.proofs.groups_hold.Tie as tie

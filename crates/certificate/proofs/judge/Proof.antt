@@ -9,8 +9,8 @@ use Rattle.format.specs.Group.{size-fits}
 use Rattle.format.specs.Statement.{statements, hmac-code}
 use Rattle.format.specs.Bundle.{laid-out, all-formed, count-in, main-of, certificate-of}
 use Rattle.certificate.specs.Check.{question-fits, all-verify}
-use Rattle.certificate.specs.Parts.{sizes, spare-zero}
-use Rattle.certificate.specs.Answers.{answer-size, answer-layout, answer-formed, answer-question, answer-code, answer-rule, answer-valid}
+use Rattle.certificate.specs.Laws.Parts.{sizes, spare-zero}
+use Rattle.certificate.specs.Laws.Answers.{answer-size, answer-layout, answer-formed, answer-question, answer-code, answer-rule, answer-valid}
 use borrow.Author.Needs.{needs}
 use Rattle.certificate.proofs.judge.Statement.{statement}
 use Rattle.certificate.proofs.judge.Tie as tie

@@ -1,7 +1,7 @@
 -- No words: the head word is not there. Else the tests are those of the definition.
 use mathlib.Core.Path.{refl}
 use Rattle.format.specs.Bundle.{laid-out}
-use Rattle.certificate.specs.Parts.{no-words}
+use Rattle.certificate.specs.Laws.Parts.{no-words}
 use borrow.Author.Needs.{needs}
 use Rattle.certificate.proofs.layout.Statement.{statement}
 use Rattle.certificate.proofs.layout.Tie as tie

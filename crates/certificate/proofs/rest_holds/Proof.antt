@@ -1,8 +1,8 @@
 -- Each way out is a case of the definition, by what the calls answer.
 use Prim.Native.Nat.{_+_, _*_}
 use Rattle.format.specs.Statement.{statements}
-use Rattle.certificate.specs.Parts.{parts-length}
-use Rattle.certificate.specs.Groups.{rest-second, rest-empty}
+use Rattle.certificate.specs.Laws.Parts.{parts-length}
+use Rattle.certificate.specs.Laws.Groups.{rest-second, rest-empty}
 use borrow.Author.Needs.{needs}
 use Rattle.certificate.proofs.rest_holds.Statement.{statement}
 use Rattle.certificate.proofs.rest_holds.Tie as tie

@@ -1,5 +1,5 @@
 -- Each way out is a case of the definition, by what the calls answer.
-use Rattle.certificate.specs.Groups.{rule-init, rule-toss, rule-groups}
+use Rattle.certificate.specs.Laws.Groups.{rule-init, rule-toss, rule-groups}
 use borrow.Author.Needs.{needs}
 use Rattle.certificate.proofs.rule_holds.Statement.{statement}
 use Rattle.certificate.proofs.rule_holds.Tie as tie

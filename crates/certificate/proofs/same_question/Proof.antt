@@ -9,7 +9,7 @@ use Rattle.laws.specs.Pick.{pick, here, skip, not-t, not-f}
 use Rattle.format.specs.Statement.{statements}
 use Rattle.format.specs.Bundle.{main-of}
 use Rattle.certificate.specs.Check.{one-question}
-use Rattle.certificate.specs.Parts.{parts-start, every-turn, every-end}
+use Rattle.certificate.specs.Laws.Parts.{parts-start, every-turn, every-end}
 use borrow.Author.Needs.{needs}
 use Rattle.certificate.proofs.same_question.Statement.{statement}
 use Rattle.certificate.proofs.same_question.Tie as tie
@@ -35,8 +35,8 @@ turn d =
     let ws = a .ws .now in
     v .inv .1 .1 ∙ every-turn (λ s. eqb (s .question) (main-of ws .question)) ws 11 (a .count) (v .i) (d .loop-test .taken)
 
-shared-slice-read-q : tie.Need-shared-slice-read-q Inv-loop μ-loop
-shared-slice-read-q c = search needs
+shared-slice-read-question : tie.Need-shared-slice-read-question Inv-loop μ-loop
+shared-slice-read-question c = search needs
 
 loop-holds : tie.Need-loop-holds Inv-loop μ-loop
 loop-holds c =
@@ -83,7 +83,7 @@ same-question-spec =
     (tie.spec
     Inv-loop
     μ-loop
-    shared-slice-read-q
+    shared-slice-read-question
     loop-holds
     mul-if1
     add-if1

@@ -1,6 +1,6 @@
 -- Each way out is a case of the definition.
 use Rattle.laws.specs.Pick.{cases}
-use Rattle.certificate.specs.Parts.{least}
+use Rattle.laws.specs.Least.{least}
 use Rattle.certificate.proofs.smaller.Statement.{statement}
 use Rattle.certificate.proofs.smaller.Tie as tie
 

@@ -5,7 +5,7 @@ use mathlib.Core.Path.{_≡_, refl, sym, ap, _∙_}
 use Rattle.laws.specs.Pick.{pick, here, skip}
 use Rattle.format.specs.Statement.{statements}
 use Rattle.rules.specs.Rules.{which, some}
-use Rattle.certificate.specs.Parts.{parts-start, some-turn, some-end}
+use Rattle.certificate.specs.Laws.Parts.{parts-start, some-turn, some-end}
 use borrow.Author.Needs.{needs}
 use Rattle.certificate.proofs.some_with.Statement.{statement}
 use Rattle.certificate.proofs.some_with.Tie as tie

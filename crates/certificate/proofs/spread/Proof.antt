@@ -1,6 +1,6 @@
 -- The tests are those of the definition, by what the two calls answer.
 use Rattle.format.specs.Statement.{statements}
-use Rattle.certificate.specs.Groups.{spread-is}
+use Rattle.certificate.specs.Laws.Groups.{spread-is}
 use borrow.Author.Needs.{needs}
 use Rattle.certificate.proofs.spread.Statement.{statement}
 use Rattle.certificate.proofs.spread.Tie as tie

@@ -1,7 +1,7 @@
 -- The words read are those that the code covers, and the code over them is compared with the words behind.
 use mathlib.Core.Path.{_∙_}
 use native.Mathlib.Omega.{arith}
-use Rattle.certificate.specs.Codes.{verified}
+use Rattle.certificate.specs.Laws.Codes.{verified}
 use borrow.Author.Needs.{needs}
 use Rattle.certificate.proofs.verifies_at.Statement.{statement}
 use Rattle.certificate.proofs.verifies_at.Tie as tie

@@ -1,9 +1,9 @@
 -- Only before the first line something is told.
 use mathlib.Core.Path.{refl, sym, ap}
 use borrow.Author.Needs.{needs}
-use Rattle.console.specs.declared.Phase.{Phase}
-use Rattle.console.specs.Turns.{printed-as}
-use Rattle.console.specs.Valley.{missing}
+use Rattle.world.specs.declared.Phase.{Phase}
+use Rattle.events.specs.Turns.{printed-as}
+use Rattle.world.specs.Valley.{missing}
 use Rattle.console.proofs.missing.Statement.{statement}
 use Rattle.console.proofs.missing.Tie as tie
 

@@ -1,7 +1,7 @@
 -- By its fields.
 use lib.ListN.{replicate}
 use borrow.Author.Needs.{needs}
-use Rattle.console.specs.declared.Phase.the-variants.{First}
+use Rattle.world.specs.declared.Phase.the-variants.{First}
 use Rattle.console.specs.Pieces.{started}
 use Rattle.console.proofs.start.Statement.{statement}
 use Rattle.console.proofs.start.Tie as tie

@@ -7,8 +7,8 @@ use Rattle.fitness.proofs.words_fit.Tie as tie
 step-in-requires : tie.Need-step-in-requires
 step-in-requires c κs = search needs
 
-sub-at : tie.Need-sub-at
-sub-at c = search needs
+sub-own : tie.Need-sub-own
+sub-own c = search needs
 
 mul-at : tie.Need-mul-at
 mul-at c = search needs
@@ -28,35 +28,30 @@ array-read-stage-fits c = search needs
 stage-fits-requires : tie.Need-stage-fits-requires
 stage-fits-requires c κs = search needs
 
-for-value-fits-requires : tie.Need-for-value-fits-requires
-for-value-fits-requires c κs = search needs
-
-for-none-fits-requires : tie.Need-for-none-fits-requires
-for-none-fits-requires c κs = search needs
+groups-fit-requires : tie.Need-groups-fit-requires
+groups-fit-requires c κs = search needs
 
 returns : tie.Need-returns
 returns c =
-    let s = c .before in
-    let f = s .before .before .before in
-    let g = f .before .before .before in
+    let k = c .before in
+    let g = k .before .before in
     let h = g .before in
     let p = h .before .before in
-    let a = p .before .before .before .before .before .before .before .args in
-    words-are (a .n) (a .number) (a .t) (h .held-fits .result) (g .stage-fits .result) (f .for-value-fits .result) (s .for-none-fits .result) (p .step-in .result .0)
-    (p .step-in .ensures) (h .held-fits .ensures) (g .stage-fits .ensures) (f .for-value-fits .ensures) (s .for-none-fits .ensures)
+    let a = p .before .before .before .before .before in
+    words-are (a .args .n) (a .args .number) (a .args .t) (h .held-fits .result) (g .stage-fits .result) (k .groups-fit .result) (p .step-in .result .0) (a .pre .2)
+    (p .step-in .ensures) (h .held-fits .ensures) (g .stage-fits .ensures) (k .groups-fit .ensures)
 
 pub words-fit-spec : {M : Type 1} → statement M
 words-fit-spec =
     tie.close
     (tie.spec
     step-in-requires
-    sub-at
+    sub-own
     mul-at
     cast-at
     held-fits-requires
     mul-stage-fits
     array-read-stage-fits
     stage-fits-requires
-    for-value-fits-requires
-    for-none-fits-requires
+    groups-fit-requires
     returns)

@@ -1,5 +1,6 @@
 -- The last round closes the station; any other goes on.
-use Rattle.giving.specs.Found.{answers-none, ends-closed, ends-on}
+use Rattle.giving.specs.Gives.{shut-words}
+use Rattle.giving.specs.Laws.Found.{answers-none, ends-closed, ends-on}
 use borrow.Author.Needs.{needs}
 use Rattle.giving.proofs.end_step.Statement.{statement}
 use Rattle.giving.proofs.end_step.Tie as tie
@@ -10,16 +11,20 @@ decision-after-requires c κs = search needs
 closes-requires : tie.Need-closes-requires
 closes-requires c κs = search needs
 
-shut-requires : tie.Need-shut-requires
-shut-requires c κs = search needs
+empty-requires : tie.Need-empty-requires
+empty-requires c κs = search needs
 
 no-bundle-requires : tie.Need-no-bundle-requires
 no-bundle-requires c κs = search needs
 
 returns : tie.Need-returns
-returns c = let a = c .before .before .before .before .before .before .before .before .before .args in
+unfolding shut-words
+returns c =
+    let i = c .before .before .before in
+    let d = i .before .before in
+    let a = d .before .before .before .before .before .args in
     answers-none _ _ _ _ _ _ (c .no-bundle .ensures)
-    (ends-closed (a .m) (a .k) (a .coin) (a .out .now) _ _ _ (c .before .before .before .before .decision-after .ensures) (c .before .before .before .closes .ensures) (c .before .before .if1 .taken) (c .before .shut .ensures))
+    (ends-closed (a .m) (a .k) (a .coin) (a .out .now) _ _ _ (d .decision-after .ensures) (i .before .closes .ensures) (i .if1 .taken) (c .before .empty .ensures))
 
 next-requires : tie.Need-next-requires
 next-requires c κs = search needs
@@ -31,8 +36,13 @@ same-length : tie.Need-same-length
 same-length c = search needs
 
 returns-2 : tie.Need-returns-2
-returns-2 c = let a = c .before .before .before .before .before .before .before .before .before .before .before .before .before .args in
-    ends-on (a .m) (a .k) (a .coin) (a .out .now) _ _ _ _ _ _ _ _ (c .before .before .before .before .before .before .before .before .decision-after .ensures) (c .before .before .before .before .before .before .before .closes .ensures) (c .before .before .before .before .before .before .if1 .left) (c .before .before .before .before .next .ensures) (c .before .before .go-on .ensures)
+returns-2 c =
+    let g = c .before .before .before .before in
+    let x = g .before .before in
+    let i = x .before .before in
+    let d = i .before .before in
+    let a = d .before .before .before .before .before .args in
+    ends-on (a .m) (a .k) (a .coin) (a .out .now) _ _ _ _ _ _ _ _ (d .decision-after .ensures) (i .before .closes .ensures) (i .if1 .left) (x .next .ensures) (g .go-on .ensures)
 
 pub end-step-spec : {M : Type 1} → statement M
 end-step-spec =
@@ -40,7 +50,7 @@ end-step-spec =
     (tie.spec
     decision-after-requires
     closes-requires
-    shut-requires
+    empty-requires
     no-bundle-requires
     returns
     next-requires

@@ -5,7 +5,7 @@ use mathlib.Core.List.{_++_}
 use native.Mathlib.Omega.{arith}
 use lib.ListN.{length, take, drop, replicate}
 use Rattle.keeping.specs.Kept.{words-kept, group-from}
-use Rattle.keeping.specs.Turns.{kept-room, group-turn}
+use Rattle.keeping.specs.Laws.Turns.{kept-room, group-turn}
 use borrow.Author.Needs.{needs}
 use Rattle.keeping.proofs.group_from.Statement.{statement}
 use Rattle.keeping.proofs.group_from.Tie as tie

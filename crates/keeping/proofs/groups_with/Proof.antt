@@ -7,11 +7,17 @@ use Rattle.keeping.proofs.groups_with.Tie as tie
 quorum-requires : tie.Need-quorum-requires
 quorum-requires c κs = search needs
 
-replaces-requires : tie.Need-replaces-requires
-replaces-requires c κs = search needs
+for-value-requires : tie.Need-for-value-requires
+for-value-requires c κs = search needs
 
-replaces-requires-2 : tie.Need-replaces-requires-2
-replaces-requires-2 c κs = search needs
+is-lowest-requires : tie.Need-is-lowest-requires
+is-lowest-requires c κs = search needs
+
+for-none-requires : tie.Need-for-none-requires
+for-none-requires c κs = search needs
+
+is-lowest-requires-2 : tie.Need-is-lowest-requires-2
+is-lowest-requires-2 c κs = search needs
 
 group-after-requires : tie.Need-group-after-requires
 group-after-requires c κs = search needs
@@ -23,15 +29,27 @@ returns : tie.Need-returns
 unfolding groups-with
 returns c =
     let two = c .before .before in
-    rw (c .before .group-after .ensures, c .group-after2 .ensures, two .before .before .replaces .ensures, two .replaces2 .ensures, two .before .before .before .before .quorum .ensures)
+    let none = two .before in
+    let one = none .before .before in
+    rw (
+      c .before .group-after .ensures,
+      c .group-after2 .ensures,
+      one .is-lowest .ensures,
+      two .is-lowest2 .ensures,
+      one .before .for-value .ensures,
+      none .for-none .ensures,
+      one .before .before .before .quorum .ensures,
+    )
 
 pub groups-with-spec : {M : Type 1} → statement M
 groups-with-spec =
     tie.close
     (tie.spec
     quorum-requires
-    replaces-requires
-    replaces-requires-2
+    for-value-requires
+    is-lowest-requires
+    for-none-requires
+    is-lowest-requires-2
     group-after-requires
     group-after-requires-2
     returns)

@@ -1,5 +1,5 @@
 -- By what the calls answer, field by field.
-use Rattle.keeping.specs.Kept.{kept-words}
+use Rattle.keeping.specs.Kept.{with-bundle}
 use borrow.Author.Needs.{needs}
 use Rattle.keeping.proofs.keep.Statement.{statement}
 use Rattle.keeping.proofs.keep.Tie as tie
@@ -17,10 +17,10 @@ groups-with-requires : tie.Need-groups-with-requires
 groups-with-requires c κs = search needs
 
 returns : tie.Need-returns
-unfolding kept-words
+unfolding with-bundle
 returns c =
     let f = c .before .before in
-    rw (c .before .held-with .ensures, c .groups-with .ensures, f .read-fields .ensures, f .before .word-at .ensures)
+    rw (c .groups-with .ensures, c .before .held-with .ensures, f .read-fields .ensures, f .before .word-at .ensures)
 
 pub keep-spec : {M : Type 1} → statement M
 keep-spec =

@@ -5,7 +5,7 @@ use mathlib.Core.Path.{_≡_, ap, _∙_}
 use native.Mathlib.Omega.{arith}
 use lib.ListN.{length, getD, drop, set}
 use lib.Seq.{paste, paste-zero}
-use Rattle.keeping.specs.Turns.{main-turn}
+use Rattle.keeping.specs.Laws.Turns.{main-turn}
 use borrow.Author.Needs.{needs}
 use Rattle.keeping.proofs.put_main.Statement.{statement}
 use Rattle.keeping.proofs.put_main.Tie as tie

@@ -3,7 +3,7 @@ use native.Mathlib.Omega.{arith}
 use lib.ListN.{length}
 use Rattle.laws.specs.Pick.{here, skip}
 use Rattle.keeping.specs.Kept.{with-slot}
-use Rattle.keeping.specs.Turns.{has-main}
+use Rattle.keeping.specs.Laws.Turns.{has-main}
 use borrow.Author.Needs.{needs}
 use Rattle.keeping.proofs.with_slot.Statement.{statement}
 use Rattle.keeping.proofs.with_slot.Tie as tie

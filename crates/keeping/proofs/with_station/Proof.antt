@@ -5,7 +5,8 @@ use native.Mathlib.Omega.{arith}
 use Rattle.laws.specs.Pick.{here, skip}
 use Rattle.laws.specs.Sets.{bit-fits}
 use Rattle.keeping.specs.Kept.{with-station}
-use Rattle.keeping.specs.Turns.{is-station, one-bit}
+use Rattle.held.specs.Laws.Sets.{one-bit}
+use Rattle.keeping.specs.Laws.Turns.{is-station}
 use borrow.Author.Needs.{needs}
 use Rattle.keeping.proofs.with_station.Statement.{statement}
 use Rattle.keeping.proofs.with_station.Tie as tie
@@ -18,7 +19,7 @@ sub-i : tie.Need-sub-i
 sub-i c = is-station (c .before .args .s) (c .if1 .left) .0
 
 in-set-requires : tie.Need-in-set-requires
-in-set-requires c κs = omega (arith, is-station (c .before .args .s) (c .if1 .left))
+in-set-requires c κs = search needs
 
 returns-2 : tie.Need-returns-2
 unfolding with-station

@@ -1,7 +1,7 @@
 -- By what the two calls answer; below eleven words there is no certificate.
 use mathlib.Core.Path.{_∙_}
 use Rattle.keeping.specs.Kept.{words-kept}
-use Rattle.keeping.specs.Turns.{none-kept}
+use Rattle.keeping.specs.Laws.Turns.{none-kept}
 use borrow.Author.Needs.{needs}
 use Rattle.keeping.proofs.words_kept.Statement.{statement}
 use Rattle.keeping.proofs.words_kept.Tie as tie

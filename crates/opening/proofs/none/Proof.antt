@@ -1,12 +1,15 @@
--- By its fields.
-use mathlib.Core.Path.{refl}
+-- A station that holds nothing.
 use Rattle.station.specs.Calls.{no-station}
+use borrow.Author.Needs.{needs}
 use Rattle.opening.proofs.none.Statement.{statement}
 use Rattle.opening.proofs.none.Tie as tie
 
+empty-requires : tie.Need-empty-requires
+empty-requires c κs = search needs
+
 returns : tie.Need-returns
 unfolding no-station
-returns c = refl
+returns c = c .empty .ensures
 
 pub none-spec : {M : Type 1} → statement M
-none-spec = tie.close (tie.spec returns)
+none-spec = tie.close (tie.spec empty-requires returns)

@@ -1,5 +1,5 @@
 -- Each answer is that of the first test that fails: the tests before it have passed.
-use Rattle.refusal.specs.Answers.{answer-room, answer-range, answer-closed, answer-judged, two-words, station-low, answer-step}
+use Rattle.refusal.specs.Laws.Answers.{answer-room, answer-range, answer-closed, answer-judged, two-words, station-low, answer-step}
 use borrow.Author.Needs.{needs}
 use Rattle.refusal.proofs.refusal.Statement.{statement}
 use Rattle.refusal.proofs.refusal.Tie as tie

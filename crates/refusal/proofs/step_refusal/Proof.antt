@@ -11,11 +11,11 @@ step-in-requires c κs = search needs
 step-of-requires : tie.Need-step-of-requires
 step-of-requires c κs = search needs
 
-sub-is-heard : tie.Need-sub-is-heard
-sub-is-heard c = search needs
+sub-in-set : tie.Need-sub-in-set
+sub-in-set c = search needs
 
-is-heard-requires : tie.Need-is-heard-requires
-is-heard-requires c κs = search needs
+in-set-requires : tie.Need-in-set-requires
+in-set-requires c κs = search needs
 
 conflicts-requires : tie.Need-conflicts-requires
 conflicts-requires c κs = search needs
@@ -29,7 +29,7 @@ returns c =
     let k = c .before .before .before .before .before in
     let h = k .before in
     let s = h .before .before in
-    rw (c .table .ensures, k .conflicts .ensures, h .is-heard .ensures, s .step-of .ensures, s .before .step-in .ensures)
+    rw (c .table .ensures, k .conflicts .ensures, h .in-set .ensures, s .step-of .ensures, s .before .step-in .ensures)
 
 pub step-refusal-spec : {M : Type 1} → statement M
 step-refusal-spec =
@@ -37,8 +37,8 @@ step-refusal-spec =
     (tie.spec
     step-in-requires
     step-of-requires
-    sub-is-heard
-    is-heard-requires
+    sub-in-set
+    in-set-requires
     conflicts-requires
     table-requires
     returns)

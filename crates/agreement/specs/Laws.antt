@@ -1,0 +1,5 @@
+pub mod Effect
+pub mod Line
+pub mod Giving
+pub mod Invariant
+pub mod Run

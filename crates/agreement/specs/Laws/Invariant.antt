@@ -1,0 +1,156 @@
+-- The log under the modules of a group: each entry is a well-formed statement of its site, no pair of a site is there twice, since none is above its module's last, and
+-- what a sound site's module coded is justified.
+use mathlib.Core.Path.{_≡_, refl, sym, _∙_, ap, subst}
+use mathlib.Core.Bool.{Bool, true, false}
+use mathlib.Core.List.{List, [], _∷_, _++_}
+use Prim.Native.Nat.{ℕ, _≤_}
+use lib.Dec.{eqb}
+use borrow.Author.Tests.{eqb-true, eqb-false, le-leb}
+use Rattle.laws.specs.Pick.{pick}
+use Rattle.laws.specs.Bools.{never}
+use Rattle.laws.specs.All.{All, all-map, all-append}
+use Rattle.format.specs.Numbers.{kind-V, none}
+use Rattle.format.specs.Statement.{Statement, statement, covered, step}
+use Rattle.format.specs.Laws.Shape.{Shape, init, proposal, vote, Formed, formed-out}
+use Rattle.modules.specs.declared.Module.{Module}
+use Rattle.modules.specs.Counter.{above, last-for, advanced, making}
+use Rattle.modules.specs.Above.{stays-below, coded-below}
+use Rattle.format.specs.Laws.ReadBack.{Proper, word-back}
+use Rattle.agreement.specs.Maths.Log.{OtherPair, Distinct}
+use Rattle.agreement.specs.Maths.Safe.{Just, Split}
+use Rattle.agreement.specs.Maths.Just.{bare, just-more, split-more, bare-just}
+use Rattle.agreement.specs.Laws.Effect.{entry}
+use Rattle.agreement.specs.Laws.Line.{reads, reads-append, AtSite}
+use Rattle.agreement.specs.Demand.{Entry, member}
+
+-- a statement whose pair is not above a module's last: the module codes nothing more of that question and step
+abbrev pub NotAbove : Module → Statement → Type 0
+NotAbove m s = above (last-for m (s .question)) (s .question) (step s) ≡ false
+
+-- the covered words of a statement, read again
+pub covered-back : (n : ℕ) (s : Statement) → n ≤ 31 → Proper n s → statement (covered s) 0 ≡ bare s
+covered-back n s top p =
+    let b = word-back n s top (p .formed) in
+    λ i. record { kind = b .kind i; value = b .value i; flag = b .flag i; station = b .station i; round = b .round i; question = s .question; code = [] }
+
+-- the entry of a statement: it is read again, and is of its site
+pub entry-read : (n i : ℕ) (s : Statement) → n ≤ 31 → Proper n s → reads (entry i s ∷ []) ≡ bare s ∷ []
+unfolding reads pick
+entry-read n i s top p = ap (λ (x : Statement). x ∷ []) (covered-back n s top p)
+
+pub entry-at : (n i : ℕ) (s : Statement) → n ≤ 31 → Proper n s → s .station ≡ i → All AtSite (entry i s ∷ [])
+entry-at n i s top p mine = ((λ e. sym (ap (λ (x : Statement). x .station) (covered-back n s top p) ∙ mine)), tt)
+
+bare-formed : (n : ℕ) (s : Statement) → Formed n s → Formed n (bare s)
+bare-formed n s f = record { low = f .low; high = f .high; shape = same (f .shape) }
+  where
+    same : Shape s → Shape (bare s)
+    same (init a b c d) = init a b c d
+    same (proposal a b c d e) = proposal a b c d e
+    same (vote a b c d e) = vote a b c d e
+
+module _ (key : List ℕ) (n : ℕ) (faulty : List ℕ) where
+  -- the module of site i, as it was made but for its last pair
+  pub record Mine (i : ℕ) (m : Module) : Type 0 where
+    pub same-key : m .key ≡ key
+    pub same-n : m .n ≡ n
+    pub same-number : m .station ≡ i
+
+  pub record LogInv (f : ℕ → Module) (l : List Entry) : Type 0 where
+    pub mods : (i : ℕ) → 1 ≤ i → i ≤ n → Mine i (f i)
+    pub bound : All (λ s. NotAbove (f (s .station)) s) (reads l)
+    pub formed : All (Formed n) (reads l)
+    pub sites : All AtSite l
+    pub distinct : Distinct (reads l)
+    pub just : All (λ s. member (s .station) faulty ≡ false → Just n (reads l) s) (reads l)
+    pub split : All (λ s. member (s .station) faulty ≡ false → s .kind ≡ kind-V → s .value ≡ none → Split n (reads l) (s .question) (s .round)) (reads l)
+
+  pub start : 2 ≤ n → n ≤ 31 → LogInv (λ i. making key n i .made) []
+  unfolding reads making pick
+  start low top =
+      record { mods = λ i lo hi. made i lo hi; bound = tt; formed = tt; sites = tt; distinct = tt; just = tt; split = tt }
+    where
+      made : (i : ℕ) → 1 ≤ i → i ≤ n → Mine i (making key n i .made)
+      made i lo hi =
+          rw (le-leb 2 n low, le-leb n 31 top, le-leb 1 i lo, le-leb i n hi)
+          (record { same-key = refl; same-n = refl; same-number = refl })
+
+  -- a call that codes no statement and leaves its module as it was, whatever else it codes
+  pub unchanged : (f g : ℕ → Module) (es l : List Entry) → reads es ≡ [] → All AtSite es → ((i : ℕ) → f i ≡ g i) → LogInv f l → LogInv g (es ++ l)
+  unchanged f g es l none-there at e I =
+      let same : reads l ≡ reads (es ++ l) = sym (reads-append es l ∙ ap (λ (x : List Statement). x ++ reads l) none-there) in
+      record {
+        mods = λ i lo hi. subst (λ (m : Module). Mine i m) (e i) (I .mods i lo hi);
+        bound = subst (λ (x : List Statement). All (λ s. NotAbove (g (s .station)) s) x) same (all-map (λ s b. subst (λ (m : Module). NotAbove m s) (e (s .station)) b) (reads l) (I .bound));
+        formed = subst (λ (x : List Statement). All (Formed n) x) same (I .formed);
+        sites = all-append AtSite es l at (I .sites);
+        distinct = subst Distinct same (I .distinct);
+        just = subst (λ (x : List Statement). All (λ s. member (s .station) faulty ≡ false → Just n x s) x) same (I .just);
+        split = subst (λ (x : List Statement). All (λ s. member (s .station) faulty ≡ false → s .kind ≡ kind-V → s .value ≡ none → Split n x (s .question) (s .round)) x) same (I .split);
+      }
+
+  module _ (f g : ℕ → Module) (es l : List Entry) (j : ℕ) (s : Statement) (one : reads es ≡ bare s ∷ []) (at : All AtSite es) (top : n ≤ 31) (lo : 1 ≤ j) (hi : j ≤ n) (I : LogInv f l) (p : Proper n s) (mine : s .station ≡ j)
+      (high : above (last-for (f j) (s .question)) (s .question) (step s) ≡ true) (now : g j ≡ advanced (f j) (s .question) (step s)) (others : (i : ℕ) → (i ≡ j → ⊥) → g i ≡ f i)
+      (sj : member j faulty ≡ false → Just n (reads l) s)
+      (ss : member j faulty ≡ false → s .kind ≡ kind-V → s .value ≡ none → Split n (reads l) (s .question) (s .round)) where
+    shape-s : Formed n s
+    shape-s = formed-out n s (p .formed)
+
+    bare-step : step (bare s) ≡ step s
+    unfolding step
+    bare-step = refl
+
+    -- what is not above the last pair of its site's module stays so
+    below-on : (t : Statement) → NotAbove (f (t .station)) t → NotAbove (g (t .station)) t
+    below-on t low = go (eqb (t .station) j) refl
+      where
+        go : (b : Bool) → eqb (t .station) j ≡ b → NotAbove (g (t .station)) t
+        go true e =
+            let x : t .station ≡ j = eqb-true (t .station) j e in
+            subst (λ (m : Module). NotAbove m t) (sym (ap g x ∙ now))
+            (stays-below (f j) (s .question) (step s) (t .question) (step t) high (subst (λ (i : ℕ). NotAbove (f i) t) x low))
+        go false e = subst (λ (m : Module). NotAbove m t) (sym (others (t .station) (eqb-false (t .station) j e))) low
+
+    now-below : NotAbove (g j) (bare s)
+    now-below = subst (λ (m : Module). NotAbove m (bare s)) (sym now) (rw bare-step (coded-below (f j) (s .question) (step s)))
+
+    under : (t : Statement) → NotAbove (f (t .station)) t → OtherPair (bare s) t
+    under t b x y z =
+        let w : above (last-for (f j) (s .question)) (s .question) (step s) ≡ false = sym (λ i. above (last-for (f ((x ∙ mine) i)) (y i)) (y i) ((z ∙ bare-step) i)) ∙ b in
+        never _ w high
+
+    mods-on : (i : ℕ) → 1 ≤ i → i ≤ n → Mine i (g i)
+    mods-on i a b = go (eqb i j) refl
+      where
+        go : (c : Bool) → eqb i j ≡ c → Mine i (g i)
+        go true e =
+            let x : i ≡ j = eqb-true i j e in
+            let M = I .mods j lo hi in
+            subst (λ (z : ℕ). Mine z (g z)) (sym x) (subst (λ (m : Module). Mine j m) (sym now)
+            (record { same-key = M .same-key; same-n = M .same-n; same-number = M .same-number }))
+        go false e = subst (λ (m : Module). Mine i m) (sym (others i (eqb-false i j e))) (I .mods i a b)
+
+    abbrev l2 : List Statement
+    l2 = bare s ∷ reads l
+
+    reads-on : reads (es ++ l) ≡ l2
+    reads-on = reads-append es l ∙ ap (λ (x : List Statement). x ++ reads l) one
+
+    pub log-add : LogInv g (es ++ l)
+    log-add =
+        record {
+          mods = mods-on;
+          bound = subst (λ (x : List Statement). All (λ t. NotAbove (g (t .station)) t) x) (sym reads-on)
+              (subst (λ (i : ℕ). NotAbove (g i) (bare s)) (sym mine) now-below, all-map below-on (reads l) (I .bound));
+          formed = subst (λ (x : List Statement). All (Formed n) x) (sym reads-on) (bare-formed n s shape-s, I .formed);
+          sites = all-append AtSite es l at (I .sites);
+          distinct = subst Distinct (sym reads-on) (all-map under (reads l) (I .bound), I .distinct);
+          just = subst (λ (x : List Statement). All (λ t. member (t .station) faulty ≡ false → Just n x t) x) (sym reads-on) (
+            (λ h. just-more n (bare s) (reads l) (bare s) (bare-just n (reads l) s (sj (ap (λ (i : ℕ). member i faulty) (sym mine) ∙ h)))),
+            all-map (λ t k h. just-more n (bare s) (reads l) t (k h)) (reads l) (I .just),
+          );
+          split = subst (λ (x : List Statement). All (λ t. member (t .station) faulty ≡ false → t .kind ≡ kind-V → t .value ≡ none → Split n x (t .question) (t .round)) x) (sym reads-on) (
+            (λ h a b. split-more n (bare s) (reads l) (ss (ap (λ (i : ℕ). member i faulty) (sym mine) ∙ h) a b)),
+            all-map (λ t k h a b. split-more n (bare s) (reads l) (k h a b)) (reads l) (I .split),
+          );
+        }

@@ -1,0 +1,477 @@
+-- Every list of calls that meets the premises keeps the invariant of the log and what is known of sound sites' stations.
+use mathlib.Core.Path.{_≡_, refl, sym, _∙_, ap, subst}
+use mathlib.Core.Bool.{Bool, true, false, _&&_, _||_}
+use mathlib.Core.List.{List, [], _∷_, _++_, append-assoc, List·Memᴰ·head}
+use Prim.Native.Nat.{ℕ, _≤_, _<_}
+use native.Mathlib.Omega.{arith}
+use lib.Dec.{eqb, ltb}
+use lib.ListN.{length, drop}
+use borrow.Author.Tests.{eqb-true, eq-eqb, ne-eqb}
+use Rattle.laws.specs.Pick.{pick}
+use Rattle.laws.specs.Bools.{never, both, join, left}
+use Rattle.laws.specs.All.{All}
+use Rattle.laws.specs.Count.{count}
+use Rattle.format.specs.Numbers.{kind-INIT, kind-V, none, D-GET, kept, sent, sent-decided, closed-now, last-round}
+use Rattle.format.specs.Group.{quorum}
+use Rattle.format.specs.Statement.{Statement, statement, written, step}
+use Rattle.format.specs.Bundle.{main-of, all-written, bundle-of, over}
+use Rattle.format.specs.Laws.Shape.{init}
+use Rattle.rules.specs.Rules.{rule-1, some}
+use Rattle.modules.specs.declared.Module.{Module}
+use Rattle.modules.specs.Counter.{above, advanced, last-for}
+use Rattle.station.specs.declared.Stage.the-variants.{Gathering}
+use Rattle.station.specs.declared.Station.{Station}
+use Rattle.station.specs.Machine.{State, Outcome, refused, keeps, sends, began, shut, closes, follows, has-value}
+use Rattle.station.specs.Words as W
+use Rattle.station.specs.Words.{Lengths}
+use Rattle.station.specs.Calls.{Returned, returned, opening, giving, opening-outcome, giving-outcome, no-station}
+use Rattle.format.specs.Laws.ReadBack.{Proper, statement-drop, statement-back}
+use Rattle.station.specs.Laws.Keep.{steps-0}
+use Rattle.station.specs.Laws.Views.{InRange, init-statement, Opens, no-opening, begins, opens-view, Gives, refuses, holds-on, shuts, goes-on, gives-view, sent-statement, Accepted, after, decision-then}
+use Rattle.station.specs.Returns.{unrefused, wrote, took, wrote-unrefused, sent-wrote, sent-took}
+use Rattle.station.specs.Laws.Fits.{own-proper, init-sane, sent-proper}
+use Rattle.agreement.specs.Maths.Safe.{Just, Split}
+use Rattle.agreement.specs.Maths.Just.{bare, backed-just}
+use Rattle.agreement.specs.Maths.Standing.{Standing}
+use Rattle.agreement.specs.Maths.Took.{none-there, enough-before}
+use Rattle.agreement.specs.Laws.Effect.{entry, coded-at, Effect, silent, speaks, log-of, after-of, open-coded, open-after, give-coded, give-after}
+use Rattle.agreement.specs.Laws.Line.{reads, reads-append, AtSite, Line, line-more, open-line}
+use Rattle.agreement.specs.Laws.Giving.{kept-line, shut-line, sent-line, sent-just, sent-split}
+use Rattle.agreement.specs.Laws.Invariant.{Mine, LogInv, unchanged, log-add, entry-read, entry-at}
+use Rattle.agreement.specs.Maths.Votes.{votes}
+use Rattle.agreement.specs.Demand.{Action, opens, gives, Call, call, site, action, apart, view, Entry, Lineage, Found, found, written-main, given-main, opened, gave, member, act, modules, answer, log, openings, lineage, Presents, CodesCame}
+
+-- the main statement of a written bundle, read again
+main-written : (n : ℕ) (s : Statement) (c : List Statement) (out : List ℕ) → n ≤ 31 → Proper n s → statement (over (bundle-of s c) out) 1 ≡ s
+unfolding bundle-of
+main-written n s c out top p =
+    statement-drop (over (bundle-of s c) out) 1
+    ∙ ap (λ (l : List ℕ). statement l 0) (append-assoc (written s) (all-written c) (drop (length (bundle-of s c)) out))
+    ∙ statement-back n s (all-written c ++ drop (length (bundle-of s c)) out) top p
+
+-- ---- a station that has just been opened
+module _ (mac : List ℕ → List ℕ → List ℕ) (eight : (key ws : List ℕ) → length (mac key ws) ≡ 8) (m : Module) (q v : ℕ) (out : List ℕ) (l : List Statement) (r : InRange m) (p : v < 2) where
+  abbrev s : Statement
+  s = init-statement mac m q v out
+
+  abbrev l2 : List Statement
+  l2 = bare s ∷ l
+
+  pub init-just : (k : List Statement) → Just (m .n) k s
+  init-just k = backed-just (m .n) k s [] tt tt (rule-1 refl)
+
+  init-step : step s ≡ 0
+  unfolding step
+  init-step = steps-0 kind-INIT 0 refl
+
+  init-standing : Standing (m .n) l2 (m .station) (began q Gathering none s []) (s ∷ [])
+  unfolding some pick
+  init-standing =
+      record {
+        facts = ((record { mem = List·Memᴰ·head refl; low = r .low; high = r .high }, init-just l2), tt);
+        asked = (refl, tt);
+        low = omega arith;
+        named = λ w low e. absurd (omega arith);
+        names = λ w k low enough. absurd (none-yet w k enough);
+        while-open = λ e.
+            record {
+              sane = init-sane mac eight m q v r p;
+              given = ((λ a b. absurd (omega arith)), tt);
+              among = (List·Memᴰ·head refl, tt);
+              for-value-coded = tt;
+              for-none-coded = tt;
+              upto = (omega (arith, init-step), tt);
+              now-held = (
+                (λ z. left (has-value (s .value) s && eqb (s .station) (s .station)) false
+                    (join (has-value (s .value) s) _ (eq-eqb (s .value) (s .value) refl) (eq-eqb (s .station) (s .station) refl))),
+                tt,
+              );
+            };
+      }
+    where
+      none-yet : (w k : ℕ) → quorum (m .n) ≤ count (votes (s ∷ []) q k w) (m .n) → ⊥
+      none-yet w k enough = omega (arith, enough-before q k w (m .n) (quorum (m .n)) s [] (λ e. omega (arith, init-step)) enough, none-there (m .n))
+
+  pub init-line : Line (m .n) l2 (m .station) (W.as-station (m .n) (m .station) (began q Gathering none s [])) (s ∷ [])
+  init-line = open-line (m .n) (m .station) l2 (began q Gathering none s []) (s ∷ []) (r .at-most-31) (r .low) (r .high) (init-sane mac eight m q v r p) init-standing
+
+module _ (mac : List ℕ → List ℕ → List ℕ) (eight : (key ws : List ℕ) → length (mac key ws) ≡ 8) (key : List ℕ) (n : ℕ) (low : 2 ≤ n) (top : n ≤ 31) (faulty : List ℕ) where
+  -- a site's module is the group's: what holds by its words holds by the group's
+  of-mine : (i : ℕ) (m : Module) → Mine key n faulty i m → (l : List Statement) (t : Station) (took : List Statement)
+      → Line (m .n) l (m .station) t took → Line n l i t took
+  of-mine i m M l t took L = subst (λ (x : ℕ). Line x l i t took) (M .same-n) (subst (λ (x : ℕ). Line (m .n) l x t took) (M .same-number) L)
+
+  to-mine : (i : ℕ) (m : Module) → Mine key n faulty i m → (l : List Statement) (t : Station) (took : List Statement)
+      → Line n l i t took → Line (m .n) l (m .station) t took
+  to-mine i m M l t took L = subst (λ (x : ℕ). Line (m .n) l x t took) (sym (M .same-number)) (subst (λ (x : ℕ). Line x l i t took) (sym (M .same-n)) L)
+
+  came-mine : (i : ℕ) (m : Module) → Mine key n faulty i m → (l : List Entry) (ws : List ℕ) → CodesCame mac key n l ws → CodesCame mac (m .key) (m .n) l ws
+  came-mine i m M l ws c = subst (λ (x : List ℕ). CodesCame mac x n l ws) (sym (M .same-key)) c
+
+  -- what is known of the stations of sites that are not named faulty
+  abbrev Lines : List Statement → (ℕ → ℕ → Found) → Type 0
+  Lines l f = (i k : ℕ) (line : Lineage) → 1 ≤ i → i ≤ n → member i faulty ≡ false → f i k ≡ found line → Line n l i (line .present) (line .took)
+
+  pub record Inv (cs : List Call) : Type 0 where
+    pub logs : LogInv key n faulty (modules mac key n cs) (log mac key n cs)
+    pub lines : Lines (reads (log mac key n cs)) (lineage mac key n cs)
+
+  lines-more : (u : Statement) (l : List Statement) (f : ℕ → ℕ → Found) → Lines l f → Lines (u ∷ l) f
+  lines-more u l f h i k line a b c e = line-more n u l i (line .present) (line .took) (h i k line a b c e)
+
+  same-line : (a b : Lineage) → found a ≡ found b → a ≡ b
+  same-line a b e = cc
+
+  -- ---- the modules behind a call
+  module _ (c : Call) (cs : List Call) where
+    abbrev m : Module
+    m = modules mac key n cs (site c)
+
+    -- what the call coded
+    abbrev new : List Entry
+    new = coded-at mac eight key n m (site c) (action c)
+
+    module-same : act mac key n m (action c) .after ≡ m → (i : ℕ) → modules mac key n cs i ≡ modules mac key n (c ∷ cs) i
+    unfolding modules pick
+    module-same e i = go (eqb (site c) i) refl
+      where
+        go : (b : Bool) → eqb (site c) i ≡ b → modules mac key n cs i ≡ pick b (act mac key n m (action c) .after) (modules mac key n cs i)
+        go true x = ap (modules mac key n cs) (sym (eqb-true (site c) i x)) ∙ sym e
+        go false x = refl
+
+    module-now : modules mac key n (c ∷ cs) (site c) ≡ act mac key n m (action c) .after
+    unfolding modules pick
+    module-now = rw (eq-eqb (site c) (site c) refl)
+
+    module-other : (i : ℕ) → (i ≡ site c → ⊥) → modules mac key n (c ∷ cs) i ≡ modules mac key n cs i
+    unfolding modules pick
+    module-other i ne = rw (ne-eqb (site c) i (λ e. ne (sym e)))
+
+    log-is : log mac key n (c ∷ cs) ≡ new ++ log mac key n cs
+    unfolding log
+    log-is = refl
+
+    module _ (lo : 1 ≤ site c) (hi : site c ≤ n) (I : LogInv key n faulty (modules mac key n cs) (log mac key n cs)) where
+      -- no statement was coded
+      quiet : reads new ≡ [] → All AtSite new → act mac key n m (action c) .after ≡ m → LogInv key n faulty (modules mac key n (c ∷ cs)) (log mac key n (c ∷ cs))
+      quiet e at a =
+          subst (λ (l : List Entry). LogInv key n faulty (modules mac key n (c ∷ cs)) l) (sym log-is)
+          (unchanged key n faulty (modules mac key n cs) (modules mac key n (c ∷ cs)) new (log mac key n cs) e at (module-same a) I)
+
+      reads-quiet : reads new ≡ [] → reads (log mac key n (c ∷ cs)) ≡ reads (log mac key n cs)
+      reads-quiet e = ap reads log-is ∙ reads-append new (log mac key n cs) ∙ ap (λ (x : List Statement). x ++ reads (log mac key n cs)) e
+
+      -- one statement was coded
+      spoke : (s : Statement) → Proper (m .n) s → s .station ≡ m .station → above (last-for m (s .question)) (s .question) (step s) ≡ true
+          → reads new ≡ bare s ∷ [] → All AtSite new → act mac key n m (action c) .after ≡ advanced m (s .question) (step s)
+          → (member (site c) faulty ≡ false → Just n (reads (log mac key n cs)) s)
+          → (member (site c) faulty ≡ false → s .kind ≡ kind-V → s .value ≡ none → Rattle.agreement.specs.Maths.Safe.Split n (reads (log mac key n cs)) (s .question) (s .round))
+          → LogInv key n faulty (modules mac key n (c ∷ cs)) (log mac key n (c ∷ cs))
+      spoke s p mine high e at a sj ss =
+          let M = I .mods (site c) lo hi in
+          subst (λ (l : List Entry). LogInv key n faulty (modules mac key n (c ∷ cs)) l) (sym log-is)
+          (log-add key n faulty (modules mac key n cs) (modules mac key n (c ∷ cs)) new (log mac key n cs) (site c) s e at top lo hi I
+          (subst (λ (x : ℕ). Proper x s) (M .same-n) p) (mine ∙ M .same-number) high (module-now ∙ a) module-other sj ss)
+
+      reads-spoke : (s : Statement) → reads new ≡ bare s ∷ [] → reads (log mac key n (c ∷ cs)) ≡ bare s ∷ reads (log mac key n cs)
+      reads-spoke s e = ap reads log-is ∙ reads-append new (log mac key n cs) ∙ ap (λ (x : List Statement). x ++ reads (log mac key n cs)) e
+
+      -- the entries of the calls that there are: none, or that of one statement
+      none-read : new ≡ [] → (reads new ≡ []) × All AtSite new
+      unfolding reads
+      none-read e = rw e (refl, tt)
+
+      one-read : (s : Statement) → Proper (m .n) s → s .station ≡ m .station → new ≡ entry (site c) s ∷ [] → (reads new ≡ bare s ∷ []) × All AtSite new
+      one-read s p mine e =
+          let M = I .mods (site c) lo hi in
+          let q : Proper n s = subst (λ (x : ℕ). Proper x s) (M .same-n) p in
+          rw e (entry-read n (site c) s top q, entry-at n (site c) s top q (mine ∙ M .same-number))
+
+  -- the stations of a site whose call was a coding, and of the others
+  keep-lines : (c : Call) (cs : List Call) (I : Inv cs) → ((i k : ℕ) → lineage mac key n (c ∷ cs) i k ≡ lineage mac key n cs i k) → Lines (reads (log mac key n cs)) (lineage mac key n (c ∷ cs))
+  keep-lines c cs I same i k line a b h e = I .lines i k line a b h (sym (same i k) ∙ e)
+
+  coded-only : (b : Bool) (e x : Entry) → pick b (e ∷ []) [] ≡ x ∷ [] → b ≡ true
+  unfolding pick
+  coded-only true e x h = refl
+  coded-only false e x h = absurd (let z : _≡_ {A = ℕ} 0 1 = cc in omega arith)
+
+  not-picked : (b : Bool) (x y z : Found) → b ≡ false → pick b x y ≡ z → y ≡ z
+  unfolding pick
+  not-picked true x y z e f = never true e refl
+  not-picked false x y z e f = f
+
+  middle : (a b c : Bool) → b ≡ false → (a && b && c) ≡ false
+  middle true true c e = never true e refl
+  middle true false c e = refl
+  middle false b c e = refl
+
+  -- ---- coding
+  by-coding : (c : Call) (cs : List Call) → 1 ≤ site c → site c ≤ n → Inv cs → Effect mac eight key n (modules mac key n cs (site c)) (site c) (action c)
+      → ((i k : ℕ) → lineage mac key n (c ∷ cs) i k ≡ lineage mac key n cs i k)
+      → ((s : Statement) → new c cs ≡ entry (site c) s ∷ [] → member (site c) faulty ≡ false → ⊥) → Inv (c ∷ cs)
+  by-coding c cs lo hi I (silent e a) same never-coded =
+      let r = none-read c cs lo hi (I .logs) e in
+      record {
+        logs = quiet c cs lo hi (I .logs) (r .0) (r .1) a;
+        lines = subst (λ (l : List Statement). Lines l (lineage mac key n (c ∷ cs))) (sym (reads-quiet c cs lo hi (I .logs) (r .0))) (keep-lines c cs I same);
+      }
+  by-coding c cs lo hi I (speaks s p mine high e a) same never-coded =
+      let r = one-read c cs lo hi (I .logs) s p mine e in
+      record {
+        logs = spoke c cs lo hi (I .logs) s p mine high (r .0) (r .1) a (λ h. absurd (never-coded s e h)) (λ h. absurd (never-coded s e h));
+        lines = subst (λ (l : List Statement). Lines l (lineage mac key n (c ∷ cs))) (sym (reads-spoke c cs lo hi (I .logs) s (r .0)))
+            (lines-more (bare s) (reads (log mac key n cs)) (lineage mac key n (c ∷ cs)) (keep-lines c cs I same));
+      }
+
+  -- what stands apart from the stations, by its effect
+  pub apart-step : (i : ℕ) (a : Action) (cs : List Call) → view a ≡ apart → Effect mac eight key n (modules mac key n cs i) i a → 1 ≤ i → i ≤ n → Inv cs
+      → (member i faulty ≡ false → answer mac key n cs (call i a) .number ≡ 0 → ⊥) → Inv (call i a ∷ cs)
+  unfolding lineage
+  apart-step i a cs is-apart effect lo hi I none-coded =
+      by-coding (call i a) cs lo hi I effect (λ j k. rw is-apart)
+      (λ s e h. none-coded h (eqb-true _ _ (coded-only (eqb (answer mac key n cs (call i a) .number) 0) _ (entry i s) (rw is-apart at e))))
+
+  -- ---- opening
+  module _ (j q v : ℕ) (out : List ℕ) (cs : List Call) (lo : 1 ≤ j) (hi : j ≤ n) (I : Inv cs) where
+    abbrev c : Call
+    c = call j (opens q v out)
+
+    abbrev mj : Module
+    mj = modules mac key n cs j
+
+    -- the stations, by what the call returned
+    abbrev lines-by : Returned → ℕ → ℕ → Found
+    lines-by r i k =
+        pick (eqb j i && unrefused (r .number) && eqb (openings mac key n cs i) k) (opened r) (lineage mac key n cs i k)
+
+    lines-are : (r : Returned) → answer mac key n cs c ≡ r → (l : List Statement) → Lines l (lines-by r) → Lines l (lineage mac key n (c ∷ cs))
+    unfolding lineage
+    lines-are r e l h = subst (λ (x : Returned). Lines l (lines-by x)) (sym e) h
+
+    answer-is : (o : Outcome) → opening-outcome mac mj q v out ≡ o → answer mac key n cs c ≡ returned mj no-station out o
+    unfolding act opening
+    answer-is o e = ap (returned mj no-station out) e
+
+    -- the bundle that is written has the statement at its place
+    written-is : Proper (mj .n) (init-statement mac mj q v out) → mj .n ≤ 31 → statement (over (bundle-of (init-statement mac mj q v out) []) out) 1 ≡ init-statement mac mj q v out
+    unfolding bundle-of
+    written-is p top = main-written (mj .n) (init-statement mac mj q v out) [] out top p
+
+    pub open-step : Inv (c ∷ cs)
+    unfolding returned pick
+    open-step = go (opening-outcome mac mj q v out) refl (opens-view mac mj q v out)
+      where
+        mine : Mine key n faulty j mj
+        mine = I .logs .mods j lo hi
+
+        refused-so : (k : ℕ) → opening-outcome mac mj q v out ≡ refused k → unrefused k ≡ false → Inv (c ∷ cs)
+        refused-so k e w =
+            let quiet-log = none-read c cs lo hi (I .logs) (open-coded mac eight key n mj j q v out ∙ ap (log-of mac eight key n j) e) in
+            record {
+              logs = quiet c cs lo hi (I .logs) (quiet-log .0) (quiet-log .1) (open-after mac eight key n mj j q v out ∙ ap (after-of mac eight key n mj) e);
+              lines = subst (λ (l : List Statement). Lines l (lineage mac key n (c ∷ cs))) (sym (reads-quiet c cs lo hi (I .logs) (quiet-log .0)))
+                  (lines-are (returned mj no-station out (refused k)) (answer-is (refused k) e) (reads (log mac key n cs))
+                  (λ i x line a b h f. I .lines i x line a b h (not-picked (eqb j i && unrefused k && eqb (openings mac key n cs i) x) _ _ _ (middle (eqb j i) (unrefused k) _ w) f)));
+            }
+
+        begun : (r : InRange mj) (p : v < 2) → above (last-for mj q) q (step (init-statement mac mj q v out)) ≡ true
+            → opening-outcome mac mj q v out ≡ sends sent (init-statement mac mj q v out) [] (began q Gathering none (init-statement mac mj q v out) []) → Inv (c ∷ cs)
+        begun r p a e =
+            let s = init-statement mac mj q v out in
+            let o = sends sent s [] (began q Gathering none s []) in
+            let proper : Proper (mj .n) s = own-proper mac eight mj q kind-INIT v D-GET 0 r (init refl refl p refl) in
+            let coded = one-read c cs lo hi (I .logs) s proper refl (open-coded mac eight key n mj j q v out ∙ ap (log-of mac eight key n j) e) in
+            let to-n : (l : List Statement) → Just (mj .n) l s → Just n l s = λ l x. subst (λ (z : ℕ). Just z l s) (mine .same-n) x in
+            record {
+              logs = spoke c cs lo hi (I .logs) s proper refl a (coded .0) (coded .1) (open-after mac eight key n mj j q v out ∙ ap (after-of mac eight key n mj) e)
+                  (λ h. to-n (reads (log mac key n cs)) (init-just mac eight mj q v out (reads (log mac key n cs)) r p (reads (log mac key n cs)))) (λ h x y. absurd (omega arith));
+              lines = subst (λ (l : List Statement). Lines l (lineage mac key n (c ∷ cs))) (sym (reads-spoke c cs lo hi (I .logs) s (coded .0)))
+                  (lines-are (returned mj no-station out o) (answer-is o e) (bare s ∷ reads (log mac key n cs))
+                  (λ i x line a b h f. picked i x line a b h (eqb j i && true && eqb (openings mac key n cs i) x) refl f));
+            }
+          where
+            picked : (i x : ℕ) (line : Lineage) → 1 ≤ i → i ≤ n → member i faulty ≡ false → (b : Bool) → (eqb j i && true && eqb (openings mac key n cs i) x) ≡ b
+                → pick b (found (record {
+                  present = W.as-station (mj .n) (mj .station) (began q Gathering none (init-statement mac mj q v out) []);
+                  took = statement (over (bundle-of (init-statement mac mj q v out) []) out) 1 ∷ [];
+                })) (lineage mac key n cs i x) ≡ found line
+                → Line n (bare (init-statement mac mj q v out) ∷ reads (log mac key n cs)) i (line .present) (line .took)
+            picked i x line a b h true z f =
+                let s = init-statement mac mj q v out in
+                let proper : Proper (mj .n) s = own-proper mac eight mj q kind-INIT v D-GET 0 r (init refl refl p refl) in
+                let ji : j ≡ i = eqb-true j i (both (eqb j i) true (both (eqb j i && true) _ z .0) .0) in
+                let same = same-line _ line f in
+                let T = W.as-station (mj .n) (mj .station) (began q Gathering none s []) in
+                let L : Line n (bare s ∷ reads (log mac key n cs)) j T (s ∷ [])
+                = of-mine j mj mine (bare s ∷ reads (log mac key n cs)) T (s ∷ []) (init-line mac eight mj q v out (reads (log mac key n cs)) r p) in
+                let L1 : Line n (bare s ∷ reads (log mac key n cs)) j T (statement (over (bundle-of s []) out) 1 ∷ [])
+                = subst (λ (y : Statement). Line n (bare s ∷ reads (log mac key n cs)) j T (y ∷ [])) (sym (written-is proper (r .at-most-31))) L in
+                subst (λ (y : Lineage). Line n (bare s ∷ reads (log mac key n cs)) i (y .present) (y .took)) same
+                (subst (λ (y : ℕ). Line n (bare s ∷ reads (log mac key n cs)) y T (statement (over (bundle-of s []) out) 1 ∷ [])) ji L1)
+            picked i x line a b h false z f =
+                line-more n (bare (init-statement mac mj q v out)) (reads (log mac key n cs)) i (line .present) (line .took) (I .lines i x line a b h f)
+
+        go : (o : Outcome) → opening-outcome mac mj q v out ≡ o → Opens mac mj q v out o → Inv (c ∷ cs)
+        go _ e (no-opening {k} w) = refused-so k e w
+        go _ e (begins room r p a) = begun r p a e
+
+  -- ---- giving
+  module _ (j o : ℕ) (t : Station) (ws : List ℕ) (coin : ℕ) (out : List ℕ) (cs : List Call) (lo : 1 ≤ j) (hi : j ≤ n) (I : Inv cs) (len : Lengths t)
+      (came : CodesCame mac key n (log mac key n cs) ws)
+      (sound : member j faulty ≡ false → unrefused (answer mac key n cs (call j (gives o t ws coin out)) .number) ≡ true → Presents mac key n cs j o t) where
+    abbrev g : Call
+    g = call j (gives o t ws coin out)
+
+    abbrev mg : Module
+    mg = modules mac key n cs j
+
+    abbrev before : List Statement
+    before = reads (log mac key n cs)
+
+    mine-g : Mine key n faulty j mg
+    mine-g = I .logs .mods j lo hi
+
+    abbrev given-by : Returned → ℕ → ℕ → Found
+    given-by r i k = pick (eqb j i && unrefused (r .number) && eqb o k) (gave r ws (lineage mac key n cs i k)) (lineage mac key n cs i k)
+
+    given-are : (r : Returned) → answer mac key n cs g ≡ r → (l : List Statement) → Lines l (given-by r) → Lines l (lineage mac key n (g ∷ cs))
+    unfolding lineage
+    given-are r e l h = subst (λ (x : Returned). Lines l (given-by x)) (sym e) h
+
+    returned-is : (x : Outcome) → giving-outcome mac mg t ws coin out ≡ x → answer mac key n cs g ≡ returned mg t out x
+    unfolding act giving
+    returned-is x e = ap (returned mg t out) e
+
+    -- the station given, where the site is not named faulty
+    pub record Whose : Type 0 where
+      pub line : Lineage
+      pub is : lineage mac key n cs j o ≡ found line
+      pub known : Line (mg .n) before (mg .station) t (line .took)
+
+    whose : member j faulty ≡ false → unrefused (answer mac key n cs g .number) ≡ true → Whose
+    whose h u =
+        let p = sound h u in
+        record {
+          line = p .line;
+          is = p .is;
+          known = to-mine j mg mine-g before t (p .line .took)
+              (subst (λ (x : Station). Line n before j x (p .line .took)) (p .now) (I .lines j o (p .line) lo hi h (p .is)));
+        }
+
+    -- the stations behind a giving that is not refused
+    placed : (r : Returned) (l : List Statement) → Lines l (lineage mac key n cs)
+        → (member j faulty ≡ false → Whose) → ((W : Whose) → member j faulty ≡ false → Line n l j (r .station) (written-main r ++ (given-main r ws ++ W .line .took))) → Lines l (given-by r)
+    unfolding pick
+    placed r l stays who next i k line a b h f = go (eqb j i && unrefused (r .number) && eqb o k) refl f
+      where
+        go : (x : Bool) → (eqb j i && unrefused (r .number) && eqb o k) ≡ x → pick x (gave r ws (lineage mac key n cs i k)) (lineage mac key n cs i k) ≡ found line
+            → Line n l i (line .present) (line .took)
+        go false z f = stays i k line a b h f
+        go true z f =
+            let y = both (eqb j i && unrefused (r .number)) (eqb o k) z in
+            let ji : j ≡ i = eqb-true j i (both (eqb j i) _ (y .0) .0) in
+            let ok : o ≡ k = eqb-true o k (y .1) in
+            at-own (ap (λ (x : ℕ). member x faulty) ji ∙ h) ji ok
+          where
+            at-own : member j faulty ≡ false → j ≡ i → o ≡ k → Line n l i (line .present) (line .took)
+            at-own hj ji ok =
+                let W = who hj in
+                let was : lineage mac key n cs i k ≡ found (W .line) = sym (λ x. lineage mac key n cs (ji x) (ok x)) ∙ W .is in
+                let now : found (record { present = r .station; took = written-main r ++ (given-main r ws ++ W .line .took) }) ≡ found line = sym (ap (gave r ws) was) ∙ f in
+                subst (λ (x : Lineage). Line n l i (x .present) (x .took)) (same-line _ line now)
+                (subst (λ (x : ℕ). Line n l x (r .station) (written-main r ++ (given-main r ws ++ W .line .took))) ji (next W hj))
+
+    abbrev coded-g : Outcome → Type 0
+    coded-g x = new g cs ≡ log-of mac eight key n j x
+
+    log-g : (x : Outcome) → giving-outcome mac mg t ws coin out ≡ x → coded-g x
+    log-g x e = give-coded mac eight key n mg j o t ws coin out len ∙ ap (log-of mac eight key n j) e
+
+    after-g : (x : Outcome) → giving-outcome mac mg t ws coin out ≡ x → act mac key n mg (action g) .after ≡ after-of mac eight key n mg x
+    after-g x e = give-after mac eight key n mg j o t ws coin out len ∙ ap (after-of mac eight key n mg) e
+
+    came-g : CodesCame mac (mg .key) (mg .n) (log mac key n cs) ws
+    came-g = came-mine j mg mine-g (log mac key n cs) ws came
+
+    number-g : (x : Outcome) → giving-outcome mac mg t ws coin out ≡ x → unrefused (returned mg t out x .number) ≡ true → unrefused (answer mac key n cs g .number) ≡ true
+    number-g x e u = ap (λ (r : Returned). unrefused (r .number)) (returned-is x e) ∙ u
+
+    -- a call that coded nothing
+    silent-inv : (x : Outcome) → giving-outcome mac mg t ws coin out ≡ x → log-of mac eight key n j x ≡ [] → after-of mac eight key n mg x ≡ mg → Lines before (given-by (returned mg t out x)) → Inv (g ∷ cs)
+    silent-inv x e nil same h =
+        let r = none-read g cs lo hi (I .logs) (log-g x e ∙ nil) in
+        record {
+          logs = quiet g cs lo hi (I .logs) (r .0) (r .1) (after-g x e ∙ same);
+          lines = subst (λ (l : List Statement). Lines l (lineage mac key n (g ∷ cs))) (sym (reads-quiet g cs lo hi (I .logs) (r .0)))
+              (given-are (returned mg t out x) (returned-is x e) before h);
+        }
+
+    -- the sent statement, as the lent words have it
+    main-is : (k : ℕ) (s : Statement) (c : List Statement) (u : State) → wrote k ≡ true → Proper (mg .n) s → mg .n ≤ 31 → written-main (returned mg t out (sends k s c u)) ≡ s ∷ []
+    unfolding returned pick
+    main-is k s c u e p small = rw e (ap (λ (y : Statement). y ∷ []) (main-written (mg .n) s c out small p))
+
+    -- the given statement, where the number says that it is taken
+    given-is : (k : ℕ) → took k ≡ true → pick (took k) (main-of ws ∷ []) [] ≡ main-of ws ∷ []
+    unfolding pick
+    given-is k e = rw e
+
+    pub give-step : Inv (g ∷ cs)
+    unfolding returned pick
+    give-step = go (giving-outcome mac mg t ws coin out) refl (gives-view mac mg t ws coin out len)
+      where
+        go : (x : Outcome) → giving-outcome mac mg t ws coin out ≡ x → Gives mac mg t ws coin out x → Inv (g ∷ cs)
+        go _ e (refuses {k} w) =
+            silent-inv (refused k) e refl refl
+            (λ i x line a b h f. I .lines i x line a b h (not-picked (eqb j i && unrefused k && eqb o x) _ _ _ (middle (eqb j i) (unrefused k) _ w) f))
+        go _ e (holds-on A few) =
+            silent-inv (keeps kept (after mac mg t ws coin out)) e refl refl
+            (placed (returned mg t out (keeps kept (after mac mg t ws coin out))) before (I .lines) (λ h. whose h (number-g (keeps kept (after mac mg t ws coin out)) e refl))
+            (λ H h. of-mine j mg mine-g before (W.as-station (mg .n) (mg .station) (after mac mg t ws coin out)) (main-of ws ∷ H .line .took)
+            (kept-line mac eight mg t ws coin out (log mac key n cs) (H .line .took) (H .known) A came-g few)))
+        go _ e (shuts A size c) = closed-so A size c e
+          where
+            closed-so : (A : Accepted mac mg t ws coin out) (size : length (after mac mg t ws coin out .held) ≡ quorum (mg .n)) → closes last-round (t .stage) ≡ true
+                → giving-outcome mac mg t ws coin out ≡ keeps closed-now (shut (after mac mg t ws coin out) (decision-then mac mg t ws coin out))
+                → Inv (g ∷ cs)
+            closed-so A size c e =
+                let u = shut (after mac mg t ws coin out) (decision-then mac mg t ws coin out) in
+                silent-inv (keeps closed-now u) e refl refl
+                (placed (returned mg t out (keeps closed-now u)) before (I .lines) (λ h. whose h (number-g (keeps closed-now u) e refl))
+                (λ H h. of-mine j mg mine-g before (W.as-station (mg .n) (mg .station) u) (main-of ws ∷ H .line .took)
+                (shut-line mac eight mg t ws coin out (log mac key n cs) (H .line .took) (H .known) A came-g size)))
+        go _ e (goes-on {k} A size c a w) = sent-so k A size c a w e
+          where
+            sent-so : (k : ℕ) (A : Accepted mac mg t ws coin out) (size : length (after mac mg t ws coin out .held) ≡ quorum (mg .n)) (c : closes last-round (t .stage) ≡ false)
+                → above (last-for mg (t .identity .question)) (t .identity .question) (step (sent-statement mac mg t ws coin out)) ≡ true
+                → k ≡ pick (ltb (t .decision) none || eqb (decision-then mac mg t ws coin out) none) sent sent-decided
+                → giving-outcome mac mg t ws coin out ≡ sends k (sent-statement mac mg t ws coin out)
+                (follows (mg .n) (t .stage) (after mac mg t ws coin out) coin .first ++ follows (mg .n) (t .stage) (after mac mg t ws coin out) coin .second)
+                (began (t .identity .question) (follows (mg .n) (t .stage) (after mac mg t ws coin out) coin .stage) (decision-then mac mg t ws coin out) (sent-statement mac mg t ws coin out)
+                (follows (mg .n) (t .stage) (after mac mg t ws coin out) coin .first)) → Inv (g ∷ cs)
+            sent-so k A size more a w e =
+                let s = sent-statement mac mg t ws coin out in
+                let x = follows (mg .n) (t .stage) (after mac mg t ws coin out) coin in
+                let u = began (t .identity .question) (x .stage) (decision-then mac mg t ws coin out) s (x .first) in
+                let o' = sends k s (x .first ++ x .second) u in
+                let proper : Proper (mg .n) s = sent-proper mac eight mg t ws coin out len A size more in
+                let coded = one-read g cs lo hi (I .logs) s proper refl (log-g o' e) in
+                let wr : wrote k ≡ true = ap wrote w ∙ sent-wrote (ltb (t .decision) none || eqb (decision-then mac mg t ws coin out) none) in
+                let tk : took k ≡ true = ap took w ∙ sent-took (ltb (t .decision) none || eqb (decision-then mac mg t ws coin out) none) in
+                let un : unrefused (answer mac key n cs g .number) ≡ true = number-g o' e (wrote-unrefused k wr) in
+                let T : Station = W.as-station (mg .n) (mg .station) u in
+                record {
+                  logs = spoke g cs lo hi (I .logs) s proper refl a (coded .0) (coded .1) (after-g o' e)
+                      (λ h. let H = whose h un in
+                      subst (λ (z : ℕ). Just z before s) (mine-g .same-n) (sent-just mac eight mg t ws coin out (log mac key n cs) (H .line .took) (H .known) A came-g size more))
+                      (λ h y z. let H = whose h un in
+                      subst (λ (z : ℕ). Split z before (s .question) (s .round)) (mine-g .same-n) (sent-split mac eight mg t ws coin out (log mac key n cs) (H .line .took) (H .known) A came-g size more y z));
+                  lines = subst (λ (l : List Statement). Lines l (lineage mac key n (g ∷ cs))) (sym (reads-spoke g cs lo hi (I .logs) s (coded .0)))
+                      (given-are (returned mg t out o') (returned-is o' e) (bare s ∷ before)
+                      (placed (returned mg t out o') (bare s ∷ before) (lines-more (bare s) before (lineage mac key n cs) (I .lines)) (λ h. whose h un)
+                      (λ H h. subst (λ (y : List Statement). Line n (bare s ∷ before) j T (y ++ (given-main (returned mg t out o') ws ++ H .line .took))) (sym (main-is k s (x .first ++ x .second) u wr proper (A .range .at-most-31)))
+                      (subst (λ (y : List Statement). Line n (bare s ∷ before) j T (s ∷ (y ++ H .line .took))) (sym (given-is k tk))
+                      (of-mine j mg mine-g (bare s ∷ before) T (s ∷ (main-of ws ∷ H .line .took))
+                      (sent-line mac eight mg t ws coin out (log mac key n cs) (H .line .took) (H .known) A came-g size more))))));
+                }

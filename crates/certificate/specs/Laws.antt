@@ -1,0 +1,4 @@
+pub mod Parts
+pub mod Codes
+pub mod Groups
+pub mod Answers

@@ -1,0 +1,43 @@
+-- The values that a step's end asks for, by what the scans found.
+use Prim.Native.Nat.{ℕ, suc, _*_, _≤_}
+use mathlib.Core.List.{List, [], _∷_}
+use mathlib.Core.Path.{_≡_, refl, ap, _∙_}
+use lib.Count.{ones, ones-le}
+use lib.Dec.{eqb, ltb, leb}
+use lib.ListN.{length}
+use Rattle.laws.specs.Pick.{pick}
+use Rattle.format.specs.Statement.{Statement}
+use Rattle.rules.specs.declared.Which.the-variants.{Any, Only}
+use Rattle.rules.specs.Rules.{some-value}
+use Rattle.certificate.specs.Check.{every}
+use Rattle.station.specs.Machine.{number-of, has-value, first-value}
+use Rattle.station.specs.Words.{sites, held-in}
+use Rattle.held.specs.Scan.{scan, such}
+use Rattle.held.specs.Laws.Held.{scan-low, scan-number, scan-some, scan-every, scan-value}
+
+number-all : (h : List Statement) → number-of (such Any Any) h ≡ length h
+unfolding number-of pick
+number-all [] = refl
+number-all (s ∷ h) = ap suc (number-all h)
+
+module _ (set : ℕ) (slots : List ℕ) where
+  -- no more than there are stations
+  pub few : (v zeros : ℕ) → zeros ≡ ones (scan (such (Only v) Any) set slots) → zeros ≤ sites
+  few v zeros e = rw e (ones-le sites (scan (such (Only v) Any) set slots) (scan-low (such (Only v) Any) set slots))
+
+  -- the count of INITs, and that of those with 0
+  pub first-by : (all zeros : ℕ) → all ≡ ones (scan (such Any Any) set slots) → zeros ≡ ones (scan (such (Only 0) Any) set slots)
+      → pick (leb all (2 * zeros)) 0 1 ≡ first-value (held-in set slots 0 sites)
+  unfolding first-value
+  first-by all zeros e f =
+      let a : all ≡ length (held-in set slots 0 sites) = e ∙ scan-number (such Any Any) set slots ∙ number-all (held-in set slots 0 sites) in
+      let z : zeros ≡ number-of (has-value 0) (held-in set slots 0 sites) = f ∙ ap ones (scan-value set slots 0) ∙ scan-number (has-value 0) set slots in
+      rw (a, z)
+
+  -- all have the value, where its scan finds all
+  pub every-by : (v all such-v : ℕ) → all ≡ scan (such Any Any) set slots → such-v ≡ scan (such (Only v) Any) set slots
+      → eqb such-v all ≡ every (has-value v) (held-in set slots 0 sites)
+  every-by v all such-v e f = rw (e, f ∙ scan-value set slots v) (scan-every (has-value v) set slots)
+
+  pub some-by : (v such-v : ℕ) → such-v ≡ scan (such (Only v) Any) set slots → ltb 0 such-v ≡ some-value v (held-in set slots 0 sites)
+  some-by v such-v e = rw e (scan-some (such (Only v) Any) set slots)

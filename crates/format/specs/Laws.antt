@@ -1,0 +1,5 @@
+pub mod Word0
+pub mod Layout
+pub mod Shape
+pub mod Codes
+pub mod ReadBack

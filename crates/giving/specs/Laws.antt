@@ -1,0 +1,4 @@
+pub mod Law
+pub mod Whole
+pub mod Found
+pub mod Give

@@ -1,0 +1,110 @@
+-- The three ways out of giving: a test fails; the pair is not above the last, and the station is as it was; else what follows the bundle kept.
+use Prim.Native.Nat.{ℕ}
+use mathlib.Core.Bool.{Bool, true, false, _||_}
+use mathlib.Core.List.{List}
+use mathlib.Core.Path.{_≡_, refl, sym, ap, _∙_, subst}
+use lib.Count.{ones}
+use lib.Dec.{eqb, ltb}
+use lib.ListN.{length}
+use borrow.Author.Tests.{eq-eqb, ne-eqb}
+use Rattle.laws.specs.Pick.{pick, here, skip}
+use Rattle.laws.specs.Bools.{never}
+use Rattle.laws.specs.Refusals.{first-failed}
+use Rattle.format.specs.Numbers.{none, kept, sent, sent-decided, closed-now, not-above, last-round}
+use Rattle.format.specs.Group.{quorum}
+use Rattle.format.specs.Words.{step-of}
+use Rattle.format.specs.Statement.{hmac-code, statement-code}
+use Rattle.format.specs.Bundle.{main-of, certificate-of}
+use Rattle.modules.specs.declared.Module.{Module}
+use Rattle.modules.specs.Counter.{above, last-for}
+use Rattle.station.specs.declared.Station.{Station}
+use Rattle.station.specs.Machine.{refused, taken, closes, decision-at}
+use Rattle.station.specs.Words.{held-by, state-of, Lengths}
+use Rattle.station.specs.Words as W
+use Rattle.station.specs.Calls.{Returned, returned, give-tests, giving}
+use Rattle.station.specs.Answers.{Answers}
+use Rattle.station.specs.Laws.Views.{Accepted, accepted, after}
+use Rattle.refusal.specs.Refusal.{first-refusal, first-refusal-by-length}
+use Rattle.laws.specs.Below.{Below}
+use Rattle.keeping.specs.Laws.One.{LowWords}
+use Rattle.keeping.specs.Kept.{with-bundle}
+use Rattle.keeping.specs.Laws.Law.{keeps-state}
+use Rattle.sending.specs.Sends.{own-fields}
+use Rattle.ending.specs.After.{next-by}
+use Rattle.moving.specs.Moves.{answer, with-no-bundle, sending-words, moving}
+use Rattle.giving.specs.Gives.{shut-words, ending-words, after-words}
+use Rattle.moving.specs.Laws.Found.{answers-by, answers-same}
+use Rattle.giving.specs.Laws.Whole.{not-12, or-as-was, given-is}
+
+module _ (m : Module) (t : Station) (ws : List ℕ) (coin : ℕ) (out : List ℕ) where
+  pub give-refused : (k : ℕ) → k ≡ first-refusal m t ws coin (length out) → (k ≡ 0 → ⊥) → Answers (giving hmac-code m t ws coin out) k 0 t m out
+  unfolding giving returned pick
+  give-refused k e no-0 =
+      let F : ℕ = first-failed (give-tests hmac-code m t ws coin out) in
+      let f : k ≡ first-failed (give-tests hmac-code m t ws coin out) = e ∙ first-refusal-by-length m t ws coin out in
+      answers-by (with-no-bundle k t m out) (giving hmac-code m t ws coin out)
+      (ap (λ (z : ℕ). with-no-bundle z t m out) f
+      ∙ sym (ap (λ (b : Bool). returned m t out (pick b (taken (statement-code (hmac-code (m .key))) last-round (m .n) (m .station) (last-for m (t .identity .question)) (state-of t) (main-of ws) (certificate-of ws) coin)
+      (refused (first-failed (give-tests hmac-code m t ws coin out))))) (ne-eqb (first-failed (give-tests hmac-code m t ws coin out)) 0 (λ z. no-0 (f ∙ z)))))
+
+  -- where the number found is 0, no test fails
+  pub none-found : (k : ℕ) → k ≡ first-refusal m t ws coin (length out) → k ≡ 0 → first-failed (give-tests hmac-code m t ws coin out) ≡ 0
+  none-found k e z = sym (first-refusal-by-length m t ws coin out) ∙ sym e ∙ z
+
+  -- 12 leaves the lent words
+  twelve-lent : (k : Station) → after-words m k coin out .number ≡ not-above → after-words m k coin out .lent ≡ out
+  unfolding after-words ending-words moving sending-words answer pick
+  twelve-lent k =
+      go (ltb (ones (k .held .heard)) (quorum (m .n))) (closes last-round (k .stage))
+      (above (last-for m (k .identity .question)) (k .identity .question) (step-of (next-by (m .n) (k .stage) (k .held .heard) (k .held .slots) coin .kind) (next-by (m .n) (k .stage) (k .held .heard) (k .held .slots) coin .round .0)))
+    where
+      d : ℕ
+      d = decision-at (k .stage) (k .decision) (held-by k)
+
+      sends-it : Returned
+      sends-it =
+          let x = next-by (m .n) (k .stage) (k .held .heard) (k .held .slots) coin in
+          sending-words m k x (own-fields m (x .kind) (x .value) (x .flag) (x .round .0)) d out
+
+      all : Bool → Bool → Bool → Returned
+      all a b c = pick a (with-no-bundle kept k m out) (pick b (with-no-bundle closed-now (shut-words k d) m out) (pick c sends-it (with-no-bundle not-above k m out)))
+
+      go : (a b c : Bool) → all a b c .number ≡ not-above → all a b c .lent ≡ out
+      go true b c e = refl
+      go false true c e = refl
+      go false false true e = never (eqb (pick (ltb (k .decision) none || eqb d none) sent sent-decided) not-above) (not-12 (ltb (k .decision) none || eqb d none)) (eq-eqb _ _ e)
+      go false false false e = refl
+
+  module _ (L : Lengths t) (A : LowWords t) (low : Below ws) (number count : ℕ) (u kk : Station) (after-m : Module) (xs : List ℕ)
+      (none-failed : first-failed (give-tests hmac-code m t ws coin out) ≡ 0) (ek : kk ≡ with-bundle t ws)
+      (a : Answers (after-words m kk coin out) number count u after-m xs) (low-xs : Below xs) where
+    acc : Accepted hmac-code m t ws coin out
+    acc = accepted hmac-code m t ws coin out L none-failed
+
+    k : Station
+    k = W.as-station (m .n) (m .station) (after hmac-code m t ws coin out)
+
+    same-k : kk ≡ k
+    unfolding k
+    same-k = ek ∙ keeps-state hmac-code m t ws coin out L A low acc
+
+    b : Answers (after-words m k coin out) number count u after-m xs
+    b = subst (λ (z : Station). Answers (after-words m z coin out) number count u after-m xs) same-k a
+
+    whole : giving hmac-code m t ws coin out ≡ or-as-was m t out (after-words m k coin out)
+    unfolding k
+    whole = given-is m t ws coin out L acc none-failed (subst Below (b .lent-is) low-xs)
+
+    pub give-12 : number ≡ not-above → Answers (giving hmac-code m t ws coin out) not-above 0 t m xs
+    give-12 e =
+        let n12 : after-words m k coin out .number ≡ not-above = sym (b .number-is) ∙ e in
+        let l : xs ≡ out = b .lent-is ∙ twelve-lent k n12 in
+        subst (λ (z : List ℕ). Answers (giving hmac-code m t ws coin out) not-above 0 t m z) (sym l)
+        (answers-by (with-no-bundle not-above t m out) (giving hmac-code m t ws coin out)
+        (here (eqb (after-words m k coin out .number) not-above) (with-no-bundle not-above t m out) (after-words m k coin out) (eq-eqb _ _ n12) ∙ sym whole))
+
+    pub give-after : (number ≡ not-above → ⊥) → Answers (giving hmac-code m t ws coin out) number count u after-m xs
+    give-after e =
+        answers-same (after-words m k coin out) (giving hmac-code m t ws coin out) number count u after-m xs
+        (skip (eqb (after-words m k coin out .number) not-above) (with-no-bundle not-above t m out) (after-words m k coin out) (after-words m k coin out)
+        (ne-eqb _ _ (λ z. e (b .number-is ∙ z))) refl ∙ sym whole) b

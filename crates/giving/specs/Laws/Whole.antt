@@ -1,0 +1,173 @@
+-- The law of giving: where no test fails, giving is what the code finds for the station that keeps the bundle, with the station as it was where the
+-- number is 12.
+use Prim.Native.Nat.{ℕ, _≤_}
+use mathlib.Core.Bool.{Bool, true, false, _||_}
+use mathlib.Core.List.{List, _++_}
+use mathlib.Core.Path.{_≡_, refl, sym, ap, _∙_, subst}
+use native.Mathlib.Omega.{arith}
+use lib.Count.{ones}
+use lib.Dec.{eqb, ltb}
+use lib.ListN.{length}
+use borrow.Author.Tests.{eq-eqb, ltb-false}
+use Rattle.laws.specs.Pick.{pick, skip}
+use Rattle.laws.specs.Bools.{never}
+use Rattle.laws.specs.Refusals.{first-failed}
+use Rattle.format.specs.Numbers.{none, kept, sent, sent-decided, closed-now, not-above, last-round}
+use Rattle.format.specs.Group.{quorum}
+use Rattle.format.specs.Words.{step-of}
+use Rattle.format.specs.Statement.{Statement, hmac-code, step, statement-code}
+use Rattle.format.specs.Bundle.{main-of, certificate-of, all-written}
+use Rattle.modules.specs.declared.Module.{Module}
+use Rattle.modules.specs.Counter.{above, last-for}
+use Rattle.station.specs.declared.Stage.{Stage}
+use Rattle.station.specs.declared.Stage.the-variants.{Gathering, Proposing, Voting}
+use Rattle.station.specs.declared.Station.{Station}
+use Rattle.station.specs.Machine.{State, Next, supplies-for-value, Outcome, refused, keeps, sends, began, moved, shut, ended, taken, follows, closes, decision-at, round-in, value-group}
+use Rattle.station.specs.Words.{sites, set-of, slot-of, slots-of, held-in, held-by, state-of, Lengths}
+use Rattle.station.specs.Words as W
+use Rattle.station.specs.Calls.{Returned, returned, give-tests, giving}
+use Rattle.station.specs.Laws.Slots.{ones-set, held-back}
+use Rattle.station.specs.Laws.Sane.{InRounds}
+use Rattle.station.specs.Laws.Keep.{Grown, grown}
+use Rattle.station.specs.Laws.Insert.{insert-length}
+use Rattle.station.specs.Laws.End.{Full, Ready}
+use Rattle.station.specs.Laws.Views.{Accepted, after, decision-then, sane-before, full-after}
+use Rattle.station.specs.Laws.Fits.{next-ready, sent-proper}
+use Rattle.station.specs.Seal.{range-fits}
+use Rattle.format.specs.Laws.Codes.{hmac-eight}
+use Rattle.laws.specs.Below.{Below}
+use Rattle.sending.specs.Sends.{own-fields, own-statement}
+use Rattle.ending.specs.declared.Following.{Following}
+use Rattle.ending.specs.After.{next-by, next-is, as-next}
+use Rattle.moving.specs.Moves.{answer, with-no-bundle, sending-words, moving}
+use Rattle.giving.specs.Gives.{shut-words, ending-words, after-words}
+use Rattle.giving.specs.Laws.Law.{chosen, sending-is}
+
+-- 20 and 21 are not 12
+pub not-12 : (b : Bool) → eqb (pick b sent sent-decided) not-above ≡ false
+unfolding pick
+not-12 true = refl
+not-12 false = refl
+
+-- the station as it was, where the number is 12
+abbrev pub or-as-was : Module → Station → List ℕ → Returned → Returned
+or-as-was m t out r = pick (eqb (r .number) not-above) (with-no-bundle not-above t m out) r
+
+in-range-of : (g : Stage) → InRounds g → round-in g ≤ last-round
+in-range-of Gathering i = omega arith
+in-range-of (Proposing r f) i = i .1
+in-range-of (Voting r) i = i .1
+
+-- a group for a value that is supplied has q statements
+for-value-full : (n : ℕ) (g : Stage) (v : ℕ) (s : Statement) → supplies-for-value g s ≡ true → value-group n g v .size ≡ quorum n
+for-value-full n Gathering v s h = never false refl h
+for-value-full n (Proposing r f) v s h = refl
+for-value-full n (Voting r) v s h = refl
+
+module _ (m : Module) (t : Station) (ws : List ℕ) (coin : ℕ) (out : List ℕ) (L : Lengths t) (A : Accepted hmac-code m t ws coin out) where
+  abbrev K : State
+  K = after hmac-code m t ws coin out
+
+  abbrev k : Station
+  k = W.as-station (m .n) (m .station) K
+
+  G : Grown (m .n) (m .station) (state-of t) (main-of ws) (certificate-of ws) (sane-before hmac-code m t ws coin out L A) (A .fitting) (A .new)
+  G = grown (m .n) (m .station) (state-of t) (main-of ws) (certificate-of ws) (sane-before hmac-code m t ws coin out L A) (A .fitting) (A .new)
+
+  back : held-in (set-of (K .held)) (slots-of (K .held) 1 sites) 0 sites ≡ K .held
+  back = held-back (m .n) (K .held) (A .range .at-most-31) (G .rising) (G .proper)
+
+  -- the step goes on
+  goes-on : length (K .held) ≡ quorum (m .n) → closes last-round (t .stage) ≡ false → (d : ℕ) → d ≡ decision-then hmac-code m t ws coin out
+      → Below (moving m k (next-by (m .n) (K .stage) (set-of (K .held)) (slots-of (K .held) 1 sites) coin) d out .lent)
+      → returned m t out (moved (statement-code (hmac-code (m .key))) last-round (m .n) (m .station) (last-for m (t .identity .question)) K (follows (m .n) (K .stage) K coin) d)
+      ≡ or-as-was m t out (moving m k (next-by (m .n) (K .stage) (set-of (K .held)) (slots-of (K .held) 1 sites) coin) d out)
+  unfolding returned moving state-of W.as-station step pick sending-words answer
+  goes-on size goes d same-d low =
+      ap (λ (z : ℕ). returned m t out (pick (above (last-for m q) q z) sent-all (refused not-above))) (sym (λ i. step-of (ek i) (er i)))
+      ∙ go (above (last-for m q) q (step-of (X .kind) (X .round .0))) refl low
+    where
+      q : ℕ
+      q = t .identity .question
+
+      X : Following
+      X = next-by (m .n) (t .stage) (set-of (K .held)) (slots-of (K .held) 1 sites) coin
+
+      x : Next
+      x = follows (m .n) (t .stage) K coin
+
+      F : Full (m .n) K
+      F = full-after hmac-code m t ws coin out L A size
+
+      R : Ready (m .n) (t .identity .question) x
+      R = next-ready hmac-code hmac-eight m t ws coin out L A size goes
+
+      e : as-next X (x .first) (x .second) ≡ x
+      e = next-is (m .n) (t .stage) (set-of (K .held)) (slots-of (K .held) 1 sites) coin K (sym back) goes (in-range-of (t .stage) (F .rounds))
+
+      ek : X .kind ≡ x .kind
+      ek = ap (λ (y : Next). y .kind) e
+
+      er : X .round .0 ≡ x .round
+      er = ap (λ (y : Next). y .round) e
+
+      s : Statement
+      s = own-statement m (t .identity .question) (x .kind) (x .value) (x .flag) (x .round)
+
+      sent-all : Outcome
+      sent-all = sends (pick (ltb (t .decision) none || eqb d none) sent sent-decided) s (x .first ++ x .second) (began (t .identity .question) (x .stage) d s (x .first))
+
+      go : (a : Bool) → above (last-for m q) q (step-of (X .kind) (X .round .0)) ≡ a → Below (pick a (sending-words m k X (own-fields m (X .kind) (X .value) (X .flag) (X .round .0)) d out) (with-no-bundle not-above k m out) .lent)
+          → returned m t out (pick a sent-all (refused not-above))
+          ≡ or-as-was m t out (pick a (sending-words m k X (own-fields m (X .kind) (X .value) (X .flag) (X .round .0)) d out) (with-no-bundle not-above k m out))
+      go true later low =
+          skip _ _ _ _ (not-12 (ltb (t .decision) none || eqb d none))
+          (sym (sending-is m K (A .range .at-most-31) F d out (A .room) X x ek (ap (λ (y : Next). y .value) e) (ap (λ (y : Next). y .flag) e) er (ap (λ (y : Next). y .stage) e)
+          (chosen (m .n) K (A .range .at-most-31) F (t .stage) refl goes coin R) (sent-proper hmac-code hmac-eight m t ws coin out L A size goes)
+          (range-fits m (A .range)) (ap (above (last-for m q) q) (sym (λ i. step-of (ek i) (er i))) ∙ later) low
+          (λ h. R .for-value s refl refl h .size ∙ for-value-full (m .n) (x .stage) (x .value) s h) (λ h. R .for-none s refl refl h .size)))
+      go false later low = refl
+
+  -- the step has ended
+  ends : length (K .held) ≡ quorum (m .n) → Below (ending-words m k coin out .lent)
+      → returned m t out (ended (statement-code (hmac-code (m .key))) last-round (m .n) (m .station) (last-for m (t .identity .question)) K coin) ≡ or-as-was m t out (ending-words m k coin out)
+  unfolding returned ended ending-words shut-words state-of W.as-station pick set-of slots-of slot-of all-written
+  ends size low = go (closes last-round (t .stage)) refl low
+    where
+      d : ℕ
+      d = decision-then hmac-code m t ws coin out
+
+      same-d : decision-at (t .stage) (t .decision) (held-in (set-of (K .held)) (slots-of (K .held) 1 sites) 0 sites) ≡ decision-then hmac-code m t ws coin out
+      same-d = ap (decision-at (t .stage) (t .decision)) back
+
+      go : (b : Bool) → closes last-round (t .stage) ≡ b
+          → Below (pick b (with-no-bundle closed-now (shut-words k (decision-at (t .stage) (t .decision) (held-by k))) m out)
+          (moving m k (next-by (m .n) (t .stage) (set-of (K .held)) (slots-of (K .held) 1 sites) coin) (decision-at (t .stage) (t .decision) (held-by k)) out) .lent)
+          → returned m t out (pick b (keeps closed-now (shut K d))
+          (moved (statement-code (hmac-code (m .key))) last-round (m .n) (m .station) (last-for m (t .identity .question)) K (follows (m .n) (t .stage) K coin) d))
+          ≡ or-as-was m t out (pick b (with-no-bundle closed-now (shut-words k (decision-at (t .stage) (t .decision) (held-by k))) m out)
+          (moving m k (next-by (m .n) (t .stage) (set-of (K .held)) (slots-of (K .held) 1 sites) coin) (decision-at (t .stage) (t .decision) (held-by k)) out))
+      go true e low = ap (λ (z : ℕ). with-no-bundle closed-now (shut-words k z) m out) (sym same-d)
+      go false e low =
+          subst (λ (z : ℕ). Below (moving m k (next-by (m .n) (t .stage) (set-of (K .held)) (slots-of (K .held) 1 sites) coin) z out .lent)
+          → returned m t out (moved (statement-code (hmac-code (m .key))) last-round (m .n) (m .station) (last-for m (t .identity .question)) K (follows (m .n) (t .stage) K coin) d)
+          ≡ or-as-was m t out (moving m k (next-by (m .n) (t .stage) (set-of (K .held)) (slots-of (K .held) 1 sites) coin) z out)) (sym same-d)
+          (goes-on size e d refl) low
+
+  pub given-is : first-failed (give-tests hmac-code m t ws coin out) ≡ 0 → Below (after-words m k coin out .lent)
+      → giving hmac-code m t ws coin out ≡ or-as-was m t out (after-words m k coin out)
+  unfolding giving taken after-words returned state-of W.as-station pick
+  given-is z low =
+      ap (λ (b : Bool). returned m t out (pick b (taken (statement-code (hmac-code (m .key))) last-round (m .n) (m .station) (last-for m (t .identity .question)) (state-of t) (main-of ws) (certificate-of ws) coin)
+      (refused (first-failed (give-tests hmac-code m t ws coin out))))) (eq-eqb _ 0 z)
+      ∙ go (ltb (length (K .held)) (quorum (m .n))) refl (subst (λ (c : ℕ). Below (pick (ltb c (quorum (m .n))) (with-no-bundle kept k m out) (ending-words m k coin out) .lent)) number low)
+      ∙ ap (λ (c : ℕ). or-as-was m t out (pick (ltb c (quorum (m .n))) (with-no-bundle kept k m out) (ending-words m k coin out))) (sym number)
+    where
+      number : ones (set-of (K .held)) ≡ length (K .held)
+      number = ones-set (K .held) (G .rising)
+
+      go : (b : Bool) → ltb (length (K .held)) (quorum (m .n)) ≡ b → Below (pick b (with-no-bundle kept k m out) (ending-words m k coin out) .lent)
+          → returned m t out (pick b (keeps kept K) (ended (statement-code (hmac-code (m .key))) last-round (m .n) (m .station) (last-for m (t .identity .question)) K coin))
+          ≡ or-as-was m t out (pick b (with-no-bundle kept k m out) (ending-words m k coin out))
+      go true e low = refl
+      go false e low = ends (omega (arith, ltb-false (length (K .held)) (quorum (m .n)) e, insert-length (main-of ws) (state-of t .held), sane-before hmac-code m t ws coin out L A .few)) low

@@ -1,0 +1,4 @@
+pub mod Sets
+pub mod Held
+pub mod Lowest
+pub mod Zeros

@@ -1,0 +1,5 @@
+pub mod Back
+pub mod One
+pub mod Turns
+pub mod Parts
+pub mod Law

@@ -1,0 +1,128 @@
+-- Statements that are read from words and written again give the words that they were read from; so do the set, the slots and the groups of a station.
+use Prim.Native.Nat.{ℕ, zero, suc, _+_, _-_, _*_, _^_, _≤_, _<_}
+use mathlib.Core.Bool.{Bool, true, false, _&&_}
+use mathlib.Core.List.{List, _∷_, _++_}
+use mathlib.Core.Path.{_≡_, refl, sym, ap, _∙_}
+use native.Mathlib.Omega.{arith}
+use lib.Dec.{eqb}
+use lib.ListN.{length, getD, take, drop, replicate, length-drop, take-append-drop}
+use lib.Seq.{drop-cons, drop-drop, take-add, take-all}
+use borrow.Author.Tests.{eqb-true, eqb-false}
+use Rattle.laws.specs.Pick.{pick}
+use Rattle.laws.specs.Bools.{both}
+use Rattle.laws.specs.Sets.{bit}
+use Rattle.laws.specs.Below.{Below}
+use Rattle.format.specs.Words.{fields-of, formed, station-of}
+use Rattle.format.specs.Statement.{Statement, statement, statements, word-0, written}
+use Rattle.format.specs.Bundle.{all-formed, all-written}
+use Rattle.format.specs.Laws.Layout.{covered-read}
+use Rattle.certificate.specs.Laws.Parts.{parts-length}
+use Rattle.station.specs.Words.{held-in, set-of, slot-of, slots-of, group-words, sites}
+use Rattle.station.specs.Fit.{zeros, slot-fits, slots-fit}
+use Rattle.held.specs.Laws.Lowest.{Own, set-held}
+
+-- ---- a statement, and a list of them
+pub written-back : (n : ℕ) (ws : List ℕ) (at : ℕ) → Below ws → at + 10 ≤ length ws → formed n (fields-of (getD ws at 0)) ≡ true
+    → written (statement ws at) ≡ take 10 (drop at ws)
+written-back n ws at low room f =
+    let w : word-0 (statement ws at) ≡ getD ws at 0 = ap (λ (l : List ℕ). getD l 0 0) (covered-read n ws at (low at) f) in
+    let e : suc at ≡ at + 1 = omega arith in
+    let g : suc (at + 1) ≡ at + 2 = omega arith in
+    let one : drop at ws ≡ getD ws at 0 ∷ drop (at + 1) ws = drop-cons ws at 0 (omega arith) ∙ ap (λ (k : ℕ). getD ws at 0 ∷ drop k ws) e in
+    let two : drop (at + 1) ws ≡ getD ws (at + 1) 0 ∷ drop (at + 2) ws
+    = drop-cons ws (at + 1) 0 (omega arith) ∙ ap (λ (k : ℕ). getD ws (at + 1) 0 ∷ drop k ws) g in
+    ap (λ (z : ℕ). z ∷ getD ws (at + 1) 0 ∷ take 8 (drop (at + 2) ws)) w ∙ sym (ap (take 10) (one ∙ ap (λ (l : List ℕ). getD ws at 0 ∷ l) two))
+
+pub all-back : (n : ℕ) (ws : List ℕ) → Below ws → (k at : ℕ) → at + k * 10 ≤ length ws → all-formed n ws at k ≡ true
+    → all-written (statements ws at k) ≡ take (k * 10) (drop at ws)
+unfolding all-formed statements all-written
+all-back n ws low zero at room h = refl
+all-back n ws low (suc k) at room h =
+    let b = both (formed n (fields-of (getD ws at 0))) _ h in
+    let e : suc k * 10 ≡ 10 + k * 10 = omega arith in
+    let one : written (statement ws at) ≡ take 10 (drop at ws) = written-back n ws at low (omega arith) (b .0) in
+    let more : all-written (statements ws (at + 10) k) ≡ take (k * 10) (drop 10 (drop at ws))
+    = all-back n ws low k (at + 10) (omega arith) (b .1) ∙ ap (take (k * 10)) (sym (drop-drop 10 at ws)) in
+    rw (e, take-add 10 (k * 10) (drop at ws)) (λ i. one i ++ more i)
+
+pub zeros-back : (ws : List ℕ) (k at : ℕ) → at + k ≤ length ws → zeros ws at k ≡ true → take k (drop at ws) ≡ replicate k 0
+unfolding zeros
+zeros-back ws zero at room h = refl
+zeros-back ws (suc k) at room h =
+    let b = both (eqb (getD ws at 0) 0) _ h in
+    let z : getD ws at 0 ≡ 0 = eqb-true _ _ (b .0) in
+    let more : take k (drop (suc at) ws) ≡ replicate k 0 = zeros-back ws k (suc at) (omega arith) (b .1) in
+    ap (take (suc k)) (drop-cons ws at 0 (omega arith)) ∙ (λ i. z i ∷ more i)
+
+-- a group's array: k statements, and zeros behind them
+pub group-back : (n : ℕ) (ws : List ℕ) (k : ℕ) → Below ws → length ws ≡ 160 → k ≤ 16 → all-formed n ws 0 k ≡ true → zeros ws (k * 10) (160 - k * 10) ≡ true
+    → ws ≡ group-words (statements ws 0 k)
+group-back n ws k low long few f z =
+    let front : all-written (statements ws 0 k) ≡ take (k * 10) ws = all-back n ws low k 0 (omega arith) f in
+    let l : length (drop (k * 10) ws) ≤ 160 - k * 10 = rw length-drop (omega arith) in
+    let back : drop (k * 10) ws ≡ replicate (160 - k * 10) 0
+    = sym (take-all (160 - k * 10) (drop (k * 10) ws) l) ∙ zeros-back ws (160 - k * 10) (k * 10) (omega arith) z in
+    sym (take-append-drop (k * 10) ws) ∙ rw (front, back, parts-length ws 0 k)
+
+-- ---- the set and the slots
+module _ (n question st set : ℕ) (slots : List ℕ) where
+  slot-facts : (i : ℕ) → slot-fits n question st i slots ≡ true → (formed n (fields-of (getD slots (i * 10) 0)) ≡ true) × (station-of (getD slots (i * 10) 0) ≡ i + 1)
+  slot-facts i h =
+      let w = getD slots (i * 10) 0 in
+      let a = both (formed n (fields-of w) && eqb (station-of w) (i + 1) && eqb (getD slots (i * 10 + 1) 0) question) _ h in
+      let b = both (formed n (fields-of w) && eqb (station-of w) (i + 1)) _ (a .0) in
+      let c = both (formed n (fields-of w)) _ (b .0) in
+      (c .0, eqb-true _ _ (c .1))
+
+  -- what is said of one slot
+  fit-at : (k i j : ℕ) → slots-fit n question st set slots i k ≡ true → i ≤ j → j < i + k
+      → pick (bit set j) (slot-fits n question st j slots) (zeros slots (j * 10) 10) ≡ true
+  unfolding slots-fit
+  fit-at zero i j h lo hi = absurd (omega arith)
+  fit-at (suc k) i j h lo hi =
+      let a = both (pick (bit set i) (slot-fits n question st i slots) (zeros slots (i * 10) 10)) _ h in
+      go (eqb j i) refl (a .0) (λ z. fit-at k (suc i) j (a .1) z (omega arith))
+    where
+      go : (b : Bool) → eqb j i ≡ b → pick (bit set i) (slot-fits n question st i slots) (zeros slots (i * 10) 10) ≡ true
+          → (suc i ≤ j → pick (bit set j) (slot-fits n question st j slots) (zeros slots (j * 10) 10) ≡ true)
+          → pick (bit set j) (slot-fits n question st j slots) (zeros slots (j * 10) 10) ≡ true
+      go true e f ih = let z : j ≡ i = eqb-true j i e in rw z f
+      go false e f ih = ih (omega (arith, eqb-false j i e))
+
+  -- the set is the sum of the bits of the stations held
+  pub set-back : slots-fit n question st set slots 0 sites ≡ true → set < 2 ^ sites → set-of (held-in set slots 0 sites) ≡ set
+  unfolding pick
+  set-back h low = set-held set slots own low
+    where
+      own : Own set slots
+      own j few e =
+          let f : slot-fits n question st j slots ≡ true = rw e at (fit-at sites 0 j h (omega arith) (omega arith)) in
+          slot-facts j f .1 ∙ omega arith
+
+  -- a slot's ten words, by its bit
+  pub slot-words : (i : ℕ) → Below slots → length slots ≡ 310 → slots-fit n question st set slots 0 sites ≡ true → i < sites
+      → take 10 (drop (i * 10) slots) ≡ pick (bit set i) (written (statement slots (i * 10))) (replicate 10 0)
+  unfolding pick
+  slot-words i low long h few = go (bit set i) (fit-at sites 0 i h (omega arith) (omega arith))
+    where
+      go : (b : Bool) → pick b (slot-fits n question st i slots) (zeros slots (i * 10) 10) ≡ true
+          → take 10 (drop (i * 10) slots) ≡ pick b (written (statement slots (i * 10))) (replicate 10 0)
+      go true f = sym (written-back n slots (i * 10) low (omega arith) (slot-facts i f .0))
+      go false f = zeros-back slots 10 (i * 10) (omega arith) f
+
+-- slots that are, one by one, the words of an array
+pub slots-are : (h : List Statement) (ws : List ℕ) (k i : ℕ) → ((j : ℕ) → i ≤ j → j < i + k → slot-of h (suc j) ≡ take 10 (drop (j * 10) ws))
+    → slots-of h (suc i) k ≡ take (k * 10) (drop (i * 10) ws)
+unfolding slots-of
+slots-are h ws zero i s = refl
+slots-are h ws (suc k) i s =
+    let e : suc k * 10 ≡ 10 + k * 10 = omega arith in
+    let f : suc i * 10 ≡ i * 10 + 10 = omega arith in
+    let one : slot-of h (suc i) ≡ take 10 (drop (i * 10) ws) = s i (omega arith) (omega arith) in
+    let more : slots-of h (suc (suc i)) k ≡ take (k * 10) (drop 10 (drop (i * 10) ws))
+    = slots-are h ws k (suc i) (λ j lo hi. s j (omega arith) (omega arith))
+    ∙ ap (λ (z : ℕ). take (k * 10) (drop z ws)) f ∙ ap (take (k * 10)) (sym (drop-drop 10 (i * 10) ws)) in
+    rw (e, take-add 10 (k * 10) (drop (i * 10) ws)) (λ i. one i ++ more i)
+
+pub all-slots : (h : List Statement) (ws : List ℕ) → length ws ≡ 310 → ((j : ℕ) → j < sites → slot-of h (suc j) ≡ take 10 (drop (j * 10) ws)) → slots-of h 1 sites ≡ ws
+all-slots h ws long s = slots-are h ws sites 0 (λ j lo hi. s j (omega arith)) ∙ take-all 310 ws (omega arith)

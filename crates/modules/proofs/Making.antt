@@ -1,0 +1,18 @@
+-- Making, by its test.
+use Prim.Native.Nat.{ℕ}
+use mathlib.Core.Bool.{true, false, _&&_}
+use mathlib.Core.List.{List}
+use mathlib.Core.Path.{_≡_}
+use Rattle.laws.specs.Pick.{pick}
+use Rattle.format.specs.Numbers.{out-of-range}
+use Rattle.format.specs.Group.{size-fits}
+use Rattle.format.specs.Words.{of-group}
+use Rattle.modules.specs.Counter.{making, fresh, no-module}
+
+pub makes : (key : List ℕ) (n number : ℕ) → (size-fits n && of-group n number) ≡ true → making key n number ≡ record { number = 0; made = fresh key n number }
+unfolding making pick
+makes key n number h = rw h
+
+pub makes-none : (key : List ℕ) (n number : ℕ) → (size-fits n && of-group n number) ≡ false → making key n number ≡ record { number = out-of-range; made = no-module }
+unfolding making pick
+makes-none key n number h = rw h

@@ -1,0 +1,11 @@
+pub mod ReadBack
+pub mod Slots
+pub mod Sane
+pub mod FitSane
+pub mod Insert
+pub mod Keep
+pub mod Pieces
+pub mod End
+pub mod Views
+pub mod Fits
+pub mod Bundles

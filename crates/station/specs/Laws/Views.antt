@@ -1,0 +1,310 @@
+-- What opening and giving come to, case by case: refused, kept, closed or sent, each with the facts that its tests have shown.
+use Prim.Native.Nat.{ℕ, suc, _≤_, _<_}
+use mathlib.Core.Bool.{Bool, true, false, not, _&&_, _||_}
+use mathlib.Core.List.{List, [], _∷_, _++_}
+use mathlib.Core.Path.{_≡_, refl, sym, _∙_}
+use native.Mathlib.Omega.{arith}
+use lib.Dec.{eqb, ltb, leb}
+use lib.ListN.{length}
+use borrow.Author.Tests.{eqb-true, eqb-false, ltb-true, ltb-false, leb-true, not-true, not-false}
+use Rattle.laws.specs.Pick.{pick}
+use Rattle.laws.specs.Bools.{both}
+use Rattle.laws.specs.Refusals.{Test, test, first-failed, all-passed, failed-one, passed-until}
+use Rattle.laws.specs.All.{All, all-map, all-two}
+use Rattle.format.specs.Numbers.{kind-INIT, none, D-GET, kept, sent, sent-decided, closed-now, output-words, conflicting, not-above, last-round}
+use Rattle.format.specs.Group.{size-fits, quorum}
+use Rattle.format.specs.Statement.{Statement, statements, well-formed, verifies, step, statement-code}
+use Rattle.format.specs.Bundle.{count-in, main-of, certificate-of}
+use Rattle.format.specs.Laws.Layout.{all-well}
+use Rattle.format.specs.Laws.Shape.{formed-out}
+use Rattle.rules.specs.Rules.{rule}
+use Rattle.rules.specs.declared.Which.the-variants.{Only}
+use Rattle.certificate.specs.Check.{one-question, bundle-tests}
+use Rattle.rules.specs.Backed.{rule-backed}
+use Rattle.certificate.specs.Valid.{Bundle}
+use Rattle.certificate.specs.Exact.{bundle-out, every-out}
+use Rattle.modules.specs.declared.Module.{Module}
+use Rattle.modules.specs.Counter.{above, module-fits, last-for}
+use Rattle.station.specs.declared.Stage.the-variants.{Gathering}
+use Rattle.station.specs.declared.Station.{Station}
+use Rattle.station.specs.Machine.{State, Outcome, refused, keeps, sends, Next, own, began, opened, keeping, closes, decision-at, shut, follows, moved, ended, taken, held-of, conflict, place-tests, stage-step}
+use Rattle.station.specs.Words.{state-of, Lengths}
+use Rattle.station.specs.Fit.{fits}
+use Rattle.station.specs.Returns.{unrefused}
+use Rattle.station.specs.Calls.{returned, giving, open-tests, opening-outcome, station-tests, give-tests, giving-outcome}
+use Rattle.format.specs.Laws.ReadBack.{Proper}
+use Rattle.station.specs.Laws.Insert.{insert-length}
+use Rattle.station.specs.Laws.Sane.{Sane}
+use Rattle.station.specs.Laws.FitSane.{fits-sane, eights}
+use Rattle.station.specs.Laws.Keep.{Fitting}
+use Rattle.station.specs.Laws.End.{Full, full-grown}
+
+-- a module in range
+pub record InRange (m : Module) : Type 0 where
+  pub at-least-2 : 2 ≤ m .n
+  pub at-most-31 : m .n ≤ 31
+  pub low : 1 ≤ m .station
+  pub high : m .station ≤ m .n
+
+pub in-range : (m : Module) → module-fits m ≡ true → InRange m
+in-range m h =
+    let a = both (size-fits (m .n)) _ h in
+    let b = both (leb 2 (m .n)) _ (a .0) in
+    let c = both (leb 1 (m .station)) _ (a .1) in
+    record { at-least-2 = leb-true _ _ (b .0); at-most-31 = leb-true _ _ (b .1); low = leb-true _ _ (c .0); high = leb-true _ _ (c .1) }
+
+module _ (mac : List ℕ → List ℕ → List ℕ) where
+  -- ---- giving
+  module _ (m : Module) (t : Station) (ws : List ℕ) (coin : ℕ) (out : List ℕ) where
+    -- all tests but the last have passed
+    pub record Accepted : Type 0 where
+      pub room : output-words ≤ length out
+      pub range : InRange m
+      pub coin-bit : coin < 2
+      pub fit : fits (m .n) (m .station) t ≡ true
+      pub still-open : t .closed ≡ false
+      pub bundle : Bundle (m .n) ws
+      pub codes : All (λ s. verifies (mac (m .key)) s ≡ true) (statements ws 1 (suc (count-in ws)))
+      pub fitting : Fitting (m .n) (state-of t .question) (state-of t .stage) (main-of ws) (certificate-of ws)
+      pub new : held-of (main-of ws .station) (state-of t .held) ≡ false
+      pub calm : conflict (state-of t .stage) (main-of ws ∷ state-of t .held) ≡ false
+
+    abbrev pub after : State
+    after = keeping (m .n) (state-of t) (main-of ws) (certificate-of ws)
+
+    abbrev pub decision-then : ℕ
+    decision-then = decision-at (t .stage) (t .decision) (after .held)
+
+    -- the statement that is sent
+    abbrev pub sent-statement : Statement
+    sent-statement =
+        let x = follows (m .n) (t .stage) after coin in
+        own (statement-code (mac (m .key))) (m .station) (t .identity .question) (x .kind) (x .value) (x .flag) (x .round)
+
+    pub data Gives : Outcome → Type 0 where
+      refuses : {k : ℕ} → unrefused k ≡ false → Gives (refused k)
+      holds-on : Accepted → length (after .held) < quorum (m .n) → Gives (keeps kept after)
+      shuts : Accepted → length (after .held) ≡ quorum (m .n) → closes last-round (t .stage) ≡ true
+          → Gives (keeps closed-now (shut after decision-then))
+      goes-on : {k : ℕ} → Accepted → length (after .held) ≡ quorum (m .n) → closes last-round (t .stage) ≡ false
+          → above (last-for m (t .identity .question)) (t .identity .question) (step sent-statement) ≡ true
+          → k ≡ pick (ltb (t .decision) none || eqb decision-then none) sent sent-decided
+          → Gives (sends k sent-statement (follows (m .n) (t .stage) after coin .first ++ follows (m .n) (t .stage) after coin .second)
+          (began (t .identity .question) (follows (m .n) (t .stage) after coin .stage) decision-then sent-statement (follows (m .n) (t .stage) after coin .first)))
+
+    module _ (L : Lengths t) where
+      state-question : state-of t .question ≡ t .identity .question
+      unfolding state-of
+      state-question = refl
+
+      -- all tests but that of 10 have passed
+      pub record Nearly : Type 0 where
+        pub room : output-words ≤ length out
+        pub range : InRange m
+        pub coin-bit : coin < 2
+        pub fit : fits (m .n) (m .station) t ≡ true
+        pub still-open : t .closed ≡ false
+        pub bundle : Bundle (m .n) ws
+        pub codes : All (λ s. verifies (mac (m .key)) s ≡ true) (statements ws 1 (suc (count-in ws)))
+        pub fitting : Fitting (m .n) (state-of t .question) (state-of t .stage) (main-of ws) (certificate-of ws)
+        pub new : held-of (main-of ws .station) (state-of t .held) ≡ false
+
+      -- the tests before that of 10
+      abbrev pub ten-tests : List Test
+      ten-tests =
+          station-tests m t coin out ++ (bundle-tests (mac (m .key)) (m .n) (Only (t .identity .question)) ws ++ place-tests (state-of t) (main-of ws))
+
+      pub nearly : All (λ x. x .ok ≡ true) ten-tests → Nearly
+      unfolding statements
+      nearly p =
+          let a = both (module-fits m && ltb coin 2) _ (p .1 .0) in
+          let b = both (module-fits m) _ (a .0) in
+          let r = in-range m (b .0) in
+          let open-still : t .closed ≡ false = not-true (t .closed) (p .1 .1 .0) in
+          let B = bundle-out (m .n) ws (p .1 .1 .1 .0) in
+          let q = both (one-question (main-of ws) (certificate-of ws)) _ (p .1 .1 .1 .1 .0) in
+          record {
+            room = leb-true output-words (length out) (p .0);
+            range = r;
+            coin-bit = ltb-true coin 2 (b .1);
+            fit = a .1;
+            still-open = open-still;
+            bundle = B;
+            codes = every-out (verifies (mac (m .key))) (statements ws 1 (suc (count-in ws))) (p .1 .1 .1 .1 .1 .0);
+            fitting = fitted B (q .0) (eqb-true _ _ (q .1)) (p .1 .1 .1 .1 .1 .1 .0) (leb-true _ _ (p .1 .1 .1 .1 .1 .1 .1 .0)) (leb-true _ _ (p .1 .1 .1 .1 .1 .1 .1 .1 .0));
+            new = not-true _ (p .1 .1 .1 .1 .1 .1 .1 .1 .1 .0);
+          }
+        where
+          propers : Bundle (m .n) ws → All (Proper (m .n)) (statements ws 1 (suc (count-in ws)))
+          propers B =
+              all-map (λ s p. record { formed = p .0; eight = p .1 }) (statements ws 1 (suc (count-in ws)))
+              (all-two (λ s. well-formed (m .n) s ≡ true) (λ s. length (s .code) ≡ 8) (statements ws 1 (suc (count-in ws)))
+              (all-well (m .n) ws 1 (suc (count-in ws)) (B .fields)) (eights ws (suc (count-in ws)) 1 (omega (arith, B .size))))
+
+          parts : Bundle (m .n) ws → Proper (m .n) (main-of ws) × All (Proper (m .n)) (certificate-of ws)
+          parts B = propers B
+
+          fitted : Bundle (m .n) ws → one-question (main-of ws) (certificate-of ws) ≡ true → main-of ws .question ≡ t .identity .question
+              → rule (m .n) (main-of ws) (certificate-of ws) ≡ true → stage-step (state-of t .stage) ≤ step (main-of ws) → step (main-of ws) ≤ stage-step (state-of t .stage)
+              → Fitting (m .n) (state-of t .question) (state-of t .stage) (main-of ws) (certificate-of ws)
+          fitted B q e u lo hi =
+              let p = parts B in
+              let e' : main-of ws .question ≡ state-of t .question = e ∙ sym state-question in
+              record {
+                proper = p .0;
+                certificate = p .1;
+                asked = e';
+                alike = all-map (λ s z. eqb-true _ _ z ∙ e') (certificate-of ws) (every-out (λ s. eqb (s .question) (main-of ws .question)) (certificate-of ws) q);
+                in-step = omega arith;
+                backed = rule-backed (m .n) (main-of ws) (certificate-of ws) (formed-out (m .n) (main-of ws) (p .0 .formed) .shape) u;
+              }
+
+      pub accepted : first-failed (give-tests mac m t ws coin out) ≡ 0 → Accepted
+      accepted h =
+          let p = all-passed (give-tests mac m t ws coin out)
+          (omega arith, (omega arith, (omega arith, (omega arith, (omega arith, (omega arith, (omega arith, (omega arith, (omega arith, (omega arith, (omega arith, tt))))))))))) h in
+          let c = p .1 .1 .1 .1 .1 .1 .1 .1 .1 in
+          let N = nearly (p .0, (p .1 .0, (p .1 .1 .0, (p .1 .1 .1 .0, (p .1 .1 .1 .1 .0, (p .1 .1 .1 .1 .1 .0, (p .1 .1 .1 .1 .1 .1 .0, (p .1 .1 .1 .1 .1 .1 .1 .0, (p .1 .1 .1 .1 .1 .1 .1 .1 .0, (c .0, tt)))))))))) in
+          record {
+            room = N .room;
+            range = N .range;
+            coin-bit = N .coin-bit;
+            fit = N .fit;
+            still-open = N .still-open;
+            bundle = N .bundle;
+            codes = N .codes;
+            fitting = N .fitting;
+            new = N .new;
+            calm = not-true _ (c .1 .0);
+          }
+
+      -- the station as a state, sane; with the bundle, and q statements
+      pub sane-before : Accepted → Sane (m .n) (m .station) (state-of t)
+      sane-before A = fits-sane (m .n) (m .station) t (A .range .at-most-31) (A .range .low) (A .range .high) L (A .fit) (A .still-open)
+
+      pub full-after : Accepted → length (after .held) ≡ quorum (m .n) → Full (m .n) after
+      full-after A size = full-grown (m .n) (m .station) (state-of t) (main-of ws) (certificate-of ws) (sane-before A) (A .fitting) (A .new) (A .calm) size
+
+      few-after : Accepted → length (after .held) ≤ quorum (m .n)
+      few-after A = omega (arith, insert-length (main-of ws) (state-of t .held), sane-before A .few)
+
+      ended-view : Accepted → length (after .held) ≡ quorum (m .n)
+          → Gives (ended (statement-code (mac (m .key))) last-round (m .n) (m .station) (last-for m (t .identity .question)) after coin)
+      unfolding ended pick state-of
+      ended-view A size = go (closes last-round (t .stage)) refl
+        where
+          sent-on : closes last-round (t .stage) ≡ false → (a : Bool) → above (last-for m (t .identity .question)) (t .identity .question) (step sent-statement) ≡ a
+              → Gives (pick a
+              (sends (pick (ltb (t .decision) none || eqb decision-then none) sent sent-decided) sent-statement
+              (follows (m .n) (t .stage) after coin .first ++ follows (m .n) (t .stage) after coin .second)
+              (began (t .identity .question) (follows (m .n) (t .stage) after coin .stage) decision-then sent-statement (follows (m .n) (t .stage) after coin .first)))
+              (refused not-above))
+          sent-on c true e = goes-on A size c e refl
+          sent-on c false e = refuses refl
+
+          go : (b : Bool) → closes last-round (t .stage) ≡ b
+              → Gives (pick b (keeps closed-now (shut after decision-then))
+              (moved (statement-code (mac (m .key))) last-round (m .n) (m .station) (last-for m (t .identity .question)) after (follows (m .n) (t .stage) after coin) decision-then))
+          go true c = shuts A size c
+          go false c = sent-on c (above (last-for m (t .identity .question)) (t .identity .question) (step sent-statement)) refl
+
+      taken-view : Accepted
+          → Gives (taken (statement-code (mac (m .key))) last-round (m .n) (m .station) (last-for m (t .identity .question)) (state-of t) (main-of ws) (certificate-of ws) coin)
+      unfolding taken pick
+      taken-view A = go (ltb (length (after .held)) (quorum (m .n))) refl
+        where
+          go : (b : Bool) → ltb (length (after .held)) (quorum (m .n)) ≡ b
+              → Gives (pick b (keeps kept after) (ended (statement-code (mac (m .key))) last-round (m .n) (m .station) (last-for m (t .identity .question)) after coin))
+          go true e = holds-on A (ltb-true _ _ e)
+          go false e = ended-view A (omega (arith, ltb-false (length (after .held)) (quorum (m .n)) e, few-after A))
+
+      pub gives-view : Gives (giving-outcome mac m t ws coin out)
+      unfolding pick
+      gives-view = go (eqb (first-failed (give-tests mac m t ws coin out)) 0) refl
+        where
+          go : (b : Bool) → eqb (first-failed (give-tests mac m t ws coin out)) 0 ≡ b
+              → Gives (pick b (taken (statement-code (mac (m .key))) last-round (m .n) (m .station) (last-for m (t .identity .question)) (state-of t) (main-of ws) (certificate-of ws) coin)
+              (refused (first-failed (give-tests mac m t ws coin out))))
+          go true e = taken-view (accepted (eqb-true _ _ e))
+          go false e =
+              refuses (failed-one (λ k. unrefused k ≡ false) (give-tests mac m t ws coin out)
+              (refl, (refl, (refl, (refl, (refl, (refl, (refl, (refl, (refl, (refl, (refl, tt))))))))))) (eqb-false _ _ e))
+
+  -- ---- opening
+  module _ (m : Module) (question proposal : ℕ) (out : List ℕ) where
+    abbrev pub init-statement : Statement
+    init-statement = own (statement-code (mac (m .key))) (m .station) question kind-INIT proposal D-GET 0
+
+    pub data Opens : Outcome → Type 0 where
+      no-opening : {k : ℕ} → unrefused k ≡ false → Opens (refused k)
+      begins : output-words ≤ length out → InRange m → proposal < 2 → above (last-for m question) question (step init-statement) ≡ true
+          → Opens (sends sent init-statement ([] ++ []) (began question Gathering none init-statement []))
+
+    pub opens-view : Opens (opening-outcome mac m question proposal out)
+    unfolding pick
+    opens-view = go (eqb (first-failed (open-tests mac m proposal out)) 0) refl
+      where
+        begun : (a : Bool) → above (last-for m question) question (step init-statement) ≡ a → output-words ≤ length out → InRange m → proposal < 2
+            → Opens (pick a (sends sent init-statement ([] ++ []) (began question Gathering none init-statement [])) (refused not-above))
+        begun true e x y z = begins x y z e
+        begun false e x y z = no-opening refl
+
+        go : (b : Bool) → eqb (first-failed (open-tests mac m proposal out)) 0 ≡ b
+            → Opens (pick b (opened (statement-code (mac (m .key))) last-round (m .n) (m .station) (last-for m question) question proposal) (refused (first-failed (open-tests mac m proposal out))))
+        go true e =
+            let p = all-passed (open-tests mac m proposal out) (omega arith, (omega arith, tt)) (eqb-true _ _ e) in
+            let a = both (module-fits m) _ (p .1 .0) in
+            begun (above (last-for m question) question (step init-statement)) refl (leb-true output-words (length out) (p .0)) (in-range m (a .0)) (ltb-true proposal 2 (a .1))
+        go false e = no-opening (failed-one (λ k. unrefused k ≡ false) (open-tests mac m proposal out) (refl, (refl, tt)) (eqb-false _ _ e))
+
+-- what is taken is answered 0, 22, 20, 21 or 12
+pub taken-number : (mac : List ℕ → List ℕ → List ℕ) (m : Module) (t : Station) (ws : List ℕ) (coin : ℕ) (out : List ℕ) (P : ℕ → Type 0)
+    → P kept → P closed-now → P sent → P sent-decided → P not-above
+    → P (returned m t out (taken (statement-code (mac (m .key))) last-round (m .n) (m .station) (last-for m (t .identity .question)) (state-of t) (main-of ws) (certificate-of ws) coin) .number)
+unfolding returned pick taken ended
+taken-number mac m t ws coin out P p0 p22 p20 p21 p12 = by (ltb (length (after mac m t ws coin out .held)) (quorum (m .n)))
+  where
+    x : Next
+    x = follows (m .n) (state-of t .stage) (after mac m t ws coin out) coin
+
+    s : Statement
+    s = own (statement-code (mac (m .key))) (m .station) (state-of t .question) (x .kind) (x .value) (x .flag) (x .round)
+
+    d : ℕ
+    d = decision-at (state-of t .stage) (state-of t .decision) (after mac m t ws coin out .held)
+
+    sent-by : (a b : Bool) → P (returned m t out (pick a (sends (pick b sent sent-decided) s (x .first ++ x .second) (began (state-of t .question) (x .stage) d s (x .first))) (refused not-above)) .number)
+    sent-by true true = p20
+    sent-by true false = p21
+    sent-by false b = p12
+
+    ended-by : (c : Bool) → P (returned m t out (pick c (keeps closed-now (shut (after mac m t ws coin out) d))
+        (moved (statement-code (mac (m .key))) last-round (m .n) (m .station) (last-for m (t .identity .question)) (after mac m t ws coin out) x d)) .number)
+    ended-by true = p22
+    ended-by false = sent-by (above (last-for m (t .identity .question)) (s .question) (step s)) (ltb (state-of t .decision) none || eqb d none)
+
+    by : (b : Bool) → P (returned m t out (pick b (keeps kept (after mac m t ws coin out)) (ended (statement-code (mac (m .key))) last-round (m .n) (m .station) (last-for m (t .identity .question)) (after mac m t ws coin out) coin)) .number)
+    by true = p0
+    by false = ended-by (closes last-round (state-of t .stage))
+
+pub record Conflicts (mac : List ℕ → List ℕ → List ℕ) (m : Module) (t : Station) (ws : List ℕ) (coin : ℕ) (out : List ℕ) (L : Lengths t) : Type 0 where
+  pub near : Nearly mac m t ws coin out L
+  pub clash : conflict (state-of t .stage) (main-of ws ∷ state-of t .held) ≡ true
+
+pub conflicts : (mac : List ℕ → List ℕ → List ℕ) (m : Module) (t : Station) (ws : List ℕ) (coin : ℕ) (out : List ℕ) (L : Lengths t)
+    → giving mac m t ws coin out .number ≡ conflicting → Conflicts mac m t ws coin out L
+unfolding giving returned pick
+conflicts mac m t ws coin out L e = go (eqb (first-failed (give-tests mac m t ws coin out)) 0) refl e
+  where
+    from-tests : first-failed (give-tests mac m t ws coin out) ≡ conflicting → Conflicts mac m t ws coin out L
+    from-tests h =
+        let p = passed-until (ten-tests mac m t ws coin out L) (not (conflict (state-of t .stage) (main-of ws ∷ state-of t .held))) conflicting (omega arith)
+        ((λ z. omega arith), ((λ z. omega arith), ((λ z. omega arith), ((λ z. omega arith), ((λ z. omega arith), ((λ z. omega arith), ((λ z. omega arith), ((λ z. omega arith), ((λ z. omega arith), ((λ z. omega arith), tt)))))))))) h in
+        record { near = nearly mac m t ws coin out L (p .0); clash = not-false _ (p .1) }
+
+    go : (b : Bool) → eqb (first-failed (give-tests mac m t ws coin out)) 0 ≡ b
+        → returned m t out (pick b (taken (statement-code (mac (m .key))) last-round (m .n) (m .station) (last-for m (t .identity .question)) (state-of t) (main-of ws) (certificate-of ws) coin)
+        (refused (first-failed (give-tests mac m t ws coin out)))) .number ≡ conflicting → Conflicts mac m t ws coin out L
+    go true q z =
+        absurd (taken-number mac m t ws coin out (λ k. k ≡ conflicting → ⊥) (λ e. omega arith) (λ e. omega arith) (λ e. omega arith) (λ e. omega arith) (λ e. omega arith) z)
+    go false q z = from-tests z

@@ -1,0 +1,36 @@
+-- The words of the settings one by one, those of the stage as they were told.
+use Rattle.station_words.specs.Laws.Code.{head-is}
+use borrow.Author.Needs.{needs}
+use Rattle.station_words.proofs.head.Statement.{statement}
+use Rattle.station_words.proofs.head.Tie as tie
+
+stage-words-requires : tie.Need-stage-words-requires
+stage-words-requires c κs = search needs
+
+array-read-t9 : tie.Need-array-read-t9
+array-read-t9 c = search needs
+
+array-read-t12 : tie.Need-array-read-t12
+array-read-t12 c = search needs
+
+array-read-t15 : tie.Need-array-read-t15
+array-read-t15 c = search needs
+
+closed-word-requires : tie.Need-closed-word-requires
+closed-word-requires c κs = search needs
+
+returns : tie.Need-returns
+returns c =
+    let a = c .before .before .before .before .args in
+    head-is (a .t) _ _ (c .before .before .stage-words .ensures) (c .closed-word .ensures)
+
+pub head-spec : {M : Type 1} → statement M
+head-spec =
+    tie.close
+    (tie.spec
+    stage-words-requires
+    array-read-t9
+    array-read-t12
+    array-read-t15
+    closed-word-requires
+    returns)

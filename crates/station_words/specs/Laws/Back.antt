@@ -1,0 +1,224 @@
+-- Words read back as the station that was written, and a station written back as the words that were read.
+use Prim.Native.Nat.{ℕ, zero, suc, _≤_, _<_}
+use mathlib.Core.Bool.{Bool, true, false, _&&_, _||_}
+use mathlib.Core.List.{List, [], _∷_, _++_, append-assoc}
+use mathlib.Core.Path.{_≡_, refl, sym, ap, _∙_}
+use native.Mathlib.Omega.{arith}
+use lib.Dec.{eqb, ltb, leb}
+use lib.ListN.{length, take, drop, getD, length-append, length-drop, take-append-drop}
+use lib.Seq.{take-at, drop-at, drop-drop, drop-cons, take-all}
+use borrow.Author.Tests.{eqb-true, eq-eqb, ne-eqb, le-leb, leb-true, ltb-true, lt-ltb}
+use Rattle.laws.specs.Pick.{pick}
+use Rattle.laws.specs.Bools.{never, both, join}
+use Rattle.station.specs.declared.Stage.{Stage}
+use Rattle.station.specs.declared.Stage.the-variants.{Gathering, Proposing, Voting}
+use Rattle.station.specs.declared.Station.{Station}
+use Rattle.station.specs.Words.{Lengths, slots-words, kept-words}
+use Rattle.station_words.specs.Words.{slots-at, value-at, none-at, station-words, stage-words, closed-word, settings-of, sets-of, statements-of, words-of, is-stage, is-station, stage-in, part, station-in, flag-fits}
+
+-- ---- the head: eight settings and the set
+abbrev head : ℕ → ℕ → ℕ → Stage → Bool → ℕ → ℕ → List ℕ
+head n number question g c d h = (n ∷ number ∷ question ∷ (stage-words g ++ (closed-word c ∷ d ∷ []))) ++ (h ∷ [])
+
+pub head-length : (n number question : ℕ) (g : Stage) (c : Bool) (d h : ℕ) → length (head n number question g c d h) ≡ 9
+unfolding stage-words
+head-length n number question Gathering c d h = refl
+head-length n number question (Proposing r f) c d h = refl
+head-length n number question (Voting r) c d h = refl
+
+-- what stands at each place of it, whatever is behind
+record Heads (n number question : ℕ) (g : Stage) (c : Bool) (d h : ℕ) (ws : List ℕ) : Type 0 where
+  at-0 : getD ws 0 0 ≡ n
+  at-1 : getD ws 1 0 ≡ number
+  at-2 : getD ws 2 0 ≡ question
+  stage : stage-in (getD ws 3 0) (getD ws 4 0) (getD ws 5 0) ≡ g
+  staged : is-stage (getD ws 3 0) (getD ws 4 0) (getD ws 5 0) ≡ true
+  at-6 : getD ws 6 0 ≡ closed-word c
+  at-7 : getD ws 7 0 ≡ d
+  at-8 : getD ws 8 0 ≡ h
+
+below-2 : (f : ℕ) → ltb f 2 ≡ true → leb f 1 ≡ true
+below-2 f e = let l : f < 2 = ltb-true f 2 e in le-leb f 1 (omega arith)
+
+true-or : (x y : Bool) → x ≡ true → (x || y) ≡ true
+true-or x y e = rw e
+
+heads : (n number question : ℕ) (g : Stage) (c : Bool) (d h : ℕ) (rest : List ℕ) → flag-fits g ≡ true
+    → Heads n number question g c d h (head n number question g c d h ++ rest)
+unfolding stage-words stage-in pick flag-fits
+heads n number question Gathering c d h rest fit =
+    record { at-0 = refl; at-1 = refl; at-2 = refl; stage = refl; staged = refl; at-6 = refl; at-7 = refl; at-8 = refl }
+heads n number question (Proposing r f) c d h rest fit =
+    record { at-0 = refl; at-1 = refl; at-2 = refl; stage = refl; staged = true-or (leb f 1) false (below-2 f fit); at-6 = refl; at-7 = refl; at-8 = refl }
+heads n number question (Voting r) c d h rest fit =
+    record { at-0 = refl; at-1 = refl; at-2 = refl; stage = refl; staged = refl; at-6 = refl; at-7 = refl; at-8 = refl }
+
+closed-back : (c : Bool) → eqb (closed-word c) 1 ≡ c
+unfolding closed-word pick
+closed-back true = refl
+closed-back false = refl
+
+closed-fits : (c : Bool) → leb (closed-word c) 1 ≡ true
+unfolding closed-word pick
+closed-fits true = refl
+closed-fits false = refl
+
+-- ---- the statements behind it
+part-behind : (p q r : List ℕ) (at count : ℕ) → length p ≡ at → length q ≡ count → part at count (p ++ (q ++ r)) ≡ q
+unfolding part
+part-behind p q r at count lp lq = ap (take count) (drop-at p (q ++ r) at lp) ∙ take-at q r count lq
+
+part-last : (p q : List ℕ) (at count : ℕ) → length p ≡ at → length q ≡ count → part at count (p ++ q) ≡ q
+unfolding part
+part-last p q at count lp lq = ap (take count) (drop-at p q at lp) ∙ take-all count q (omega arith)
+
+-- ---- a station's words, read
+module _ (t : Station) (L : Lengths t) (fit : flag-fits (t .stage) ≡ true) where
+  abbrev front : List ℕ
+  front = head (t .identity .n) (t .identity .station) (t .identity .question) (t .stage) (t .closed) (t .decision) (t .held .heard)
+
+  front-length : length front ≡ slots-at
+  front-length = head-length (t .identity .n) (t .identity .station) (t .identity .question) (t .stage) (t .closed) (t .decision) (t .held .heard)
+
+  -- the same words, cut before each part
+  at-slots : words-of t ≡ front ++ (t .held .slots ++ (t .groups .value ++ t .groups .none))
+  unfolding words-of settings-of sets-of statements-of
+  at-slots = ap (λ (x : List ℕ). front ++ x) (append-assoc (t .held .slots) (t .groups .value) (t .groups .none))
+
+  at-value : words-of t ≡ (front ++ t .held .slots) ++ (t .groups .value ++ t .groups .none)
+  at-value = at-slots ∙ sym (append-assoc front (t .held .slots) (t .groups .value ++ t .groups .none))
+
+  at-none : words-of t ≡ (front ++ t .held .slots ++ t .groups .value) ++ t .groups .none
+  at-none = at-value ∙ sym (append-assoc (front ++ t .held .slots) (t .groups .value) (t .groups .none))
+
+  to-value : length (front ++ t .held .slots) ≡ value-at
+  to-value = length-append front (t .held .slots) ∙ omega (arith, front-length, L .slots)
+
+  to-none : length (front ++ t .held .slots ++ t .groups .value) ≡ none-at
+  to-none = length-append (front ++ t .held .slots) (t .groups .value) ∙ omega (arith, to-value, L .for-value)
+
+  pub words-length : length (words-of t) ≡ station-words
+  words-length = ap length at-none ∙ length-append (front ++ t .held .slots ++ t .groups .value) (t .groups .none) ∙ omega (arith, to-none, L .for-none)
+
+  front-read : Heads (t .identity .n) (t .identity .station) (t .identity .question) (t .stage) (t .closed) (t .decision) (t .held .heard) (words-of t)
+  front-read =
+      rw at-slots
+      (heads (t .identity .n) (t .identity .station) (t .identity .question) (t .stage) (t .closed) (t .decision) (t .held .heard)
+      (t .held .slots ++ (t .groups .value ++ t .groups .none)) fit)
+
+  slots-read : part slots-at slots-words (words-of t) ≡ t .held .slots
+  slots-read = ap (part slots-at slots-words) at-slots ∙ part-behind front (t .held .slots) (t .groups .value ++ t .groups .none) slots-at slots-words front-length (L .slots)
+
+  value-read : part value-at kept-words (words-of t) ≡ t .groups .value
+  value-read = ap (part value-at kept-words) at-value ∙ part-behind (front ++ t .held .slots) (t .groups .value) (t .groups .none) value-at kept-words to-value (L .for-value)
+
+  none-read : part none-at kept-words (words-of t) ≡ t .groups .none
+  none-read = ap (part none-at kept-words) at-none ∙ part-last (front ++ t .held .slots ++ t .groups .value) (t .groups .none) none-at kept-words to-none (L .for-none)
+
+  -- they are a station
+  pub written-is : is-station (words-of t) ≡ true
+  unfolding is-station
+  written-is =
+      join (eqb (length (words-of t)) station-words) _ (eq-eqb (length (words-of t)) station-words words-length)
+      (join (is-stage (getD (words-of t) 3 0) (getD (words-of t) 4 0) (getD (words-of t) 5 0)) _ (front-read .staged) (rw (front-read .at-6) (closed-fits (t .closed))))
+
+  -- and this one
+  pub station-back : station-in (words-of t) ≡ t
+  unfolding station-in
+  station-back =
+      let h = front-read in
+      let c : eqb (getD (words-of t) 6 0) 1 ≡ t .closed = ap (λ (x : ℕ). eqb x 1) (h .at-6) ∙ closed-back (t .closed) in
+      λ i. record {
+        identity = record { n = h .at-0 i; station = h .at-1 i; question = h .at-2 i };
+        stage = h .stage i;
+        closed = c i;
+        decision = h .at-7 i;
+        held = record { heard = h .at-8 i; slots = slots-read i };
+        groups = record { value = value-read i; none = none-read i };
+      }
+
+-- ---- the words that a station was read from
+dropped : (x : Bool) → (x || false || false) ≡ true → x ≡ true
+dropped true h = refl
+dropped false h = h
+
+right-most : (x : Bool) → (false || false || x) ≡ true → x ≡ true
+right-most true h = refl
+right-most false h = h
+
+middle : (x : Bool) → (false || x || false) ≡ true → x ≡ true
+middle true h = refl
+middle false h = h
+
+-- no stage has a number over 2
+over-2 : (tag round flag : ℕ) → 2 < tag → is-stage tag round flag ≡ false
+over-2 tag round flag h =
+    rw (ne-eqb tag 0 (λ e. absurd (omega arith)), ne-eqb tag 1 (λ e. absurd (omega arith)), ne-eqb tag 2 (λ e. absurd (omega arith)))
+
+-- a stage's words, read and written
+stage-again : (tag round flag : ℕ) → is-stage tag round flag ≡ true
+    → (stage-words (stage-in tag round flag) ≡ tag ∷ round ∷ flag ∷ []) × (flag-fits (stage-in tag round flag) ≡ true)
+unfolding stage-words stage-in pick flag-fits
+stage-again zero round flag h =
+    let b = both (eqb round 0) _ (dropped (eqb round 0 && eqb flag 0) h) in
+    let r : round ≡ 0 = eqb-true round 0 (b .0) in
+    let f : flag ≡ 0 = eqb-true flag 0 (b .1) in
+    ((λ i. 0 ∷ sym r i ∷ sym f i ∷ []), refl)
+stage-again (suc zero) round flag h =
+    let b : leb flag 1 ≡ true = middle (leb flag 1) h in
+    (refl, lt-ltb flag 2 (let l : flag ≤ 1 = leb-true flag 1 b in omega arith))
+stage-again (suc (suc zero)) round flag h =
+    let f : flag ≡ 0 = eqb-true flag 0 (right-most (eqb flag 0) h) in
+    ((λ i. 2 ∷ round ∷ sym f i ∷ []), refl)
+stage-again (suc (suc (suc k))) round flag h = never (is-stage (suc (suc (suc k))) round flag) (over-2 (suc (suc (suc k))) round flag (omega arith)) h
+
+closed-again : (x : ℕ) → leb x 1 ≡ true → closed-word (eqb x 1) ≡ x
+unfolding closed-word pick
+closed-again zero h = refl
+closed-again (suc zero) h = refl
+closed-again (suc (suc k)) h = let l : suc (suc k) ≤ 1 = leb-true (suc (suc k)) 1 h in absurd (omega arith)
+
+module _ (ws : List ℕ) (is : is-station ws ≡ true) where
+  long : length ws ≡ station-words
+  unfolding is-station
+  long = eqb-true (length ws) station-words (both (eqb (length ws) station-words) _ is .0)
+
+  tests : (is-stage (getD ws 3 0) (getD ws 4 0) (getD ws 5 0) ≡ true) × (leb (getD ws 6 0) 1 ≡ true)
+  unfolding is-station
+  tests = both (is-stage (getD ws 3 0) (getD ws 4 0) (getD ws 5 0)) _ (both (eqb (length ws) station-words) _ is .1)
+
+  -- the first nine words one by one, and the others
+  nine : ws ≡ getD ws 0 0 ∷ getD ws 1 0 ∷ getD ws 2 0 ∷ getD ws 3 0 ∷ getD ws 4 0 ∷ getD ws 5 0 ∷ getD ws 6 0 ∷ getD ws 7 0 ∷ getD ws 8 0 ∷ drop 9 ws
+  nine =
+      drop-cons ws 0 0 (omega (arith, long))
+      ∙ ap (λ (x : List ℕ). getD ws 0 0 ∷ x) (drop-cons ws 1 0 (omega (arith, long))
+      ∙ ap (λ (x : List ℕ). getD ws 1 0 ∷ x) (drop-cons ws 2 0 (omega (arith, long))
+      ∙ ap (λ (x : List ℕ). getD ws 2 0 ∷ x) (drop-cons ws 3 0 (omega (arith, long))
+      ∙ ap (λ (x : List ℕ). getD ws 3 0 ∷ x) (drop-cons ws 4 0 (omega (arith, long))
+      ∙ ap (λ (x : List ℕ). getD ws 4 0 ∷ x) (drop-cons ws 5 0 (omega (arith, long))
+      ∙ ap (λ (x : List ℕ). getD ws 5 0 ∷ x) (drop-cons ws 6 0 (omega (arith, long))
+      ∙ ap (λ (x : List ℕ). getD ws 6 0 ∷ x) (drop-cons ws 7 0 (omega (arith, long))
+      ∙ ap (λ (x : List ℕ). getD ws 7 0 ∷ x) (drop-cons ws 8 0 (omega (arith, long))))))))))
+
+  -- the statements behind them
+  statements-again : part slots-at slots-words ws ++ part value-at kept-words ws ++ part none-at kept-words ws ≡ drop 9 ws
+  unfolding part
+  statements-again =
+      let d : length (drop 479 ws) ≤ 160 = rw length-drop (omega (arith, long)) in
+      let c : take 160 (drop 319 ws) ++ take 160 (drop 479 ws) ≡ drop 319 ws
+      = ap (λ (x : List ℕ). take 160 (drop 319 ws) ++ x) (take-all 160 (drop 479 ws) d ∙ sym (drop-drop 160 319 ws)) ∙ take-append-drop 160 (drop 319 ws) in
+      append-assoc (take 310 (drop 9 ws)) (take 160 (drop 319 ws)) (take 160 (drop 479 ws))
+      ∙ ap (λ (x : List ℕ). take 310 (drop 9 ws) ++ x) (c ∙ sym (drop-drop 310 9 ws))
+      ∙ take-append-drop 310 (drop 9 ws)
+
+  pub words-back : words-of (station-in ws) ≡ ws
+  unfolding words-of settings-of sets-of statements-of station-in
+  words-back =
+      let g = stage-again (getD ws 3 0) (getD ws 4 0) (getD ws 5 0) (tests .0) .0 in
+      let c = closed-again (getD ws 6 0) (tests .1) in
+      (λ i. (getD ws 0 0 ∷ getD ws 1 0 ∷ getD ws 2 0 ∷ (g i ++ (c i ∷ getD ws 7 0 ∷ []))) ++ (getD ws 8 0 ∷ []) ++ statements-again i)
+      ∙ sym nine
+
+  pub read-fits : flag-fits (station-in ws .stage) ≡ true
+  unfolding station-in
+  read-fits = stage-again (getD ws 3 0) (getD ws 4 0) (getD ws 5 0) (tests .0) .1

@@ -1,0 +1,3 @@
+pub mod Valley
+pub mod Places
+pub mod Group
