@@ -192,7 +192,7 @@ module _ (mac : List ℕ → List ℕ → List ℕ) (key : List ℕ) (n : ℕ) w
       (k : ℕ) → place-of k + statement-words ≤ length ws → same-words (code-at ws (place-of k)) (mac key (covered-at ws (place-of k))) ≡ true
       → logged l (station-of (getD ws (place-of k) 0)) (covered-at ws (place-of k)) ≡ true
 
-  -- a station is a value of its type, with the arrays' declared lengths
+  -- what a giving brings: a station is a value of its type, with the arrays' declared lengths; the codes in its words came from modules
   abbrev pub Brings : List Call → View → Type 0
   Brings cs starting = Unit
   Brings cs (going-on k t ws) = Lengths t × CodesCame (log cs) ws

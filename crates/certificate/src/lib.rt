@@ -231,25 +231,25 @@ pub fn judge(key: [u8; 32], n: u32, asked: Which, ws: &[u32]) -> u32
     ensures { λ r. ⌜ r ≡ judged key n asked (now (ws .entry)) ⌝ }
 {
     if !format::size_fits(n) {
-        return 2;
+        return format::OUT_OF_RANGE;
     }
     if !layout(ws) {
-        return 3;
+        return format::MALFORMED;
     }
     let count = (ws[0] % COUNTS) as usize;
     if !all_well_formed(ws, n, count + 1) {
-        return 3;
+        return format::MALFORMED;
     }
     if !question_fits(ws, count, asked) {
-        return 4;
+        return format::OTHER_QUESTION;
     }
     if !all_codes_verify(key, ws, count + 1) {
-        return 5;
+        return format::WRONG_CODE;
     }
     if !rule_holds(ws, n, count) {
-        return 6;
+        return format::NO_CERTIFICATE;
     }
-    0
+    format::VALID
 }
 
 // The validity check: valid or not, whatever the question.

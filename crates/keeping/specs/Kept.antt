@@ -9,8 +9,7 @@ use Rattle.laws.specs.Pick.{pick}
 use Rattle.laws.specs.Sets.{bit}
 use Rattle.format.specs.Numbers.{most-stations, statement-words, place-of}
 use Rattle.format.specs.Group.{quorum}
-use Rattle.format.specs.Words.{fields-of}
-use Rattle.format.specs.Statement.{Statement}
+use Rattle.format.specs.Statement.{Statement, fields-at}
 use Rattle.laws.specs.Least.{least}
 use Rattle.station.specs.declared.Stage.{Stage}
 use Rattle.station.specs.declared.Held.{Held}
@@ -57,7 +56,7 @@ groups-with groups g n held s ws =
 
 unfoldable pub with-bundle : Station → List ℕ → Station
 with-bundle t ws =
-    let s = fields-of (getD ws 1 0) .station in
+    let s = fields-at ws (place-of 0) .station in
     let held = held-with (t .held) s ws in
     record {
       identity = t .identity;

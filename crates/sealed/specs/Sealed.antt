@@ -7,8 +7,8 @@ use lib.ListN.{getD, length}
 use Rattle.laws.specs.Pick.{pick}
 use Rattle.laws.specs.Refusals.{Test, test, first-failed}
 use Rattle.format.specs.Numbers.{kind-P, R-GET, statement-words, out-of-range, malformed, wrong-code, not-above}
-use Rattle.format.specs.Words.{formed, fields-of}
-use Rattle.format.specs.Statement.{Statement, statement, covered, written, step}
+use Rattle.format.specs.Words.{formed}
+use Rattle.format.specs.Statement.{Statement, statement, covered, written, step, fields-at}
 use Rattle.modules.specs.declared.Module.{Module}
 use Rattle.modules.specs.Counter.{above, last-for, advanced, module-fits}
 
@@ -56,7 +56,7 @@ signed code s =
 -- "Coding tests 2 (n, station number, coin), 3, 5, 12": of the words as given, and whether they are for this way to code
 abbrev pub coding-tests : Module → List ℕ → Bool → List Test
 coding-tests m ws way =
-    test (eqb (length ws) statement-words && formed (m .n) (fields-of (getD ws 0 0)) && way) malformed
+    test (eqb (length ws) statement-words && formed (m .n) (fields-at ws 0) && way) malformed
     ∷ test (eqb (statement ws 0 .station) (m .station)) wrong-code
     ∷ test (above (last-for m (statement ws 0 .question)) (statement ws 0 .question) (step (statement ws 0))) not-above
     ∷ []

@@ -10,8 +10,8 @@ use Rattle.laws.specs.Pick.{pick}
 use Rattle.laws.specs.Sets.{bit}
 use Rattle.format.specs.Numbers.{none, last-round, statement-words}
 use Rattle.format.specs.Group.{quorum}
-use Rattle.format.specs.Words.{flag-of, formed, fields-of, step-of, kind-of, round-of, station-of}
-use Rattle.format.specs.Statement.{statements}
+use Rattle.format.specs.Words.{flag-of, formed, step-of, kind-of, round-of, station-of}
+use Rattle.format.specs.Statement.{statements, fields-at}
 use Rattle.format.specs.Bundle.{all-formed}
 use Rattle.rules.specs.declared.Group.{Group}
 use Rattle.rules.specs.Rules.{holds}
@@ -30,7 +30,7 @@ zeros ws at (suc k) = eqb (getD ws at 0) 0 && zeros ws (suc at) k
 -- a slot whose bit is set: a well-formed statement of its station, of the question and of the step
 abbrev pub slot-fits : ℕ → ℕ → ℕ → ℕ → List ℕ → Bool
 slot-fits n question step i slots =
-    formed n (fields-of (getD slots (i * statement-words) 0))
+    formed n (fields-at slots (i * statement-words))
     && eqb (station-of (getD slots (i * statement-words) 0)) (i + 1)
     && eqb (getD slots (i * statement-words + 1) 0) question
     && eqb (step-of (kind-of (getD slots (i * statement-words) 0)) (round-of (getD slots (i * statement-words) 0))) step
