@@ -1,3 +1,4 @@
+-- The padding takes one block or two, by the room behind what is left: each case is one law of the padded blocks.
 use mathlib.Core.Path.{_≡_, refl, sym}
 use native.Mathlib.Omega.{arith}
 use lib.ListN.{length}

@@ -1,3 +1,4 @@
+-- The loop copies what is left; what is copied so far and the zeros behind it are the rest of the definition.
 use borrow.Author.Needs.{needs}
 use mathlib.Core.Path.{_≡_, refl, sym}
 use mathlib.Core.List.{_++_}

@@ -1,3 +1,4 @@
+-- Each turn masks one byte: those before it are masked, those behind it as they were.
 use borrow.Author.Needs.{needs}
 use mathlib.Core.Path.{_≡_, refl, sym, _∙_}
 use mathlib.Core.List.{_++_}

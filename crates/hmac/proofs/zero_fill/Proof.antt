@@ -1,3 +1,4 @@
+-- Each turn copies one byte: the copied ones, and zeros behind them.
 use borrow.Author.Needs.{needs}
 use mathlib.Core.Path.{_≡_, refl, _∙_}
 use mathlib.Core.List.{_++_}

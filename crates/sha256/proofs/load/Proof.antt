@@ -1,3 +1,4 @@
+-- Each turn joins four bytes to a word: the words so far are those of the definition.
 use borrow.Author.Needs.{needs}
 use mathlib.Core.Path.{_≡_, refl, sym, _∙_}
 use mathlib.Core.List.{_++_}

@@ -1,3 +1,4 @@
+-- Each turn compresses one block: what is left from here on gives the state of the whole.
 use borrow.Author.Needs.{needs}
 use mathlib.Core.Path.{_≡_}
 use Prim.Native.Nat.{_*_, _-_, _≤_}

@@ -1,6 +1,6 @@
+-- The part is put over zeros: the law `part-put`.
 use mathlib.Core.Path.{_∙_}
 use native.Mathlib.Omega.{arith}
--- The part is put over zeros: the law `part-put`.
 use Rattle.station_words.specs.Laws.Code.{part-put}
 use borrow.Author.Needs.{needs}
 use Rattle.station_words.proofs.slots_in.Statement.{statement}
