@@ -14,9 +14,9 @@ use Rattle.laws.specs.Count.{count, meet}
 use Rattle.format.specs.Numbers.{kind-INIT, kind-P, kind-V, none, D-GET, conflicting}
 use Rattle.format.specs.Group.{quorum, backing, most-faulty}
 use Rattle.format.specs.Words.{kind-of, value-of}
-use Rattle.format.specs.Statement.{Statement, statement, statements, hmac-code, step}
+use Rattle.format.specs.Statement.{Statement, statement, statements, step}
+use Rattle.hmac.specs.Code.{hmac-code, hmac-eight}
 use Rattle.format.specs.Bundle.{count-in, main-of, certificate-of}
-use Rattle.format.specs.Laws.Codes.{hmac-eight}
 use Rattle.format.specs.Laws.Layout.{all-well}
 use Rattle.format.specs.Laws.Shape.{Shape, init, proposal, vote, Formed, formed-out}
 use Rattle.rules.specs.Rules.{some}

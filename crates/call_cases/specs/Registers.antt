@@ -11,7 +11,7 @@ use lib.Seq.{take-take}
 use Rattle.sha256.specs.Sha256.{bytes}
 use Rattle.certificate.specs.Check.{checked}
 use Rattle.laws.specs.Pick.{pick}
-use Rattle.format.specs.Statement.{hmac-code}
+use Rattle.hmac.specs.Code.{hmac-code}
 use Rattle.modules.specs.Counter.{making}
 use Rattle.modules.specs.declared.Last.{Last}
 use Rattle.modules.specs.declared.Module.{Module}

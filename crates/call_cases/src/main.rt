@@ -11,7 +11,7 @@ use station_words::STATION_WORDS;
 ghost use mathlib.Core.Path.{_≡_};
 ghost use Prim.Native.Nat.{_+_, _≤_, _<_};
 ghost use lib.ListN.{length, getD};
-ghost use Rattle.format.specs.Statement.{hmac-code};
+ghost use Rattle.hmac.specs.Code.{hmac-code};
 ghost use Rattle.sealed.specs.Sealed.{coding-plain, coding-coin};
 ghost use Rattle.station_words.specs.Words.{reading, part};
 ghost use Rattle.station_words.specs.Laws.Put.{put-at};

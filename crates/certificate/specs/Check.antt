@@ -6,7 +6,8 @@ use lib.Dec.{eqb}
 use Rattle.laws.specs.Refusals.{Test, test, first-failed}
 use Rattle.format.specs.Numbers.{out-of-range, malformed, other-question, wrong-code, no-certificate}
 use Rattle.format.specs.Group.{size-fits}
-use Rattle.format.specs.Statement.{Statement, statements, hmac-code, verifies}
+use Rattle.format.specs.Statement.{Statement, statements, verifies}
+use Rattle.hmac.specs.Code.{hmac-code}
 use Rattle.format.specs.Bundle.{count-in, main-of, certificate-of, bundle-fits}
 use Rattle.rules.specs.declared.Which.{Which}
 use Rattle.rules.specs.declared.Which.the-variants.{Any}

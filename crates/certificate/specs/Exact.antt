@@ -12,7 +12,8 @@ use Rattle.laws.specs.Refusals.{all-passed, none-failed}
 use Rattle.laws.specs.All.{All, all-map}
 use Rattle.format.specs.Numbers.{bundle-words}
 use Rattle.format.specs.Words.{formed, fields-of}
-use Rattle.format.specs.Statement.{Statement, statements, hmac-code, verifies, well-formed}
+use Rattle.format.specs.Statement.{Statement, statements, verifies, well-formed}
+use Rattle.hmac.specs.Code.{hmac-code}
 use Rattle.format.specs.Bundle.{head-fits, count-in, laid-out, main-of, certificate-of, all-formed, bundle-fits}
 use Rattle.format.specs.Laws.Layout.{formed-well}
 use Rattle.rules.specs.declared.Which.the-variants.{Any}

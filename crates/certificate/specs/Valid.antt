@@ -6,7 +6,8 @@ use mathlib.Core.Path.{_≡_}
 use lib.ListN.{getD, length}
 use Rattle.laws.specs.All.{All}
 use Rattle.format.specs.Numbers.{most-statements, bundle-words, most-stations}
-use Rattle.format.specs.Statement.{statements, verifies, hmac-code}
+use Rattle.format.specs.Statement.{statements, verifies}
+use Rattle.hmac.specs.Code.{hmac-code}
 use Rattle.format.specs.Bundle.{count-in, main-of, certificate-of, all-formed, count-bits, zero-bits}
 use Rattle.rules.specs.Rules.{Backed}
 use Rattle.certificate.specs.Check.{checked}

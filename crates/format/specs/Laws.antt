@@ -1,5 +1,4 @@
 pub mod Word0
 pub mod Layout
 pub mod Shape
-pub mod Codes
 pub mod ReadBack

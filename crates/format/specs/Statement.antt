@@ -4,8 +4,6 @@ use mathlib.Core.Bool.{Bool, true, false, _&&_}
 use mathlib.Core.List.{List, [], _∷_}
 use lib.Dec.{eqb}
 use lib.ListN.{getD, take, drop}
-use Rattle.sha256.specs.Sha256.{words, bytes}
-use Rattle.hmac.specs.Hmac.{hmac}
 use Rattle.format.specs.Numbers.{statement-words, covered-words, code-words}
 use Rattle.format.specs.declared.Fields.{Fields}
 use Rattle.format.specs.Words.{fields-of, kind-of, value-of, flag-of, station-of, round-of, word-of, shaped, of-group, step-of}
@@ -64,9 +62,6 @@ covered s = word-0 s ∷ s .question ∷ []
 -- the code of a statement, by a code of words
 abbrev pub statement-code : (List ℕ → List ℕ) → Statement → List ℕ
 statement-code code s = code (covered s)
-
-unfoldable pub hmac-code : List ℕ → List ℕ → List ℕ
-hmac-code key ws = words (hmac key (bytes ws))
 
 unfoldable pub same-words : List ℕ → List ℕ → Bool
 same-words [] [] = true

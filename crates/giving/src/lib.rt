@@ -2,7 +2,7 @@
 use modules::Module;
 use station::Station;
 ghost use mathlib.Core.Path.{_≡_};
-ghost use Rattle.format.specs.Statement.{hmac-code};
+ghost use Rattle.hmac.specs.Code.{hmac-code};
 ghost use Rattle.station.specs.Calls.{giving};
 ghost use Rattle.station.specs.Answers.{Answers};
 ghost use Rattle.giving.specs.Gives.{ending-words, after-words};

@@ -11,7 +11,8 @@ use Rattle.laws.specs.Pick.{pick}
 use Rattle.laws.specs.Bools.{both}
 use Rattle.laws.specs.Refusals.{Test, test, first-failed, all-passed}
 use Rattle.format.specs.Numbers.{output-words, short-output, out-of-range, not-above}
-use Rattle.format.specs.Statement.{hmac-code, step}
+use Rattle.format.specs.Statement.{step}
+use Rattle.hmac.specs.Code.{hmac-code}
 use Rattle.format.specs.Words.{step-of}
 use Rattle.modules.specs.declared.Module.{Module}
 use Rattle.modules.specs.Counter.{module-fits, above, last-for}

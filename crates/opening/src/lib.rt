@@ -11,7 +11,7 @@ use station::Stage;
 use station::Station;
 ghost use mathlib.Core.Path.{_≡_};
 ghost use Rattle.laws.specs.Refusals.{first-failed};
-ghost use Rattle.format.specs.Statement.{hmac-code};
+ghost use Rattle.hmac.specs.Code.{hmac-code};
 ghost use Rattle.station.specs.Calls.{opening, no-station};
 ghost use Rattle.station.specs.Answers.{Answers};
 ghost use Rattle.opening.specs.Opens.{tests, open-refusal};

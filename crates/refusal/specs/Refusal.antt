@@ -10,7 +10,8 @@ use Rattle.laws.specs.Sets.{bit}
 use Rattle.format.specs.Numbers.{D-GET, too-late, too-early, already-held, conflicting as conflict-number}
 use Rattle.format.specs.declared.Fields.{Fields}
 use Rattle.format.specs.Words.{fields-of, step-of}
-use Rattle.format.specs.Statement.{Statement, hmac-code, step}
+use Rattle.format.specs.Statement.{Statement, step}
+use Rattle.hmac.specs.Code.{hmac-code}
 use Rattle.format.specs.Bundle.{main-of}
 use Rattle.rules.specs.declared.Which.{Which}
 use Rattle.rules.specs.declared.Which.the-variants.{Any, Only}

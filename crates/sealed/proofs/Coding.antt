@@ -16,7 +16,8 @@ use Rattle.format.specs.declared.Fields.{Fields}
 use Rattle.format.specs.declared.Step.{Step}
 use Rattle.format.specs.Numbers.{statement-words, out-of-range, malformed, wrong-code, not-above}
 use Rattle.format.specs.Words.{formed, fields-of, step-in}
-use Rattle.format.specs.Statement.{Statement, statement, written, step, hmac-code}
+use Rattle.format.specs.Statement.{Statement, statement, written, step}
+use Rattle.hmac.specs.Code.{hmac-code}
 use Rattle.modules.specs.declared.Module.{Module}
 use Rattle.modules.specs.Counter.{above, last-for, module-fits, advanced}
 use Rattle.sealed.specs.Sealed.{Coded, by-plain, by-coin, signed, with-value, tossed, coding, coding-tests, coding-plain, coding-coin}

@@ -7,7 +7,8 @@ use lib.ListN.{length}
 use Rattle.laws.specs.Refusals.{test, first-failed}
 use Rattle.format.specs.Numbers.{statement-words, out-of-range}
 use Rattle.format.specs.Words.{kind-of, flag-of, station-of, round-of, word-of}
-use Rattle.format.specs.Statement.{statement, written, hmac-code}
+use Rattle.format.specs.Statement.{statement, written}
+use Rattle.hmac.specs.Code.{hmac-code}
 use Rattle.modules.specs.declared.Module.{Module}
 use Rattle.sealed.specs.Sealed.{Coded, coding-tests, signed, with-value}
 

@@ -7,7 +7,8 @@ ghost use mathlib.Core.List.{[], _∷_};
 ghost use lib.ListN.{length, getD};
 ghost use Rattle.laws.specs.Refusals.{test, first-failed};
 ghost use Rattle.format.specs.Numbers.{statement-words, out-of-range, malformed, wrong-code, not-above};
-ghost use Rattle.format.specs.Statement.{statement, hmac-code};
+ghost use Rattle.format.specs.Statement.{statement};
+ghost use Rattle.hmac.specs.Code.{hmac-code};
 ghost use Rattle.sealed.specs.Sealed.{coding, coding-plain, coding-coin, with-value};
 ghost use Rattle.sealed.specs.Answers.{Answered, Tested, lent-with};
 

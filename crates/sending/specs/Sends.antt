@@ -14,7 +14,8 @@ use Rattle.laws.specs.All.{All, all-append}
 use Rattle.format.specs.declared.Fields.{Fields}
 use Rattle.format.specs.Numbers.{kind-P, bundle-words, most-statements}
 use Rattle.format.specs.Group.{quorum}
-use Rattle.format.specs.Statement.{Statement, written, well-formed, hmac-code, step, statement-code}
+use Rattle.format.specs.Statement.{Statement, written, well-formed, step, statement-code}
+use Rattle.hmac.specs.Code.{hmac-code}
 use Rattle.format.specs.Laws.Shape.{Shape, init, proposal, vote, formed-out}
 use Rattle.modules.specs.declared.Module.{Module}
 use Rattle.modules.specs.Counter.{above, last-for, advanced, module-fits}

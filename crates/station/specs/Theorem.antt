@@ -12,9 +12,9 @@ use Rattle.laws.specs.Bools.{both, join}
 use Rattle.laws.specs.Refusals.{first-failed, all-passed, failed-one, passed-front}
 use Rattle.laws.specs.All.{All}
 use Rattle.format.specs.Numbers.{output-words, last-round}
-use Rattle.format.specs.Statement.{hmac-code, statement-code}
+use Rattle.format.specs.Statement.{statement-code}
+use Rattle.hmac.specs.Code.{hmac-code, hmac-eight}
 use Rattle.format.specs.Bundle.{main-of, certificate-of}
-use Rattle.format.specs.Laws.Codes.{hmac-eight}
 use Rattle.rules.specs.declared.Which.the-variants.{Any, Only}
 use Rattle.certificate.specs.Check.{one-question, bundle-tests, check-tests, check-by}
 use Rattle.modules.specs.declared.Module.{Module}

@@ -15,10 +15,10 @@ use Rattle.laws.specs.Bools.{never, join}
 use Rattle.laws.specs.All.{All, all-map, all-append}
 use Rattle.format.specs.Numbers.{kind-INIT, kind-P, none, D-GET, R-GET, bundle-words, most-statements, last-round}
 use Rattle.format.specs.Group.{quorum, backing}
-use Rattle.format.specs.Statement.{Statement, statements, covered, same-words, verifies, hmac-code, statement-code}
+use Rattle.format.specs.Statement.{Statement, statements, covered, same-words, verifies, statement-code}
+use Rattle.hmac.specs.Code.{hmac-code, hmac-eight}
 use Rattle.format.specs.Bundle.{main-of, certificate-of, all-written, bundle-of, over}
 use Rattle.format.specs.Laws.Shape.{init}
-use Rattle.format.specs.Laws.Codes.{hmac-eight}
 use Rattle.rules.specs.declared.Which.the-variants.{Any}
 use Rattle.rules.specs.Rules.{Backed, rule-1, rule-2, rule-3, rule-4, rule-5, rule-6, rule-7, some-D-GET}
 use Rattle.certificate.specs.Check.{check-by, judged, checked}

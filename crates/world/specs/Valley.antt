@@ -6,7 +6,7 @@ use lib.Dec.{eqb, ltb, leb}
 use lib.ListN.{take, getD, set, replicate}
 use Rattle.laws.specs.Pick.{pick}
 use Rattle.format.specs.Numbers.{none, output-words}
-use Rattle.format.specs.Statement.{hmac-code}
+use Rattle.hmac.specs.Code.{hmac-code}
 use Rattle.modules.specs.declared.Module.{Module}
 use Rattle.modules.specs.Counter.{no-module, making}
 use Rattle.station.specs.declared.Station.{Station}

@@ -6,7 +6,8 @@ use native.Mathlib.Numerals.{add-one}
 use native.Mathlib.Omega.{arith}
 use borrow.Author.Tests.{not-true, not-false}
 use Rattle.format.specs.Group.{size-fits}
-use Rattle.format.specs.Statement.{statements, hmac-code}
+use Rattle.format.specs.Statement.{statements}
+use Rattle.hmac.specs.Code.{hmac-code}
 use Rattle.format.specs.Bundle.{laid-out, all-formed, count-in, main-of, certificate-of}
 use Rattle.certificate.specs.Check.{question-fits, all-verify}
 use Rattle.certificate.specs.Laws.Parts.{sizes, spare-zero}

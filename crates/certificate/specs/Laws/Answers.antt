@@ -6,7 +6,8 @@ use mathlib.Core.Path.{_≡_}
 use Rattle.laws.specs.Pick.{pick}
 use Rattle.laws.specs.Refusals.{first-failed}
 use Rattle.format.specs.Group.{size-fits}
-use Rattle.format.specs.Statement.{statements, hmac-code}
+use Rattle.format.specs.Statement.{statements}
+use Rattle.hmac.specs.Code.{hmac-code}
 use Rattle.format.specs.Bundle.{laid-out, all-formed, count-in, main-of, certificate-of, bundle-fits}
 use Rattle.rules.specs.declared.Which.{Which}
 use Rattle.rules.specs.Rules.{rule}

@@ -18,7 +18,8 @@ use Rattle.hmac.specs.Prepared.{code-is-hmac}
 use Rattle.format.specs.declared.Fields.{Fields}
 use Rattle.format.specs.Words.{kind-of, value-of, flag-of, spare-of, station-of, round-of, fields-of, word-of}
 use Rattle.format.specs.Laws.Word0.{written-read}
-use Rattle.format.specs.Statement.{statement, word-0, covered, same-words, hmac-code, verifies}
+use Rattle.format.specs.Statement.{statement, word-0, covered, same-words, verifies}
+use Rattle.hmac.specs.Code.{hmac-code}
 
 -- words 0 and 1 of a statement whose bits 26..24 are zero are those that its code covers
 pub covered-by-two : (ws : List ℕ) (at : ℕ) → getD ws at 0 < 2 ^ 32 → spare-of (getD ws at 0) ≡ 0

@@ -13,7 +13,8 @@ use Rattle.laws.specs.Refusals.{first-failed}
 use Rattle.format.specs.Numbers.{none, kept, sent, sent-decided, closed-now, not-above, last-round}
 use Rattle.format.specs.Group.{quorum}
 use Rattle.format.specs.Words.{step-of}
-use Rattle.format.specs.Statement.{hmac-code, statement-code}
+use Rattle.format.specs.Statement.{statement-code}
+use Rattle.hmac.specs.Code.{hmac-code}
 use Rattle.format.specs.Bundle.{main-of, certificate-of}
 use Rattle.modules.specs.declared.Module.{Module}
 use Rattle.modules.specs.Counter.{above, last-for}

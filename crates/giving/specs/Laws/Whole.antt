@@ -15,7 +15,8 @@ use Rattle.laws.specs.Refusals.{first-failed}
 use Rattle.format.specs.Numbers.{none, kept, sent, sent-decided, closed-now, not-above, last-round}
 use Rattle.format.specs.Group.{quorum}
 use Rattle.format.specs.Words.{step-of}
-use Rattle.format.specs.Statement.{Statement, hmac-code, step, statement-code}
+use Rattle.format.specs.Statement.{Statement, step, statement-code}
+use Rattle.hmac.specs.Code.{hmac-code, hmac-eight}
 use Rattle.format.specs.Bundle.{main-of, certificate-of, all-written}
 use Rattle.modules.specs.declared.Module.{Module}
 use Rattle.modules.specs.Counter.{above, last-for}
@@ -34,7 +35,6 @@ use Rattle.station.specs.Laws.End.{Full, Ready}
 use Rattle.station.specs.Laws.Views.{Accepted, after, decision-then, sane-before, full-after}
 use Rattle.station.specs.Laws.Fits.{next-ready, sent-proper}
 use Rattle.station.specs.Seal.{range-fits}
-use Rattle.format.specs.Laws.Codes.{hmac-eight}
 use Rattle.laws.specs.Below.{Below}
 use Rattle.sending.specs.Sends.{own-fields, own-statement}
 use Rattle.ending.specs.declared.Following.{Following}

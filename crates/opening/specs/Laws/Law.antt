@@ -9,9 +9,9 @@ use mathlib.Core.Bool.{false}
 use Rattle.laws.specs.Bools.{never}
 use Rattle.format.specs.declared.Fields.{Fields}
 use Rattle.format.specs.Numbers.{kind-INIT, D-GET, sent, none, output-words}
-use Rattle.format.specs.Statement.{hmac-code, step}
+use Rattle.format.specs.Statement.{step}
+use Rattle.hmac.specs.Code.{hmac-code, hmac-eight}
 use Rattle.format.specs.Words.{step-of}
-use Rattle.format.specs.Laws.Codes.{hmac-eight}
 use Rattle.format.specs.Laws.Shape.{init}
 use Rattle.modules.specs.declared.Module.{Module}
 use Rattle.station.specs.declared.Station.{Station}

@@ -15,7 +15,8 @@ use Rattle.laws.specs.Sets.{bit}
 use Rattle.format.specs.Group.{size-fits, quorum}
 use Rattle.format.specs.declared.Fields.{Fields}
 use Rattle.format.specs.Words.{fields-of, formed, of-group, spare-of, station-of}
-use Rattle.format.specs.Statement.{statements, hmac-code}
+use Rattle.format.specs.Statement.{statements}
+use Rattle.hmac.specs.Code.{hmac-code}
 use Rattle.format.specs.Bundle.{laid-out, all-formed, count-in, main-of, certificate-of, bundle-fits}
 use Rattle.rules.specs.declared.Which.the-variants.{Only}
 use Rattle.rules.specs.Rules.{rule}

@@ -8,7 +8,7 @@ use Rattle.hmac.specs.declared.Keyed.{Keyed}
 use Rattle.hmac.specs.declared.Code.{Code}
 use Rattle.hmac.specs.Hmac.{code-from, short-code}
 use Rattle.hmac.specs.Prepared.{code-is-hmac}
-use Rattle.format.specs.Statement.{hmac-code}
+use Rattle.hmac.specs.Code.{hmac-code}
 use Rattle.sealed.proofs.Stored.{short-key}
 use borrow.Author.Needs.{needs}
 use Rattle.sealed.proofs.code_of.Statement.{statement}

@@ -11,7 +11,7 @@ use Rattle.laws.specs.Pick.{pick, here, skip}
 use Rattle.format.specs.declared.Fields.{Fields}
 use Rattle.format.specs.Numbers.{bundle-words}
 use Rattle.format.specs.Words.{word-of}
-use Rattle.format.specs.Statement.{hmac-code}
+use Rattle.hmac.specs.Code.{hmac-code}
 use Rattle.modules.specs.declared.Module.{Module}
 use Rattle.sealed.specs.Sealed.{Coded, by-coin, coding-plain, coding-coin}
 use Rattle.sealed.specs.Answers.{Answered}
