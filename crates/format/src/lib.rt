@@ -1,6 +1,7 @@
 // Group sizes, thresholds and word 0 of a statement (document 01, "Group and thresholds" and "Words"). The contracts cite specs/.
 ghost use mathlib.Core.Path.{_≡_};
 ghost use Prim.Native.Nat.{_+_, _/_};
+ghost use lib.ListN.{getD};
 ghost use Rattle.format.specs.Group.{size-fits as SizeFits, quorum as Quorum, backing as Backing};
 ghost use Rattle.format.specs.Words.{fields-of, word-of, formed, step-in};
 
@@ -181,4 +182,11 @@ pub fn step_of(f: Fields) -> Step
         return Step(2 * r);
     }
     Step(2 * r + 1)
+}
+
+// The word at a place, or 0 behind the last: words that are too few are read as the definitions read them.
+pub fn word_at(ws: &[u32], i: usize) -> u32
+    ensures { λ r. ⌜ r ≡ getD (now (ws .entry)) i 0 ⌝ }
+{
+    if i < ws.len() { ws[i] } else { 0 }
 }

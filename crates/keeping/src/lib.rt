@@ -9,17 +9,10 @@ use station::Stage;
 use station::Station;
 ghost use mathlib.Core.Path.{_≡_};
 ghost use Prim.Native.Nat.{_+_, _≤_, _<_};
-ghost use lib.ListN.{length, getD, drop};
+ghost use lib.ListN.{length, drop};
 ghost use lib.Seq.{paste};
 ghost use Rattle.laws.specs.Pick.{pick};
 ghost use Rattle.keeping.specs.Kept.{with-station, with-slot, words-kept, group-from, is-lowest, held-with, groups-with, with-bundle};
-
-// Word i, or 0 behind the last word.
-fn word_at(ws: &[u32], i: usize) -> u32
-    ensures { λ r. ⌜ r ≡ getD (now (ws .entry)) i 0 ⌝ }
-{
-    if i < ws.len() { ws[i] } else { 0 }
-}
 
 // The set with a station's bit, where it is a station's number and the bit is clear.
 fn with_station(set: u32, s: u32) -> u32
@@ -139,7 +132,7 @@ pub fn keep(t: Station, ws: &[u32]) -> Station
     let stage = t.stage;
     let old = t.held;
     let kept = t.groups;
-    let f = format::read_fields(word_at(ws, 1));
+    let f = format::read_fields(format::word_at(ws, 1));
     let held = held_with(old, f.station, ws);
     let groups = groups_with(kept, stage, identity.n, held, f.station, ws);
     Station {

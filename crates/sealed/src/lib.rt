@@ -29,13 +29,6 @@ fn code_of(key: [u8; 32], w0: u32, w1: u32) -> [u32; 8]
     c.words
 }
 
-// The word at a place, or 0 behind the last: a statement of too few words is read as the definition reads it.
-fn word(ws: &[u32], i: usize) -> u32
-    ensures { λ r. ⌜ r ≡ getD (now (ws .entry)) i 0 ⌝ }
-{
-    if i < ws.len() { ws[i] } else { 0 }
-}
-
 // The number of the first test that fails, in the table's order, or 0.
 fn first(range: bool, shape: bool, own: bool, later: bool) -> u32
     ensures { λ r. ⌜ r ≡ first-failed (test range out-of-range ∷ test shape malformed ∷ test own wrong-code ∷ test later not-above ∷ []) ⌝ }
@@ -59,8 +52,8 @@ fn first(range: bool, shape: bool, own: bool, later: bool) -> u32
 fn refusal(m: Module, ws: &[u32], range: bool, way: bool) -> u32
     ensures { λ r. ⌜ Tested m (now (ws .entry)) range way r ⌝ }
 {
-    let f = format::read_fields(word(ws, 0));
-    let question = word(ws, 1);
+    let f = format::read_fields(format::word_at(ws, 0));
+    let question = format::word_at(ws, 1);
     let shape = (ws.len() == format::STATEMENT_WORDS) & format::well_formed(f, m.n) & way;
     let own = f.station == m.station;
     let later = modules::is_above(m, question, format::step_of(f));
@@ -129,7 +122,7 @@ fn finish(m: Module, ws: &mut [u32], value: u32, number: u32) -> Coded
 pub fn code_plain(m: Module, ws: &mut [u32]) -> Coded
     ensures { λ r. ⌜ Answered (coding-plain hmac-code m (now (ws .entry))) (r .number) (r .after) (now (ws .exit)) ⌝ }
 {
-    let f = format::read_fields(word(ws, 0));
+    let f = format::read_fields(format::word_at(ws, 0));
     let number = refusal(
         m,
         ws,
@@ -143,7 +136,7 @@ pub fn code_plain(m: Module, ws: &mut [u32]) -> Coded
 pub fn code_coin(m: Module, ws: &mut [u32], coin: u32) -> Coded
     ensures { λ r. ⌜ Answered (coding-coin hmac-code m (now (ws .entry)) coin) (r .number) (r .after) (now (ws .exit)) ⌝ }
 {
-    let f = format::read_fields(word(ws, 0));
+    let f = format::read_fields(format::word_at(ws, 0));
     let number = refusal(
         m,
         ws,

@@ -2,7 +2,6 @@
 -- statement that it sends is justified by coded statements. No word is looked into.
 use mathlib.Core.Path.{_≡_, refl, sym, _∙_, ap, subst}
 use mathlib.Core.Bool.{Bool, true, false, _&&_}
-use mathlib.Core.Logic.{_⊎_, inl, inr}
 use mathlib.Core.List.{List, [], _∷_, _++_, List·Memᴰ·head, List·Memᴰ·tail}
 use Prim.Native.Nat.{ℕ, _+_, _*_, _≤_, _<_}
 use native.Mathlib.Omega.{arith}
@@ -36,12 +35,6 @@ use Rattle.agreement.specs.Maths.Just.{bare, Coded, backed-just, bare-ju
 use Rattle.agreement.specs.Maths.Took.{NowHeld, votes-held, number-few, enough-before, enough-after, held-enough, all-counted, decided-every, every-decided}
 use Rattle.agreement.specs.Maths.Votes.{votes}
 use Rattle.agreement.specs.Maths.Standing.{Enough, Open, Standing}
-
--- ---- steps
-steps-of : (g : Stage) → (stage-step g ≡ 0) ⊎ ((round-in g * 2 ≡ stage-step g) ⊎ (round-in g * 2 + 1 ≡ stage-step g))
-steps-of Gathering = inl (steps-0 kind-INIT 0 refl)
-steps-of (Proposing r f) = inr (inl (omega (arith, steps-P kind-P (r .0) refl)))
-steps-of (Voting r) = inr (inr (omega (arith, steps-V kind-V (r .0) refl)))
 
 -- a step that is odd is that of votes
 pub record Votes (g : Stage) (r : ℕ) : Type 0 where

@@ -37,10 +37,6 @@ module _ (p : Statement → Bool) (set : ℕ) (slots : List ℕ) where
   abbrev pub found : ℕ → Bool
   found i = bit set i && p (statement slots (i * 10))
 
-  pub scan-is : gathered found 0 sites ≡ scan p set slots
-  unfolding scan
-  scan-is = refl
-
   pub scan-low : scan p set slots < 2 ^ sites
   unfolding scan
   scan-low = gathered-low found sites 0

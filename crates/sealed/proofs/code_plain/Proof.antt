@@ -5,8 +5,8 @@ use borrow.Author.Needs.{needs}
 use Rattle.sealed.proofs.code_plain.Statement.{statement}
 use Rattle.sealed.proofs.code_plain.Tie as tie
 
-word-requires : tie.Need-word-requires
-word-requires c κs = search needs
+word-at-requires : tie.Need-word-at-requires
+word-at-requires c κs = search needs
 
 read-fields-requires : tie.Need-read-fields-requires
 read-fields-requires c κs = search needs
@@ -29,14 +29,14 @@ returns c =
     let r = k .before .before .before .before .before in
     let a = r .before .before .before .before .args in
     by _ _ _ _ _
-    (plain-is (a .m) (a .ws .now) _ _ _ _ _ (r .before .word .ensures) (r .read-fields .ensures) (k .before .before .before .fits2 .ensures) refl (k .refusal .ensures .number-is))
+    (plain-is (a .m) (a .ws .now) _ _ _ _ _ (r .before .word-at .ensures) (r .read-fields .ensures) (k .before .before .before .fits2 .ensures) refl (k .refusal .ensures .number-is))
     (c .before .before .finish .ensures)
 
 pub code-plain-spec : {M : Type 1} → statement M
 code-plain-spec =
     tie.close
     (tie.spec
-    word-requires
+    word-at-requires
     read-fields-requires
     fits-requires
     refusal-requires

@@ -10,7 +10,7 @@ use lib.ListN.{length, take}
 use lib.Seq.{length-take-le}
 use borrow.Author.Tests.{eqb-true, eqb-false, eq-eqb, ltb-true, ltb-false, lt-ltb, le-ltb, leb-true, leb-false}
 use Rattle.laws.specs.Pick.{pick}
-use Rattle.laws.specs.Bools.{never, both, join, is-false}
+use Rattle.laws.specs.Bools.{never, both, join}
 use Rattle.laws.specs.All.{All, all-map, all-two}
 use Rattle.format.specs.Numbers.{kind-INIT, kind-P, kind-V, none, D-GET, R-GET, last-round}
 use Rattle.format.specs.Group.{quorum, backing, proposed-0, proposed-1}
@@ -70,11 +70,6 @@ pub known : (n : ℕ) (k : State) → Full n k → All (Known n (k .stage)) (k .
 known n k F =
     all-map (λ s p. let f = formed-out n s (p .0 .formed) in let e = same-step s (k .stage) (f .shape) (F .rounds) (p .1 .1) in record { kind = e .0; round = e .1; formed = f }) (k .held)
     (all-two (Proper n) (λ s. (s .question ≡ k .question) × (step s ≡ stage-step (k .stage))) (k .held) (F .proper) (F .alike))
-
--- the statement that follows, of a station and a question
-abbrev pub outline : ℕ → ℕ → Next → Statement
-outline number question x =
-    record { kind = x .kind; value = x .value; flag = x .flag; station = number; round = x .round; question = question; code = [] }
 
 pub record Ready (n : ℕ) (question : ℕ) (x : Next) : Type 0 where
   pub shape : (s : Statement) → s .kind ≡ x .kind → s .value ≡ x .value → s .flag ≡ x .flag → s .round ≡ x .round → Shape s
@@ -384,9 +379,6 @@ module _ (n : ℕ) (k : State) (F : Full n k) where
 
     has-some : (v : ℕ) → some-value v h ≡ true → some (has-value v) h ≡ true
     has-some v z = some-weaker (λ s. which (Only v) (s .value) && which Any (s .flag)) (has-value v) h (all-map (λ s p w. both (eqb (s .value) v) true w .0) h v-facts) z
-
-    no-some : (v : ℕ) → some (has-value v) h ≡ false → some-value v h ≡ false
-    no-some v z = is-false (some-value v h) (λ y. never (some (has-value v) h) z (has-some v y))
 
     -- "At least one with 0 or 1": and none for the other, since there is no conflict
     carried-cases : (P : ℕ → Type 0) → (some-value 0 h ≡ true → some (has-value 1) h ≡ false → P 0) → (some-value 1 h ≡ true → some (has-value 0) h ≡ false → P 1)

@@ -13,11 +13,10 @@ use Rattle.laws.specs.Bools.{both}
 use Rattle.station.specs.declared.Stage.{Stage}
 use Rattle.station.specs.declared.Stage.the-variants.{Gathering, Proposing, Voting}
 use Rattle.station.specs.declared.Station.{Station}
-use Rattle.station.specs.Words.{Lengths}
 use Rattle.format.specs.Bundle.{over}
 use Rattle.station.specs.Calls.{no-station}
 use Rattle.station_words.specs.Words.{station-words, stage-at, closed-at, stage-words, closed-word, settings-of, sets-of, statements-of, words-of, is-stage, is-station, part, station-in, flag-fits, refusal, reading, writing, Writing, Wrote}
-use Rattle.station_words.specs.Laws.Put.{put-at, put-whole, Parts}
+use Rattle.station_words.specs.Laws.Put.{put-at, put-whole}
 use Rattle.station_words.specs.Laws.Back.{head-length}
 
 -- ---- whether words are a station
@@ -78,9 +77,6 @@ head-is t g c g-is c-is =
 pub head-words : (t : Station) → length (settings-of t ++ sets-of t) ≡ 9
 unfolding settings-of sets-of
 head-words t = head-length (t .identity .n) (t .identity .station) (t .identity .question) (t .stage) (t .closed) (t .decision) (t .held .heard)
-
-pub parts-of : (t : Station) (words : List ℕ) → Lengths t → words ≡ settings-of t ++ sets-of t → Parts words (t .held .slots) (t .groups .value) (t .groups .none)
-parts-of t words L e = record { head = ap length e ∙ head-words t; slots = L .slots; value = L .for-value; none = L .for-none }
 
 pub words-put : (t : Station) (out words xs : List ℕ) → words ≡ settings-of t ++ sets-of t
     → xs ≡ over (words ++ t .held .slots ++ t .groups .value ++ t .groups .none) out → xs ≡ over (words-of t) out

@@ -6,7 +6,7 @@ use native.Mathlib.Nat.{zero-add}
 use native.Mathlib.Numerals.{add-one}
 use native.Mathlib.Omega.{arith}
 use lib.ListN.{length, drop, getD, set, length-append}
-use lib.Seq.{paste, paste-zero, paste-suc, length-paste, take-length, take-at, drop-at, drop-drop, drop-length}
+use lib.Seq.{paste, paste-zero, paste-suc, take-length, take-at, drop-at, drop-drop, drop-length}
 use Rattle.format.specs.Bundle.{over}
 use Rattle.station_words.specs.Words.{slots-at, value-at, none-at}
 use Rattle.station.specs.Words.{slots-words, kept-words}
@@ -30,10 +30,6 @@ put-turn out at ws xs i room inside xs-is = rw (xs-is, paste-suc out at ws i 0 (
 pub put-end : (out : List ℕ) (at : ℕ) (ws xs : List ℕ) (i : ℕ) → xs ≡ put-so-far out at ws i → i ≡ length ws → xs ≡ put-at out at ws
 unfolding put-so-far put-at
 put-end out at ws xs i xs-is e = xs-is ∙ rw e
-
-pub length-put : (out : List ℕ) (at : ℕ) (ws : List ℕ) → at + length ws ≤ length out → length (put-at out at ws) ≡ length out
-unfolding put-at
-length-put out at ws room = length-paste out at ws (length ws) room (omega arith)
 
 -- ---- where it is put
 pub put-first : (ws out : List ℕ) → put-at out 0 ws ≡ over ws out
