@@ -1,3 +1,3 @@
 pub mod Compression
-pub mod Shape
 pub mod Steps
+pub mod Laws

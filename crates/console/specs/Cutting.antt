@@ -13,7 +13,7 @@ use Rattle.lines.specs.Read.{newline}
 use Rattle.console.specs.declared.Run.{Run}
 use Rattle.world.specs.Valley.{missing, no-group, valley}
 use Rattle.console.specs.Pieces.{Takes, prints, one-more, started, lengthened, line-turn, line-done, taking, finishing}
-use Rattle.console.specs.Bytes.{byte-done, byte-printed, after-bytes, bytes-printed, end-printed, no-newline, Stands, by-lines}
+use Rattle.console.specs.Laws.Bytes.{byte-done, byte-printed, after-bytes, bytes-printed, end-printed, no-newline, Stands, by-lines}
 
 -- the bytes that a call printed
 abbrev pub shown : Takes → List ℕ

@@ -1,7 +1,6 @@
 pub mod Pieces
-pub mod Bytes
-pub mod Took
 pub mod Scans
-pub mod Ends
+pub mod Took
 pub mod Cutting
 pub mod Within
+pub mod Laws

@@ -4,7 +4,7 @@ use mathlib.Core.List.{List, _++_}
 use mathlib.Core.Path.{_≡_}
 use lib.ListN.{length}
 use Rattle.sha256.specs.Sha256.{words, bytes, sha256}
-use Rattle.sha256.specs.Shape.{words-length, sha256-length}
+use Rattle.sha256.specs.Laws.Shape.{words-length, sha256-length}
 use Rattle.hmac.specs.Hmac.{masked, ipad, opad, key-block, hmac}
 
 -- "HMAC-SHA-256 under the 32-byte group key ... Top byte first throughout": by a key, the code of words

@@ -1,5 +1,4 @@
 pub mod Read
-pub mod Short
 pub mod Words
-pub mod Says
 pub mod Example
+pub mod Laws

@@ -1,5 +1,3 @@
 pub mod Print
-pub mod Width
-pub mod Decimal
-pub mod Put
 pub mod Example
+pub mod Laws

@@ -30,7 +30,7 @@ use Rattle.format.specs.Laws.ReadBack.{Proper, length-written}
 use Rattle.station.specs.Laws.Bundles.{ws-length}
 use Rattle.station.specs.Seal.{main-words}
 use Rattle.writer.specs.Written.{count-after}
-use Rattle.writer.specs.Bundle.{Certificate, lent-bundle, count-bundle}
+use Rattle.writer.specs.Laws.Bundle.{Certificate, lent-bundle, count-bundle}
 use Rattle.laws.specs.Below.{Below}
 use Rattle.keeping.specs.Kept.{with-bundle}
 use Rattle.keeping.specs.Begun.{blank, begun}

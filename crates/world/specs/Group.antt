@@ -1,117 +1,22 @@
--- What the calls on a group promise, and the laws that join them.
-use Prim.Native.Nat.{ℕ, _≤_}
-use mathlib.Core.Bool.{Bool, true, false, not}
-use mathlib.Core.List.{List}
-use mathlib.Core.Path.{_≡_, refl, sym, ap, _∙_}
-use native.Mathlib.Omega.{arith}
+-- What the calls on a group promise.
+use Prim.Native.Nat.{ℕ}
 use lib.Dec.{ltb}
-use lib.ListN.{length, take, replicate}
-use lib.Seq.{take-all, length-take-le}
-use borrow.Author.Tests.{ltb-true, ltb-false, not-true, not-false}
 use Rattle.laws.specs.Pick.{pick}
-use Rattle.format.specs.Numbers.{none}
-use Rattle.hmac.specs.Code.{hmac-code}
 use Rattle.modules.specs.declared.Module.{Module}
-use Rattle.modules.specs.Counter.{no-module}
 use Rattle.station.specs.declared.Station.{Station}
-use Rattle.station.specs.Machine.{stage-step}
-use Rattle.station.specs.Calls.{Returned, no-station, opening, giving}
-use Rattle.station.specs.Answers.{Answers}
-use Rattle.world.specs.declared.Bundle.{Bundle}
+use Rattle.station.specs.Calls.{Returned}
 use Rattle.world.specs.declared.Call.{Call}
 use Rattle.world.specs.declared.World.{World}
-use Rattle.world.specs.Valley.{no-bundle, group-of, at-number, put-number, module-at, station-at, bundle-at, the-question, the-output, opens, after, shown-step, shown-decision, is-open, gives}
+use Rattle.world.specs.Valley.{put-number}
 
 -- what a call returned, as the definitions have it
 abbrev pub returned-by : Call → Returned
 returned-by c = record { number = c .number; count = c .count; station = c .station; after = c .after; lent = c .words }
 
-pub answered : (x : Returned) (number count : ℕ) (t : Station) (m : Module) (lent : List ℕ) → Answers x number count t m lent
-    → _≡_ {A = Returned} (record { number = number; count = count; station = t; after = m; lent = lent }) x
-answered x number count t m lent h =
-    λ i. record { number = h .number-is i; count = h .count-is i; station = h .station-is i; after = h .after-is i; lent = h .lent-is i }
-
--- ---- the calls
-pub opens-are : (w : World) (s v : ℕ) (m : Module) (x : Returned) → m ≡ at-number (w .modules) s no-module
-    → x ≡ opening hmac-code m the-question v the-output → x ≡ opens w s v
-unfolding module-at
-opens-are w s v m x m-is x-is = x-is ∙ ap (λ (y : Module). opening hmac-code y the-question v the-output) m-is
-
-pub gives-are : (w : World) (s k coin : ℕ) (m : Module) (t : Station) (b : Bundle) (x : Returned) → m ≡ at-number (w .modules) s no-module
-    → t ≡ at-number (w .stations) s no-station → b ≡ at-number (w .bundles) k no-bundle
-    → x ≡ giving hmac-code m t (take (b .count) (b .words)) coin the-output → x ≡ gives w s k coin
-unfolding module-at station-at bundle-at
-gives-are w s k coin m t b x m-is t-is b-is x-is =
-    x-is ∙ (λ i. giving hmac-code (m-is i) (t-is i) (take (b-is i .count) (b-is i .words)) coin the-output)
-
--- ---- the group
-pub group-is : (n : ℕ) (modules : List Module) (t : Station) (b : Bundle) → modules ≡ group-of n .modules → t ≡ no-station → b ≡ no-bundle
-    → _≡_ {A = World} (record { modules = modules; stations = replicate 7 t; written = 0; bundles = replicate 40 b }) (group-of n)
-unfolding group-of
-group-is n modules t b m-is t-is b-is =
-    λ i. record { modules = m-is i; stations = replicate 7 (t-is i); written = 0; bundles = replicate 40 (b-is i) }
-
 -- the group with another station and module of number s
 abbrev pub moved : World → ℕ → Station → Module → World
 moved w s t m = record { modules = put-number (w .modules) s m; stations = put-number (w .stations) s t; written = w .written; bundles = w .bundles }
 
--- ---- the smaller of a count and a length
+-- the smaller of a count and a length
 unfoldable pub shorter : ℕ → ℕ → ℕ
 shorter count length = pick (ltb count length) count length
-
-shorter-le : (count n : ℕ) → shorter count n ≤ n
-unfolding shorter pick
-shorter-le count n = go (ltb count n) refl
-  where
-    go : (t : Bool) → ltb count n ≡ t → pick t count n ≤ n
-    go true e = omega (arith, ltb-true count n e)
-    go false e = omega arith
-
-take-shorter : {A : Type 0} (count n : ℕ) (l : List A) → length l ≡ n → take (shorter count n) l ≡ take count l
-unfolding shorter pick
-take-shorter count n l long = go (ltb count n) refl
-  where
-    go : (t : Bool) → ltb count n ≡ t → take (pick t count n) l ≡ take count l
-    go true e = refl
-    go false e =
-        let a : length l ≤ n = omega arith in
-        let b : length l ≤ count = omega (arith, ltb-false count n e) in
-        take-all n l a ∙ sym (take-all count l b)
-
--- the part of an array that counts
-module _ (l : List ℕ) (n count k : ℕ) (long : length l ≡ n) (k-is : k ≡ shorter count n) where
-  pub part-fits : k ≤ length l
-  part-fits = omega (arith, shorter-le count n)
-
-  pub part-long : k ≡ length (take k l)
-  part-long = sym (length-take-le k l part-fits)
-
-  pub part-is : take k l ≡ take count l
-  part-is = ap (λ (x : ℕ). take x l) k-is ∙ take-shorter count n l long
-
-pub gives-words : (m : Module) (t : Station) (given : List ℕ) (n count k coin : ℕ) (number many : ℕ) (u : Station) (m2 : Module) (lent : List ℕ)
-    → length given ≡ n → k ≡ shorter count n → Answers (giving hmac-code m t (take k given) coin the-output) number many u m2 lent
-    → _≡_ {A = Returned} (record { number = number; count = many; station = u; after = m2; lent = lent })
-    (giving hmac-code m t (take count given) coin the-output)
-gives-words m t given n count k coin number many u m2 lent long k-is h =
-    answered (giving hmac-code m t (take k given) coin the-output) number many u m2 lent h
-    ∙ ap (λ (l : List ℕ). giving hmac-code m t l coin the-output) (part-is given n count k long k-is)
-
--- ---- what an event shows of its station
-pub shows-no-step : (w : World) (s : ℕ) (o : Bool) → o ≡ is-open w s → not o ≡ true → 0 ≡ shown-step w s
-unfolding shown-step pick
-shows-no-step w s o o-is h = rw (sym o-is ∙ not-true o h)
-
-pub shows-step : (w : World) (s step : ℕ) (o : Bool) (t : Station) → o ≡ is-open w s → not o ≡ false → t ≡ at-number (w .stations) s no-station
-    → step ≡ stage-step (t .stage) → step ≡ shown-step w s
-unfolding shown-step station-at pick
-shows-step w s step o t o-is h t-is step-is = rw (sym o-is ∙ not-false o h) (step-is ∙ ap (λ (x : Station). stage-step (x .stage)) t-is)
-
-pub shows-no-decision : (w : World) (s : ℕ) (o : Bool) → o ≡ is-open w s → not o ≡ true → none ≡ shown-decision w s
-unfolding shown-decision pick
-shows-no-decision w s o o-is h = rw (sym o-is ∙ not-true o h)
-
-pub shows-decision : (w : World) (s : ℕ) (o : Bool) (t : Station) → o ≡ is-open w s → not o ≡ false → t ≡ at-number (w .stations) s no-station
-    → t .decision ≡ shown-decision w s
-unfolding shown-decision station-at pick
-shows-decision w s o t o-is h t-is = rw (sym o-is ∙ not-false o h) (ap (λ (x : Station). x .decision) t-is)

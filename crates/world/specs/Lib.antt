@@ -1,3 +1,3 @@
 pub mod Valley
-pub mod Places
 pub mod Group
+pub mod Laws

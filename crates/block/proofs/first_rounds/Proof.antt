@@ -6,7 +6,7 @@ use lib.ListN.{length, take, drop, length-set}
 use lib.Seq.{length-take-le}
 use Rattle.compression.specs.Compression.{extended}
 use Rattle.compression.specs.Steps.{onward}
-use Rattle.compression.specs.Shape.{extended-length}
+use Rattle.compression.specs.Laws.Shape.{extended-length}
 use Rattle.block.proofs.Rounds.{turn, half-way}
 use Rattle.block.proofs.Words.{grow, full, word-of}
 use borrow.Author.Needs.{needs}

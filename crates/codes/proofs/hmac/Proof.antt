@@ -8,11 +8,11 @@ use borrow.Author.Tests.{lt-ltb, le-ltb}
 use Rattle.laws.specs.Pick.{pick}
 use Rattle.sha256.specs.declared.Hashed.{Hashed}
 use Rattle.sha256.specs.Sha256.{bytes, padding, hashed, limit}
-use Rattle.sha256.specs.Answers.{after-short}
+use Rattle.sha256.specs.Laws.Answers.{after-short}
 use Rattle.hmac.specs.declared.Prepared.{Prepared}
 use Rattle.hmac.specs.declared.Keyed.{Keyed}
 use Rattle.hmac.specs.Hmac.{closed, code-of}
-use Rattle.hmac.specs.Prepared.{hmac-from, keyed-short}
+use Rattle.hmac.specs.Laws.Keys.{hmac-from, keyed-short}
 use borrow.Author.Needs.{needs}
 use Rattle.codes.proofs.hmac.Statement.{statement}
 use Rattle.codes.proofs.hmac.Tie as tie

@@ -1,6 +1,6 @@
 -- By what the line did.
 use borrow.Author.Needs.{needs}
-use Rattle.console.specs.Ends.{line-ended}
+use Rattle.console.specs.Laws.Ends.{line-ended}
 use Rattle.console.proofs.end_line.Statement.{statement}
 use Rattle.console.proofs.end_line.Tie as tie
 

@@ -1,6 +1,6 @@
 -- By whether a newline is in the piece.
 use borrow.Author.Needs.{needs}
-use Rattle.console.specs.Ends.{taken, piece-ends-line, piece-taken}
+use Rattle.console.specs.Laws.Ends.{taken, piece-ends-line, piece-taken}
 use Rattle.console.proofs.feed.Statement.{statement}
 use Rattle.console.proofs.feed.Tie as tie
 

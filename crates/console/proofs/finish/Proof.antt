@@ -1,7 +1,7 @@
 -- By whether a line is there.
 use native.Mathlib.Omega.{arith}
 use borrow.Author.Needs.{needs}
-use Rattle.console.specs.Ends.{taken, line-left, none-left}
+use Rattle.console.specs.Laws.Ends.{taken, line-left, none-left}
 use Rattle.console.proofs.finish.Statement.{statement}
 use Rattle.console.proofs.finish.Tie as tie
 

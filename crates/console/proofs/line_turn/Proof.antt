@@ -1,6 +1,6 @@
 -- Of what the kept bytes say.
 use borrow.Author.Needs.{needs}
-use Rattle.console.specs.Ends.{line-turned}
+use Rattle.console.specs.Laws.Ends.{line-turned}
 use Rattle.console.proofs.line_turn.Statement.{statement}
 use Rattle.console.proofs.line_turn.Tie as tie
 

@@ -2,7 +2,7 @@
 use mathlib.Core.Path.{refl, sym, ap}
 use borrow.Author.Needs.{needs}
 use Rattle.world.specs.declared.Phase.{Phase}
-use Rattle.events.specs.Turns.{printed-as}
+use Rattle.events.specs.Laws.Turns.{printed-as}
 use Rattle.world.specs.Valley.{missing}
 use Rattle.console.proofs.missing.Statement.{statement}
 use Rattle.console.proofs.missing.Tie as tie

@@ -2,7 +2,7 @@
 use mathlib.Core.Path.{_∙_, ap}
 use borrow.Author.Needs.{needs}
 use Rattle.lines.specs.Read.{read-line}
-use Rattle.world.specs.Group.{part-fits, part-long, part-is}
+use Rattle.world.specs.Laws.Group.{part-fits, part-long, part-is}
 use Rattle.console.proofs.said.Statement.{statement}
 use Rattle.console.proofs.said.Tie as tie
 

@@ -5,7 +5,8 @@ use mathlib.Core.Path.{_≡_, _∙_}
 use native.Mathlib.Omega.{arith}
 use lib.ListN.{length, drop}
 use borrow.Author.Needs.{needs}
-use Rattle.console.specs.Scans.{behind, scanned, scan-start, scan-found, scan-room, scan-full, scan-end}
+use Rattle.console.specs.Scans.{behind, scanned}
+use Rattle.console.specs.Laws.Scans.{scan-start, scan-found, scan-room, scan-full, scan-end}
 use Rattle.console.proofs.scan.Statement.{statement}
 use Rattle.console.proofs.scan.Tie as tie
 

@@ -1,6 +1,6 @@
 -- What the line promises.
 use borrow.Author.Needs.{needs}
-use Rattle.events.specs.Turns.{bad-turned}
+use Rattle.events.specs.Laws.Turns.{bad-turned}
 use Rattle.events.proofs.bad.Statement.{statement}
 use Rattle.events.proofs.bad.Tie as tie
 

@@ -4,7 +4,7 @@ use native.Mathlib.Omega.{arith}
 use borrow.Author.Needs.{needs}
 use Rattle.world.specs.declared.World.{World}
 use Rattle.world.specs.Group.{returned-by}
-use Rattle.events.specs.Turns.{turned-as, quiet-event, full-event, bundle-event}
+use Rattle.events.specs.Laws.Turns.{turned-as, quiet-event, full-event, bundle-event}
 use Rattle.events.proofs.event.Statement.{statement}
 use Rattle.events.proofs.event.Tie as tie
 

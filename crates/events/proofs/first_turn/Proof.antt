@@ -1,7 +1,7 @@
 -- Each arm is a case of the definition.
 use mathlib.Core.Path.{sym, ap}
 use borrow.Author.Needs.{needs}
-use Rattle.events.specs.Turns.{turned-as}
+use Rattle.events.specs.Laws.Turns.{turned-as}
 use Rattle.world.specs.Valley.{first-turn}
 use Rattle.events.proofs.first_turn.Statement.{statement}
 use Rattle.events.proofs.first_turn.Tie as tie

@@ -2,7 +2,7 @@
 use mathlib.Core.Path.{_∙_, ap}
 use borrow.Author.Needs.{needs}
 use Rattle.station.specs.Calls.{Returned}
-use Rattle.events.specs.Turns.{turned-as, not-named, named}
+use Rattle.events.specs.Laws.Turns.{turned-as, not-named, named}
 use Rattle.world.specs.Valley.{event, after}
 use Rattle.events.proofs.give_event.Statement.{statement}
 use Rattle.events.proofs.give_event.Tie as tie

@@ -1,6 +1,6 @@
 -- By whether the size is allowed.
 use borrow.Author.Needs.{needs}
-use Rattle.events.specs.Turns.{turned-as, no-size, group-turned}
+use Rattle.events.specs.Laws.Turns.{turned-as, no-size, group-turned}
 use Rattle.events.proofs.group_line.Statement.{statement}
 use Rattle.events.proofs.group_line.Tie as tie
 

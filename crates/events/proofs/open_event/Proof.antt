@@ -4,7 +4,7 @@ use native.Mathlib.Omega.{arith}
 use borrow.Author.Needs.{needs}
 use Rattle.station.specs.Calls.{Returned}
 use Rattle.world.specs.Group.{returned-by}
-use Rattle.events.specs.Turns.{turned-as, refused-opening, done-opening}
+use Rattle.events.specs.Laws.Turns.{turned-as, refused-opening, done-opening}
 use Rattle.world.specs.Valley.{event, after-opening}
 use Rattle.events.proofs.open_event.Statement.{statement}
 use Rattle.events.proofs.open_event.Tie as tie

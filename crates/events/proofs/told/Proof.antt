@@ -1,6 +1,6 @@
 -- What the line promises, of what is shown.
 use borrow.Author.Needs.{needs}
-use Rattle.events.specs.Turns.{told-turned}
+use Rattle.events.specs.Laws.Turns.{told-turned}
 use Rattle.events.proofs.told.Statement.{statement}
 use Rattle.events.proofs.told.Tie as tie
 

@@ -2,7 +2,7 @@
 use mathlib.Core.Path.{refl, sym, ap}
 use borrow.Author.Needs.{needs}
 use Rattle.world.specs.declared.Phase.{Phase}
-use Rattle.events.specs.Turns.{turned-as, nothing}
+use Rattle.events.specs.Laws.Turns.{turned-as, nothing}
 use Rattle.world.specs.Valley.{turn}
 use Rattle.events.proofs.turn.Statement.{statement}
 use Rattle.events.proofs.turn.Tie as tie

@@ -31,7 +31,7 @@ use Rattle.format.specs.Laws.ReadBack.{Proper}
 use Rattle.station.specs.Laws.Slots.{held-back}
 use Rattle.station.specs.Laws.Sane.{InRounds}
 use Rattle.station.specs.Laws.End.{Full, Ready, kept-equal, kept-none, both-values}
-use Rattle.writer.specs.Bundle.{Certificate, all-held, some-held, kept-alone}
+use Rattle.writer.specs.Laws.Bundle.{Certificate, all-held, some-held, kept-alone}
 use Rattle.laws.specs.Below.{Below}
 use Rattle.sending.specs.Sent.{sent-count, sent-lent, sent-bundle, sent-station, sent-after}
 use Rattle.sending.specs.Sends.{own-fields, own-statement, lent-is, count-is, station-is, after-is}

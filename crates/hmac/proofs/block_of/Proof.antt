@@ -5,8 +5,8 @@ use lib.ListN.{length}
 use borrow.Author.Tests.{le-leb, lt-leb}
 use Rattle.laws.specs.Pick.{pick}
 use Rattle.sha256.specs.declared.Digest.{Digest}
-use Rattle.sha256.specs.Answers.{digest-short}
-use Rattle.sha256.specs.Shape.{sha256-length}
+use Rattle.sha256.specs.Laws.Answers.{digest-short}
+use Rattle.sha256.specs.Laws.Shape.{sha256-length}
 use Rattle.hmac.specs.Hmac.{zero-filled, key-block}
 use borrow.Author.Needs.{needs}
 use Rattle.hmac.proofs.block_of.Statement.{statement}

@@ -7,7 +7,7 @@ use Rattle.laws.specs.Pick.{pick, here, skip}
 use Rattle.format.specs.Statement.{statements}
 use Rattle.rules.specs.Rules.{wanted, in-order, holds}
 use Rattle.certificate.specs.Laws.Parts.{order-end}
-use Rattle.kept_fitness.specs.Groups.{rest, order-start, order-next}
+use Rattle.kept_fitness.specs.Laws.Groups.{rest, order-start, order-next}
 use borrow.Author.Needs.{needs}
 use Rattle.kept_fitness.proofs.in_order.Statement.{statement}
 use Rattle.kept_fitness.proofs.in_order.Tie as tie

@@ -5,7 +5,7 @@ use native.Mathlib.Omega.{arith}
 use lib.ListN.{length, drop, getD}
 use borrow.Author.Tests.{not-true, not-false}
 use Rattle.lines.specs.Read.{is-digit, all-digits}
-use Rattle.lines.specs.Words.{digits-turn, digits-stop, digits-end}
+use Rattle.lines.specs.Laws.Words.{digits-turn, digits-stop, digits-end}
 use Rattle.lines.proofs.all_digits.Statement.{statement}
 use Rattle.lines.proofs.all_digits.Tie as tie
 

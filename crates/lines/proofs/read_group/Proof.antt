@@ -1,5 +1,5 @@
 -- The tests are those of the definition, joined as there.
-use Rattle.lines.specs.Says.{second-is, group-read, group-not}
+use Rattle.lines.specs.Laws.Says.{second-is, group-read, group-not}
 use borrow.Author.Needs.{needs}
 use Rattle.lines.proofs.read_group.Statement.{statement}
 use Rattle.lines.proofs.read_group.Tie as tie

@@ -4,8 +4,8 @@ use mathlib.Core.Path.{sym}
 use native.Mathlib.Omega.{arith}
 use lib.ListN.{length}
 use lib.Seq.{length-take-le}
-use Rattle.lines.specs.Words.{end-inside}
-use Rattle.lines.specs.Says.{one-word, two-words, longer-line}
+use Rattle.lines.specs.Laws.Words.{end-inside}
+use Rattle.lines.specs.Laws.Says.{one-word, two-words, longer-line}
 use borrow.Author.Needs.{needs}
 use Rattle.lines.proofs.read_line.Statement.{statement}
 use Rattle.lines.proofs.read_line.Tie as tie

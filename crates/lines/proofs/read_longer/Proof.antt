@@ -4,8 +4,8 @@ use mathlib.Core.Path.{sym}
 use native.Mathlib.Omega.{arith}
 use lib.ListN.{take, drop}
 use lib.Seq.{length-take-le}
-use Rattle.lines.specs.Words.{end-inside}
-use Rattle.lines.specs.Says.{three-words, four-words, more-words}
+use Rattle.lines.specs.Laws.Words.{end-inside}
+use Rattle.lines.specs.Laws.Says.{three-words, four-words, more-words}
 use borrow.Author.Needs.{needs}
 use Rattle.lines.proofs.read_longer.Statement.{statement}
 use Rattle.lines.proofs.read_longer.Tie as tie

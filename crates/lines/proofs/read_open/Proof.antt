@@ -1,6 +1,6 @@
 -- The tests are those of the definition, joined as there.
 use mathlib.Core.Bool.{_&&_}
-use Rattle.lines.specs.Says.{first-part, second-is, open-read, open-not}
+use Rattle.lines.specs.Laws.Says.{first-part, second-is, open-read, open-not}
 use borrow.Author.Needs.{needs}
 use Rattle.lines.proofs.read_open.Statement.{statement}
 use Rattle.lines.proofs.read_open.Tie as tie

@@ -4,7 +4,7 @@ use mathlib.Core.Path.{_≡_, refl, sym, _∙_}
 use native.Mathlib.Omega.{arith}
 use lib.ListN.{length, drop}
 use Rattle.lines.specs.Read as Read
-use Rattle.lines.specs.Words.{same-turn, same-stop, same-end, other-length}
+use Rattle.lines.specs.Laws.Words.{same-turn, same-stop, same-end, other-length}
 use Rattle.lines.proofs.same.Statement.{statement}
 use Rattle.lines.proofs.same.Tie as tie
 

@@ -5,7 +5,7 @@ use mathlib.Core.Path.{_≡_, refl, sym, _∙_}
 use native.Mathlib.Omega.{arith}
 use lib.ListN.{length, drop, getD}
 use Rattle.lines.specs.Read.{all-digits, value-behind, value}
-use Rattle.lines.specs.Words.{number-parts, digit-parts, value-turn, value-end, below-turn, below-four}
+use Rattle.lines.specs.Laws.Words.{number-parts, digit-parts, value-turn, value-end, below-turn, below-four}
 use Rattle.lines.proofs.value.Statement.{statement}
 use Rattle.lines.proofs.value.Tie as tie
 

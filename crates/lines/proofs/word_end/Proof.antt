@@ -3,7 +3,8 @@ use Prim.Native.Nat.{_+_, _-_, _≤_}
 use mathlib.Core.Path.{_≡_, refl, sym, _∙_}
 use native.Mathlib.Omega.{arith}
 use lib.ListN.{length, drop}
-use Rattle.lines.specs.Words.{word-length, end-turn, end-space, end-last}
+use Rattle.lines.specs.Words.{word-length}
+use Rattle.lines.specs.Laws.Words.{end-turn, end-space, end-last}
 use Rattle.lines.proofs.word_end.Statement.{statement}
 use Rattle.lines.proofs.word_end.Tie as tie
 

@@ -22,7 +22,7 @@ use Rattle.station.specs.Laws.Fits.{own-proper}
 use Rattle.format.specs.Laws.ReadBack.{Proper}
 use Rattle.station.specs.Decision.{opens}
 use Rattle.station.specs.Answers.{Answers}
-use Rattle.writer.specs.Bundle.{Certificate}
+use Rattle.writer.specs.Laws.Bundle.{Certificate}
 use Rattle.laws.specs.Below.{Below}
 use Rattle.sending.specs.Sent.{sent-count, sent-lent, sent-bundle, sent-station, sent-after}
 use Rattle.sending.specs.Sends.{own-fields, own-statement, lent-is, count-is, station-is, after-is}

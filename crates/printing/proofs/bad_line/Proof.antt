@@ -1,7 +1,7 @@
 -- The fixed bytes, the number behind them, and the line's end.
 use native.Mathlib.Omega.{arith}
-use Rattle.printing.specs.Width.{decimal-64}
-use Rattle.printing.specs.Put.{bad-line-put}
+use Rattle.printing.specs.Laws.Width.{decimal-64}
+use Rattle.printing.specs.Laws.Put.{bad-line-put}
 use borrow.Author.Needs.{needs}
 use Rattle.printing.proofs.bad_line.Statement.{statement}
 use Rattle.printing.proofs.bad_line.Tie as tie

@@ -4,7 +4,7 @@ use mathlib.Core.Path.{_≡_, refl, _∙_}
 use native.Mathlib.Omega.{arith}
 use lib.ListN.{length, getD}
 use lib.Seq.{paste, paste-zero}
-use Rattle.printing.specs.Put.{copied, copied-length}
+use Rattle.printing.specs.Laws.Put.{copied, copied-length}
 use Rattle.printing.proofs.copy.Statement.{statement}
 use Rattle.printing.proofs.copy.Tie as tie
 

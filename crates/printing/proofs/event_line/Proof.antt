@@ -4,8 +4,8 @@ use native.Mathlib.Omega.{arith}
 use lib.ListN.{length}
 use borrow.Author.Needs.{needs}
 use Rattle.printing.specs.Print.{decimal}
-use Rattle.printing.specs.Width.{decimal-64, decimal-32}
-use Rattle.printing.specs.Put.{event-line-put}
+use Rattle.printing.specs.Laws.Width.{decimal-64, decimal-32}
+use Rattle.printing.specs.Laws.Put.{event-line-put}
 use Rattle.printing.proofs.event_line.Statement.{statement}
 use Rattle.printing.proofs.event_line.Tie as tie
 

@@ -6,7 +6,7 @@ use native.Mathlib.Omega.{arith}
 use lib.ListN.{length, take}
 use lib.Seq.{paste}
 use Rattle.printing.specs.Print.{decimal}
-use Rattle.printing.specs.Decimal.{spelled-text}
+use Rattle.printing.specs.Laws.Decimal.{spelled-text}
 use borrow.Author.Needs.{needs}
 use Rattle.printing.proofs.put_number.Statement.{statement}
 use Rattle.printing.proofs.put_number.Tie as tie

@@ -4,7 +4,7 @@ use native.Mathlib.Omega.{arith}
 use lib.ListN.{length-set}
 use Rattle.lines.specs.Read.{space}
 use Rattle.printing.specs.Print.{decimal}
-use Rattle.printing.specs.Put.{put-after}
+use Rattle.printing.specs.Laws.Put.{put-after}
 use borrow.Author.Needs.{needs}
 use Rattle.printing.proofs.put_spaced.Statement.{statement}
 use Rattle.printing.proofs.put_spaced.Tie as tie

@@ -28,7 +28,7 @@ use Rattle.station.specs.declared.Station.{Station}
 use Rattle.station.specs.Machine.{stage-step, step-tests, held-of}
 use Rattle.station.specs.Words.{state-of, sites, held-by}
 use Rattle.station.specs.Fit.{slots-fit, held-fits, rest-fits, fits}
-use Rattle.fitness.specs.Among.{bit-is-held}
+use Rattle.fitness.specs.Laws.Among.{bit-is-held}
 use Rattle.refusal.specs.Refusal.{first-refusal, step-refused, step-refused-is}
 
 swap : (a b c : Bool) → ((a && c) && b) ≡ ((a && b) && c)

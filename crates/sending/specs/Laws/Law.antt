@@ -18,7 +18,7 @@ use Rattle.sealed.specs.Answers.{Answered}
 use Rattle.station.specs.declared.Stage.{Stage}
 use Rattle.station.specs.declared.Station.{Station}
 use Rattle.writer.specs.Written.{writable, lent-after, count-after}
-use Rattle.writer.specs.Laws.{writable-out}
+use Rattle.writer.specs.Laws.Writing.{writable-out}
 use Rattle.sending.specs.Sent.{drafted, asked, main-part, with-main, coded-lent, coded-after, sent-count, sent-lent, sent-bundle, sent-station, sent-after}
 
 -- the word count is never over the words lent

@@ -2,7 +2,7 @@
 use mathlib.Core.Path.{_∙_}
 use native.Mathlib.Omega.{arith}
 use borrow.Author.Needs.{needs}
-use Rattle.world.specs.Places.{low, high, at-inside, at-outside}
+use Rattle.world.specs.Laws.Places.{low, high, at-inside, at-outside}
 use Rattle.world.specs.Valley.{no-bundle}
 use Rattle.world.proofs.bundle_at.Statement.{statement}
 use Rattle.world.proofs.bundle_at.Tie as tie

@@ -1,6 +1,6 @@
 -- What giving answers, of what stands at the numbers.
 use borrow.Author.Needs.{needs}
-use Rattle.world.specs.Group.{gives-are}
+use Rattle.world.specs.Laws.Group.{gives-are}
 use Rattle.world.proofs.give_call.Statement.{statement}
 use Rattle.world.proofs.give_call.Tie as tie
 

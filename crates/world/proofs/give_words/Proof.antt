@@ -1,6 +1,6 @@
 -- What giving answers, of the words that count.
 use borrow.Author.Needs.{needs}
-use Rattle.world.specs.Group.{part-fits, part-long, gives-words}
+use Rattle.world.specs.Laws.Group.{part-fits, part-long, gives-words}
 use Rattle.world.proofs.give_words.Statement.{statement}
 use Rattle.world.proofs.give_words.Tie as tie
 

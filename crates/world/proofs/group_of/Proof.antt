@@ -1,6 +1,6 @@
 -- By its fields.
 use borrow.Author.Needs.{needs}
-use Rattle.world.specs.Group.{group-is}
+use Rattle.world.specs.Laws.Group.{group-is}
 use Rattle.world.proofs.group_of.Statement.{statement}
 use Rattle.world.proofs.group_of.Tie as tie
 

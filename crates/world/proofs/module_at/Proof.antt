@@ -3,7 +3,7 @@ use mathlib.Core.Path.{_∙_}
 use borrow.Author.Needs.{needs}
 use Rattle.laws.specs.Pick.{pick}
 use Rattle.modules.specs.Counter.{no-module, making}
-use Rattle.world.specs.Places.{low, high, at-inside, at-outside}
+use Rattle.world.specs.Laws.Places.{low, high, at-inside, at-outside}
 use Rattle.world.proofs.module_at.Statement.{statement}
 use Rattle.world.proofs.module_at.Tie as tie
 

@@ -1,6 +1,6 @@
 -- What opening answers, of the module that stands at the number.
 use borrow.Author.Needs.{needs}
-use Rattle.world.specs.Group.{answered, opens-are}
+use Rattle.world.specs.Laws.Group.{answered, opens-are}
 use Rattle.world.proofs.open_call.Statement.{statement}
 use Rattle.world.proofs.open_call.Tie as tie
 

@@ -1,6 +1,6 @@
 -- Where the number has no place nothing is replaced.
 use borrow.Author.Needs.{needs}
-use Rattle.world.specs.Places.{low, high, put-inside, put-outside}
+use Rattle.world.specs.Laws.Places.{low, high, put-inside, put-outside}
 use Rattle.world.proofs.put_station.Statement.{statement}
 use Rattle.world.proofs.put_station.Tie as tie
 

@@ -1,6 +1,6 @@
 -- By whether the station is open.
 use borrow.Author.Needs.{needs}
-use Rattle.world.specs.Group.{shows-no-decision, shows-decision}
+use Rattle.world.specs.Laws.Group.{shows-no-decision, shows-decision}
 use Rattle.world.proofs.shown_decision.Statement.{statement}
 use Rattle.world.proofs.shown_decision.Tie as tie
 

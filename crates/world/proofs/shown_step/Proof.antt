@@ -1,6 +1,6 @@
 -- By whether the station is open.
 use borrow.Author.Needs.{needs}
-use Rattle.world.specs.Group.{shows-no-step, shows-step}
+use Rattle.world.specs.Laws.Group.{shows-no-step, shows-step}
 use Rattle.world.proofs.shown_step.Statement.{statement}
 use Rattle.world.proofs.shown_step.Tie as tie
 

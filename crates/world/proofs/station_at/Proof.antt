@@ -2,7 +2,7 @@
 use mathlib.Core.Path.{_∙_}
 use borrow.Author.Needs.{needs}
 use Rattle.station.specs.Calls.{no-station}
-use Rattle.world.specs.Places.{low, high, at-inside, at-outside}
+use Rattle.world.specs.Laws.Places.{low, high, at-inside, at-outside}
 use Rattle.world.proofs.station_at.Statement.{statement}
 use Rattle.world.proofs.station_at.Tie as tie
 

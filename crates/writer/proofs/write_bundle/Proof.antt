@@ -3,7 +3,7 @@ use mathlib.Core.Path.{_≡_, _∙_}
 use lib.ListN.{length}
 use mathlib.Core.Bool.{true, false}
 use Rattle.writer.specs.Written.{writable}
-use Rattle.writer.specs.Laws.{not-is-true, not-is-false, writable-out, not-written, is-written}
+use Rattle.writer.specs.Laws.Writing.{not-is-true, not-is-false, writable-out, not-written, is-written}
 use borrow.Author.Needs.{needs}
 use Rattle.writer.proofs.write_bundle.Statement.{statement}
 use Rattle.writer.proofs.write_bundle.Tie as tie

@@ -5,7 +5,7 @@ use native.Mathlib.Omega.{arith}
 use lib.ListN.{length, length-set}
 use native.Mathlib.Nat.{zero-add}
 use Rattle.writer.specs.Written.{laid, part}
-use Rattle.writer.specs.Laws.{part-begin, part-turn}
+use Rattle.writer.specs.Laws.Writing.{part-begin, part-turn}
 use borrow.Author.Needs.{needs}
 use Rattle.writer.proofs.write_code.Statement.{statement}
 use Rattle.writer.proofs.write_code.Tie as tie

@@ -9,7 +9,7 @@ use mathlib.Core.Logic.{⊎-elim}
 use Rattle.laws.specs.Pick.{via}
 use Rattle.laws.specs.Sets.{bit}
 use Rattle.writer.specs.Written.{laid, part, held-words}
-use Rattle.writer.specs.Laws.{held-begin, held-in-turn, held-out-turn, held-longer, length-laid, put-behind}
+use Rattle.writer.specs.Laws.Writing.{held-begin, held-in-turn, held-out-turn, held-longer, length-laid, put-behind}
 use borrow.Author.Needs.{needs}
 use Rattle.writer.proofs.write_held.Statement.{statement}
 use Rattle.writer.proofs.write_held.Tie as tie

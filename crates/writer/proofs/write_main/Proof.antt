@@ -5,7 +5,7 @@ use native.Mathlib.Omega.{arith}
 use lib.ListN.{length, set, length-set, length-take, length-drop}
 use borrow.Rule.Slice.PartMut.{putMid}
 use Rattle.writer.specs.Written.{laid, main-words}
-use Rattle.writer.specs.Laws.{main-done, length-main, length-laid}
+use Rattle.writer.specs.Laws.Writing.{main-done, length-main, length-laid}
 use borrow.Author.Needs.{needs}
 use Rattle.writer.proofs.write_main.Statement.{statement}
 use Rattle.writer.proofs.write_main.Tie as tie

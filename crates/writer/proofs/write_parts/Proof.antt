@@ -6,7 +6,7 @@ use native.Mathlib.Omega.{arith}
 use lib.Count.{ones}
 use lib.ListN.{length}
 use Rattle.writer.specs.Written.{laid, part, held-words, main-words, words-of}
-use Rattle.writer.specs.Laws.{parts-done, length-main, held-length}
+use Rattle.writer.specs.Laws.Writing.{parts-done, length-main, held-length}
 use borrow.Author.Needs.{needs}
 use Rattle.writer.proofs.write_parts.Statement.{statement}
 use Rattle.writer.proofs.write_parts.Tie as tie

@@ -4,7 +4,7 @@ use mathlib.Core.Path.{_≡_, refl, _∙_}
 use native.Mathlib.Omega.{arith}
 use lib.ListN.{length, length-set}
 use Rattle.writer.specs.Written.{laid, part}
-use Rattle.writer.specs.Laws.{part-begin, part-turn}
+use Rattle.writer.specs.Laws.Writing.{part-begin, part-turn}
 use borrow.Author.Needs.{needs}
 use Rattle.writer.proofs.write_slot.Statement.{statement}
 use Rattle.writer.proofs.write_slot.Tie as tie

@@ -14,9 +14,11 @@ use Rattle.console.specs.declared.Scanned.{Scanned}
 use Rattle.world.specs.declared.World.{World}
 use Rattle.world.specs.Valley.{turn, missing}
 use Rattle.console.specs.Pieces.{Takes, prints, line-turn, line-done, taking, finishing}
-use Rattle.events.specs.Turns.{Printed, Turned, turned-as}
+use Rattle.events.specs.Turns.{Printed, Turned}
+use Rattle.events.specs.Laws.Turns.{turned-as}
 use Rattle.console.specs.Took.{Took, with-line}
-use Rattle.console.specs.Scans.{scanned, taken-by, taking-is}
+use Rattle.console.specs.Scans.{scanned}
+use Rattle.console.specs.Laws.Scans.{taken-by, taking-is}
 
 took-as : {t : Takes} {u : Takes} {used : ℕ} {count : ℕ} {run : Run} {lent : List ℕ} → t ≡ u → Took t used count run lent → Took u used count run lent
 took-as {used = used} {count = count} {run = run} {lent = lent} e h = subst (λ (x : Takes). Took x used count run lent) e h

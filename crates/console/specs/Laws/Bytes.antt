@@ -14,7 +14,7 @@ use Rattle.laws.specs.Bools.{both, join}
 use Rattle.lines.specs.declared.Line.{Line}
 use Rattle.lines.specs.declared.Line.the-variants.{Group, Open, Give, Unreadable}
 use Rattle.lines.specs.Read.{newline, longer, split, read-line}
-use Rattle.lines.specs.Short.{capped}
+use Rattle.lines.specs.Laws.Short.{capped}
 use Rattle.world.specs.declared.Phase.{Phase}
 use Rattle.world.specs.declared.Phase.the-variants.{First, Running, Ended}
 use Rattle.console.specs.declared.Run.{Run}

@@ -6,10 +6,10 @@ use native.Mathlib.Omega.{arith}
 use lib.ListN.{length, take, drop, length-drop}
 use lib.Seq.{length-take-le}
 use Rattle.compression.specs.Compression.{compressed}
-use Rattle.compression.specs.Shape.{compressed-length, compressed-below}
+use Rattle.compression.specs.Laws.Shape.{compressed-length, compressed-below}
 use Rattle.laws.specs.Below.{Below}
 use Rattle.sha256.specs.Sha256.{words, padding, initial, blocks, hashed, sha256}
-use Rattle.sha256.specs.Words.{length-bytes}
+use Rattle.sha256.specs.Laws.Words.{length-bytes}
 
 pub words-length : (n : ℕ) (m : List ℕ) → length m ≡ n * 4 → length (words m) ≡ n
 unfolding words

@@ -8,7 +8,7 @@ use native.Mathlib.Omega.{arith}
 use lib.ListN.{length, take, drop, getD, set, length-append}
 use Rattle.lines.specs.Read.{space, newline}
 use Rattle.printing.specs.Print.{decimal, event-line, bad-line-bytes, bad-line}
-use Rattle.printing.specs.Width.{decimal-64, decimal-32, event-line-length, bad-line-length}
+use Rattle.printing.specs.Laws.Width.{decimal-64, decimal-32, event-line-length, bad-line-length}
 use lib.Seq.{append-snoc, drop-set-lt, take-suc-set, paste, paste-suc, take-append-seam, drop-append-add, take-length, drop-drop, drop-cons, set-append-seam, length-paste}
 
 -- the buffer with a text at its front

@@ -10,8 +10,9 @@ use Rattle.laws.specs.Bools.{both}
 use Rattle.lines.specs.declared.Line.{Line}
 use Rattle.lines.specs.declared.Line.the-variants.{Group, Open, Give, Unreadable}
 use Rattle.lines.specs.Read.{space, split, is-number, value, same, word-n, word-open, word-give, read-words, read-line}
-use Rattle.lines.specs.Short.{total, total-split}
-use Rattle.lines.specs.Words.{word-length, end-inside, last-word, next-word}
+use Rattle.lines.specs.Laws.Short.{total, total-split}
+use Rattle.lines.specs.Words.{word-length}
+use Rattle.lines.specs.Laws.Words.{end-inside, last-word, next-word}
 
 -- what a test joined from calls tells of a word
 pub second-is : (a b : Bool) (word : List ℕ) → b ≡ is-number word → (a && b) ≡ true → is-number word ≡ true

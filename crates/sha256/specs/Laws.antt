@@ -1,0 +1,4 @@
+pub mod Chain
+pub mod Words
+pub mod Shape
+pub mod Answers

@@ -1,0 +1,202 @@
+-- Laws of writing: a loop that writes word by word, a part that is lent from the middle on, and the words of the set's slots one by one.
+use Prim.Native.Nat.{ℕ, zero, suc, _+_, _*_, _-_, _/_, _%_, _^_, _≤_, _<_}
+use mathlib.Core.Path.{_≡_, refl, sym, ap, _∙_}
+use mathlib.Core.Bool.{Bool, true, false, not, _&&_}
+use mathlib.Core.List.{List, [], _∷_, _++_, append-assoc, append-nil}
+use lib.Count.{ones, ones-cat, ones-ones}
+use lib.Dec.{ltb, leb}
+use lib.ListN.{length, take, drop, set, getD, length-append, length-drop, drop-of-length-le}
+use lib.Pow.{pow-pos, mod-pow-add}
+use lib.Seq.{drop-drop, drop-cons, set-at, append-snoc, take-at, drop-at, take-all}
+use borrow.Rule.Slice.PartMut.{putMid}
+use borrow.Author.Tests.{eqb-true, eqb-false, ltb-true, leb-true}
+use native.Mathlib.Nat.{mod-lt, mod-eq-of-lt, add-zero}
+use native.Mathlib.Numerals.{add-one, one-add}
+use native.Mathlib.Omega.{arith}
+use Rattle.laws.specs.Pick.{pick, here, skip}
+use Rattle.laws.specs.Bools.{both, never}
+use Rattle.laws.specs.Sets.{bit}
+use Rattle.format.specs.Numbers.{bundle-words}
+use Rattle.station.specs.Words.{sites}
+use Rattle.writer.specs.Written.{laid, part, held-words, main-words, words-of, writable, lent-after, count-after}
+
+-- ---- words over the front
+pub laid-none : (out : List ℕ) → out ≡ laid [] out
+unfolding laid
+laid-none out = refl
+
+-- a store at the end of what is written
+pub laid-snoc : (p : List ℕ) (w : ℕ) (out : List ℕ) (i : ℕ) → length p ≡ i → i < length out → set (laid p out) i w ≡ laid (p ++ (w ∷ [])) out
+unfolding laid
+laid-snoc p w out i e h =
+    let d : drop (length p) out ≡ getD out i 0 ∷ drop (suc i) out = ap (λ (k : ℕ). drop k out) e ∙ drop-cons out i 0 h in
+    let l : length (p ++ (w ∷ [])) ≡ suc i = length-append p (w ∷ []) ∙ add-one (length p) ∙ ap suc e in
+    rw (d, l, set-at p (getD out i 0) (drop (suc i) out) w i e) (sym (append-snoc p w (drop (suc i) out)))
+
+pub length-laid : (ws out : List ℕ) → length ws ≤ length out → length (laid ws out) ≡ length out
+unfolding laid
+length-laid ws out h = simp (length-append, length-drop) (omega arith)
+
+-- a part from `at` on, written and put back, behind words that end at `at`
+laid-behind : (p ws out : List ℕ) (at : ℕ) → length p ≡ at → at ≤ length out → take at (laid p out) ++ laid ws (drop at (laid p out)) ≡ laid (p ++ ws) out
+unfolding laid
+laid-behind p ws out at e h =
+    rw (take-at p (drop (length p) out) at e, drop-at p (drop (length p) out) at e, drop-drop, length-append)
+    (sym (append-assoc p ws (drop (length p + length ws) out)))
+
+-- what a part `&mut xs[at..]` that was lent leaves in the whole, where the callee wrote ws over its front
+pub put-behind : (p ws out xs ys : List ℕ) (at k : ℕ) → xs ≡ laid p out → length p ≡ at → at ≤ length out → k ≡ length xs - at
+    → ys ≡ laid ws (take k (drop at xs)) → putMid at k xs ys ≡ laid (p ++ ws) out
+put-behind p ws out xs ys at k x e h kk y =
+    let l : length (drop at xs) ≤ k = rw length-drop (omega arith) in
+    let t : take k (drop at xs) ≡ drop at xs = take-all k (drop at xs) l in
+    let d : drop k (drop at xs) ≡ [] = drop-of-length-le (drop at xs) l in
+    rw (d, append-nil ys, y, t, x) (laid-behind p ws out at e h)
+
+-- ---- a part of a list
+pub length-part : (n at : ℕ) (l : List ℕ) → length (part n at l) ≡ n
+unfolding part
+length-part zero at l = refl
+length-part (suc n) at l = length-append (part n at l) _ ∙ add-one (length (part n at l)) ∙ ap suc (length-part n at l)
+
+pub part-begin : (at : ℕ) (l out : List ℕ) → out ≡ laid (part 0 at l) out
+unfolding part laid
+part-begin at l out = refl
+
+pub part-turn : (i at : ℕ) (l out : List ℕ) → i < length out → set (laid (part i at l) out) i (getD l (at + i) 0) ≡ laid (part (i + 1) at l) out
+unfolding part
+part-turn i at l out h = rw (add-one i) (laid-snoc (part i at l) (getD l (at + i) 0) out i (length-part i at l) h)
+
+-- ---- the slots of a set
+module _ (h : ℕ) (slots : List ℕ) where
+  -- one slot more, at the end
+  held-snoc : (k i : ℕ) → held-words h slots i (suc k) ≡ held-words h slots i k ++ pick (bit h (i + k)) (part 10 ((i + k) * 10) slots) []
+  unfolding held-words pick
+  held-snoc zero i = rw (add-zero i) (go (bit h i))
+    where
+      go : (b : Bool) → pick b (part 10 (i * 10) slots ++ []) [] ≡ [] ++ pick b (part 10 (i * 10) slots) []
+      go true = append-nil _
+      go false = refl
+  held-snoc (suc k) i =
+      let e : i + suc k ≡ suc i + k = omega arith in
+      rw e (go (bit h i) (held-snoc k (suc i)))
+    where
+      go : (b : Bool) → held-words h slots (suc i) (suc k) ≡ held-words h slots (suc i) k ++ pick (bit h (suc i + k)) (part 10 ((suc i + k) * 10) slots) []
+          → pick b (part 10 (i * 10) slots ++ held-words h slots (suc i) (suc k)) (held-words h slots (suc i) (suc k))
+          ≡ pick b (part 10 (i * 10) slots ++ held-words h slots (suc i) k) (held-words h slots (suc i) k) ++ pick (bit h (suc i + k)) (part 10 ((suc i + k) * 10) slots) []
+      go true ih = rw ih (sym (append-assoc (part 10 (i * 10) slots) (held-words h slots (suc i) k) _))
+      go false ih = ih
+
+  pub held-in-turn : (k : ℕ) → bit h k ≡ true → held-words h slots 0 (k + 1) ≡ held-words h slots 0 k ++ part 10 (k * 10) slots
+  held-in-turn k e =
+      let z : 0 + k ≡ k = omega arith in
+      rw (add-one k) ((rw z at (held-snoc k 0)) ∙ ap (λ (x : List ℕ). held-words h slots 0 k ++ x) (sym (here (bit h k) _ _ e)))
+
+  pub held-out-turn : (k : ℕ) → bit h k ≡ false → held-words h slots 0 (k + 1) ≡ held-words h slots 0 k
+  held-out-turn k e =
+      let z : 0 + k ≡ k = omega arith in
+      rw (add-one k)
+      ((rw z at (held-snoc k 0)) ∙ ap (λ (x : List ℕ). held-words h slots 0 k ++ x) (sym (skip (bit h k) _ [] [] e refl)) ∙ append-nil (held-words h slots 0 k))
+
+  pub held-longer : (k at : ℕ) → bit h k ≡ true → at ≡ length (held-words h slots 0 k) → at + 10 ≡ length (held-words h slots 0 (k + 1))
+  held-longer k at e l =
+      sym (ap length (held-in-turn k e) ∙ length-append (held-words h slots 0 k) (part 10 (k * 10) slots) ∙ omega (arith, length-part 10 (k * 10) slots))
+
+  pub held-begin : (out : List ℕ) → (0 ≡ length (held-words h slots 0 0)) × (out ≡ laid (held-words h slots 0 0) out)
+  unfolding held-words laid
+  held-begin out = (refl, refl)
+
+-- ---- as many statements as the set has numbers
+digit-more : (h k : ℕ) → ones (h % 2 ^ suc k) ≡ ones (h / 2 ^ k % 2) + ones (h % 2 ^ k)
+digit-more h k =
+    let m : h % 2 ^ (1 + k) ≡ (h / 2 ^ k % 2) * 2 ^ k + h % 2 ^ k = mod-pow-add h 1 k in
+    let e : h % 2 ^ suc k ≡ (h / 2 ^ k % 2) * 2 ^ k + h % 2 ^ k = rw (one-add k) at m in
+    ap ones e ∙ ones-cat k (h / 2 ^ k % 2) (h % 2 ^ k) (mod-lt h (pow-pos k))
+
+slot-ones : (h k : ℕ) (l : List ℕ) (b : Bool) → bit h k ≡ b → length (pick (bit h k) (part 10 (k * 10) l) []) ≡ ones (h / 2 ^ k % 2) * 10
+slot-ones h k l true e =
+    let d : h / 2 ^ k % 2 ≡ 1 = eqb-true (h / 2 ^ k % 2) 1 e in
+    ap length (sym (here (bit h k) (part 10 (k * 10) l) [] e)) ∙ length-part 10 (k * 10) l ∙ rw d (omega (arith, ones-ones 1))
+slot-ones h k l false e =
+    let d : h / 2 ^ k % 2 ≡ 0 = omega (arith, eqb-false (h / 2 ^ k % 2) 1 e) in
+    ap length (sym (skip (bit h k) (part 10 (k * 10) l) [] [] e refl)) ∙ rw d (omega (arith, ones-ones 0))
+
+held-ones : (h : ℕ) (l : List ℕ) (k : ℕ) → length (held-words h l 0 k) ≡ ones (h % 2 ^ k) * 10
+unfolding held-words
+held-ones h l zero =
+    let z : h % 2 ^ 0 ≡ 0 = omega (arith, mod-lt h (pow-pos 0)) in
+    rw z (omega (arith, ones-ones 0))
+held-ones h l (suc k) =
+    let z : 0 + k ≡ k = omega arith in
+    ap length (rw z at (held-snoc h l k 0))
+    ∙ length-append (held-words h l 0 k) (pick (bit h k) (part 10 (k * 10) l) [])
+    ∙ omega (arith, held-ones h l k, slot-ones h k l (bit h k) refl, digit-more h k)
+
+pub held-length : (h : ℕ) (l : List ℕ) → h < 2 ^ sites → length (held-words h l 0 sites) ≡ ones h * 10
+held-length h l low = held-ones h l sites ∙ ap (λ (x : ℕ). ones x * 10) (mod-eq-of-lt low)
+
+-- ---- the main statement
+pub main-begin : (count w0 question : ℕ) (out : List ℕ) → 11 ≤ length out
+    → set (set (set out 0 (3 * 2 ^ 30 + count)) 1 w0) 2 question ≡ laid ((3 * 2 ^ 30 + count) ∷ w0 ∷ question ∷ []) out
+main-begin count w0 question out h =
+    let head : ℕ = 3 * 2 ^ 30 + count in
+    ap (λ (x : List ℕ). set (set x 1 w0) 2 question) (ap (λ (x : List ℕ). set x 0 head) (laid-none out) ∙ laid-snoc [] head out 0 refl (omega arith))
+    ∙ ap (λ (x : List ℕ). set x 2 question) (laid-snoc (head ∷ []) w0 out 1 refl (omega arith))
+    ∙ laid-snoc (head ∷ w0 ∷ []) question out 2 refl (omega arith)
+
+pub main-done : (count w0 question : ℕ) (code out ys : List ℕ) (k : ℕ) → 11 ≤ length out
+    → k ≡ length (set (set (set out 0 (3 * 2 ^ 30 + count)) 1 w0) 2 question) - 3
+    → ys ≡ laid (part 8 0 code) (take k (drop 3 (set (set (set out 0 (3 * 2 ^ 30 + count)) 1 w0) 2 question)))
+    → putMid 3 k (set (set (set out 0 (3 * 2 ^ 30 + count)) 1 w0) 2 question) ys ≡ laid (main-words count w0 question code) out
+unfolding main-words
+main-done count w0 question code out ys k h kk y =
+    put-behind ((3 * 2 ^ 30 + count) ∷ w0 ∷ question ∷ []) (part 8 0 code) out (set (set (set out 0 (3 * 2 ^ 30 + count)) 1 w0) 2 question) ys 3 k
+    (main-begin count w0 question out h) refl (omega arith) kk y
+
+pub length-main : (count w0 question : ℕ) (code : List ℕ) → length (main-words count w0 question code) ≡ 11
+unfolding main-words
+length-main count w0 question code = ap (λ (x : ℕ). suc (suc (suc x))) (length-part 8 0 code)
+
+-- ---- three parts, each behind the one before
+pub parts-done : (p h g out xs ys zs : List ℕ) (at n m : ℕ) → xs ≡ laid p out → length p ≡ 11 → 11 + length h ≡ at → at ≤ length out
+    → n ≡ length xs - 11 → ys ≡ laid h (take n (drop 11 xs))
+    → m ≡ length (putMid 11 n xs ys) - at → zs ≡ laid g (take m (drop at (putMid 11 n xs ys)))
+    → putMid at m (putMid 11 n xs ys) zs ≡ laid (p ++ h ++ g) out
+parts-done p h g out xs ys zs at n m x lp lh room nn y mm z =
+    put-behind (p ++ h) g out (putMid 11 n xs ys) zs at m
+    (put-behind p h out xs ys 11 n x lp (omega arith) nn y)
+    (length-append p h ∙ omega arith) room mm z
+
+-- ---- what a branch by the opposite of a call's result found
+pub not-is-true : (r b : Bool) → r ≡ b → not r ≡ true → b ≡ false
+not-is-true true b e n = never false refl n
+not-is-true false b e n = sym e
+
+pub not-is-false : (r b : Bool) → r ≡ b → not r ≡ false → b ≡ true
+not-is-false true b e n = sym e
+not-is-false false b e n = never true n refl
+
+-- ---- whether a bundle can be written, and what the call then leaves
+pub writable-out : (lent h count k : ℕ) → writable lent h count k ≡ true → (331 ≤ lent) × (h < 2 ^ sites) × (k ≤ 16) × (count + k ≤ 32)
+unfolding writable
+writable-out lent h count k e =
+    let a = both (leb 331 lent && ltb h (2 ^ sites) && leb k 16) _ e in
+    let b = both (leb 331 lent && ltb h (2 ^ sites)) _ (a .0) in
+    let d = both (leb 331 lent) _ (b .0) in
+    (leb-true 331 lent (d .0), ltb-true h (2 ^ sites) (d .1), leb-true k 16 (b .1), leb-true (count + k) 32 (a .1))
+
+module _ (w0 question : ℕ) (code slots : List ℕ) (h : ℕ) (group : List ℕ) (k : ℕ) (out : List ℕ) (count : ℕ) (n : count ≡ ones h) where
+  pub not-written : writable (length out) h count k ≡ false
+      → (0 ≡ count-after (length out) h k) × (out ≡ lent-after w0 question code slots h group k out)
+  unfolding count-after lent-after
+  not-written e =
+      let f : writable (length out) h (ones h) k ≡ false = rw n at e in
+      (skip _ _ _ _ f refl, skip _ _ _ _ f refl)
+
+  pub is-written : writable (length out) h count k ≡ true
+      → (bundle-words (count + k) ≡ count-after (length out) h k)
+      × (laid (words-of w0 question code slots h group k) out ≡ lent-after w0 question code slots h group k out)
+  unfolding count-after lent-after laid
+  is-written e =
+      let f : writable (length out) h (ones h) k ≡ true = rw n at e in
+      (ap (λ (x : ℕ). bundle-words (x + k)) n ∙ here _ _ _ f, here _ _ _ f)
