@@ -13,7 +13,7 @@ use Rattle.laws.specs.Pick.{pick}
 use Rattle.laws.specs.Bools.{never, both}
 use Rattle.laws.specs.Count.{count, one-if}
 use Rattle.laws.specs.Refusals.{first-failed}
-use Rattle.format.specs.Numbers.{none, place-of}
+use Rattle.format.specs.Numbers.{none, place-of, statement-words}
 use Rattle.format.specs.Group.{quorum, backing, most-faulty}
 use Rattle.format.specs.Words as Format
 use Rattle.format.specs.Words.{fields-of, word-of, formed, step-of}
@@ -28,7 +28,7 @@ use Rattle.station.specs.declared.Stage.{Stage}
 use Rattle.station.specs.declared.Stage.the-variants.{Gathering, Proposing, Voting}
 use Rattle.station.specs.declared.Station.{Station}
 use Rattle.station.specs.Machine.{kind-in, round-in, proposing, voting, insert, number-of, first-value, those, vote-value, decided, carried, follows, ended, taken, conflict, leading, kept-for-value, kept-for-none}
-use Rattle.station.specs.Words.{held-in, state-of, set-of, slot-of, slots-of, as-station, Lengths}
+use Rattle.station.specs.Words.{held-in, state-of, set-of, slot-of, slots-of, as-station, Lengths, kept-words, slots-words}
 use Rattle.station.specs.Fit.{zeros, slots-fit, fits}
 use Rattle.station.specs.Calls.{Returned, returned, opening, giving, no-station}
 use Rattle.station.specs.Returns.{unrefused}
@@ -116,12 +116,12 @@ below-out f (suc b) k e h = go (eqb k b) refl (below-out f b k (both (f b) (belo
     go false p ih = ih (omega (arith, eqb-false k b p))
 
 abbrev lengths : Station → Bool
-lengths t = eqb (length (t .held .slots)) 310 && eqb (length (t .groups .value)) 160 && eqb (length (t .groups .none)) 160
+lengths t = eqb (length (t .held .slots)) slots-words && eqb (length (t .groups .value)) kept-words && eqb (length (t .groups .none)) kept-words
 
 lengths-out : (t : Station) → lengths t ≡ true → Lengths t
 lengths-out t e =
-    let h = both (eqb (length (t .held .slots)) 310 && eqb (length (t .groups .value)) 160) _ e in
-    let f = both (eqb (length (t .held .slots)) 310) _ (h .0) in
+    let h = both (eqb (length (t .held .slots)) slots-words && eqb (length (t .groups .value)) kept-words) _ e in
+    let f = both (eqb (length (t .held .slots)) slots-words) _ (h .0) in
     record { slots = eqb-true _ _ (f .0); for-value = eqb-true _ _ (f .1); for-none = eqb-true _ _ (h .1) }
 
 -- a station is there, and its history
@@ -165,14 +165,14 @@ module _ (mac : List ℕ → List ℕ → List ℕ) (key : List ℕ) (n : ℕ) w
       not (same-words (code-at ws (place-of k)) (mac key (covered-at ws (place-of k))))
       || logged l (Format.station-of (getD ws (place-of k) 0)) (covered-at ws (place-of k))
 
-  came-out : (l : List Entry) (ws : List ℕ) → below (came l ws) ((length ws - 1) / 10) ≡ true → CodesCame mac key n l ws
+  came-out : (l : List Entry) (ws : List ℕ) → below (came l ws) ((length ws - 1) / statement-words) ≡ true → CodesCame mac key n l ws
   came-out l ws e k long verified =
       implied (same-words (code-at ws (place-of k)) (mac key (covered-at ws (place-of k)))) _
-      (below-out (came l ws) ((length ws - 1) / 10) k e (omega arith)) verified
+      (below-out (came l ws) ((length ws - 1) / statement-words) k e (omega arith)) verified
 
   abbrev brings : List Call → View → Bool
   brings cs starting = true
-  brings cs (going-on k t ws) = lengths t && below (came (log mac key n cs) ws) ((length ws - 1) / 10)
+  brings cs (going-on k t ws) = lengths t && below (came (log mac key n cs) ws) ((length ws - 1) / statement-words)
   brings cs apart = true
 
   brings-out : (cs : List Call) (v : View) → brings cs v ≡ true → Brings mac key n cs v

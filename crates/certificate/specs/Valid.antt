@@ -5,7 +5,7 @@ use mathlib.Core.List.{List}
 use mathlib.Core.Path.{_≡_}
 use lib.ListN.{getD, length}
 use Rattle.laws.specs.All.{All}
-use Rattle.format.specs.Numbers.{most-statements, bundle-words, most-stations}
+use Rattle.format.specs.Numbers.{most-statements, bundle-words, least-stations, most-stations, place-of}
 use Rattle.format.specs.Statement.{statements, verifies}
 use Rattle.hmac.specs.Code.{hmac-code}
 use Rattle.format.specs.Bundle.{count-in, main-of, certificate-of, all-formed, count-bits, zero-bits}
@@ -19,10 +19,10 @@ pub record Bundle (n : ℕ) (ws : List ℕ) : Type 0 where
   pub head-zeros : getD ws 0 0 / 2 ^ count-bits % 2 ^ zero-bits ≡ 0
   pub few : count-in ws ≤ most-statements
   pub size : length ws ≡ bundle-words (count-in ws)
-  pub fields : all-formed n ws 1 (suc (count-in ws)) ≡ true
+  pub fields : all-formed n ws (place-of 0) (suc (count-in ws)) ≡ true
 
 pub record Valid (code : List ℕ → List ℕ) (n : ℕ) (ws : List ℕ) : Type 0 where
-  pub at-least-2 : 2 ≤ n
+  pub at-least-2 : least-stations ≤ n
   pub at-most-31 : n ≤ most-stations
   pub bundle : Bundle n ws
   pub question : All (λ s. s .question ≡ main-of ws .question) (certificate-of ws)

@@ -1,10 +1,15 @@
 // A certificate held against the rules, and the validity check (document 01, "Validity"). The contracts cite specs/.
+use format::CERTIFICATE_AT;
+use format::CODE_WORDS;
 use format::COUNTS;
 use format::Fields;
 use format::HEAD_MARK;
 use format::HEAD_ZEROS;
 use format::MARK;
 use format::MOST_STATEMENTS;
+use format::NONE;
+use format::STATEMENT_WORDS;
+use format::V;
 use hmac::Prepared;
 use rules::Group;
 use rules::Which;
@@ -12,6 +17,7 @@ ghost use mathlib.Core.Path.{_≡_};
 ghost use mathlib.Core.Bool.{_&&_};
 ghost use Prim.Native.Nat.{ℕ, _+_, _-_, _*_, _≤_, _<_};
 ghost use lib.ListN.{length, getD, take, drop};
+ghost use Rattle.format.specs.Numbers.{code-words, covered-words, most-statements, place-of, statement-words};
 ghost use Rattle.hmac.specs.Hmac.{code-from};
 ghost use Rattle.format.specs.Words.{fields-of, spare-of};
 ghost use Rattle.format.specs.Statement.{statement, statements, same-words, verifies};
@@ -26,7 +32,7 @@ const MOST: u32 = MOST_STATEMENTS as u32;
 
 // Whether the `have` statements from word `at` on are the group.
 fn group_holds(ws: &[u32], at: usize, have: usize, g: Group) -> bool
-    requires { ⌜ (have ≤ 32) × (at + have * 10 ≤ length (now ws)) ⌝ }
+    requires { ⌜ (have ≤ most-statements) × (at + have * statement-words ≤ length (now ws)) ⌝ }
     ensures { λ r. ⌜ r ≡ holds g (statements (now (ws .entry)) at have) ⌝ }
 {
     if have as u64 != g.size as u64 {
@@ -35,7 +41,7 @@ fn group_holds(ws: &[u32], at: usize, have: usize, g: Group) -> bool
     let mut i: usize = 0;
     let mut last: u32 = 0;
     while i < have {
-        let f = format::read_fields(ws[at + i * 10]);
+        let f = format::read_fields(ws[at + i * STATEMENT_WORDS]);
         let station = f.station;
         if !(rules::is_wanted(g, f) & (last < station)) {
             return false;
@@ -48,12 +54,12 @@ fn group_holds(ws: &[u32], at: usize, have: usize, g: Group) -> bool
 
 // Whether one of the `have` statements from word `at` on has such a value and such a flag.
 fn some_with(ws: &[u32], at: usize, have: usize, value: Which, flag: Which) -> bool
-    requires { ⌜ (have ≤ 32) × (at + have * 10 ≤ length (now ws)) ⌝ }
+    requires { ⌜ (have ≤ most-statements) × (at + have * statement-words ≤ length (now ws)) ⌝ }
     ensures { λ r. ⌜ r ≡ some (λ s. which value (s .value) && which flag (s .flag)) (statements (now (ws .entry)) at have) ⌝ }
 {
     let mut i: usize = 0;
     while i < have {
-        let f = format::read_fields(ws[at + i * 10]);
+        let f = format::read_fields(ws[at + i * STATEMENT_WORDS]);
         if rules::allows(value, f.value) & rules::allows(flag, f.flag) {
             return true;
         }
@@ -64,23 +70,34 @@ fn some_with(ws: &[u32], at: usize, have: usize, value: Which, flag: Which) -> b
 
 // Whether the first `have` statements of the certificate are spread over both values, where the main statement m is a V with none.
 fn spread(ws: &[u32], m: Fields, have: usize) -> bool
-    requires { ⌜ (have ≤ 32) × (11 + have * 10 ≤ length (now ws)) × (m ≡ fields-of (getD (now ws) 1 0)) ⌝ }
-    ensures { λ r. ⌜ r ≡ Spread (main-of (now (ws .entry))) (statements (now (ws .entry)) 11 have) ⌝ }
+    requires { ⌜ (have ≤ most-statements) × (place-of 1 + have * statement-words ≤ length (now ws)) × (m ≡ fields-of (getD (now ws) (place-of 0) 0)) ⌝ }
+    ensures { λ r. ⌜ r ≡ Spread (main-of (now (ws .entry))) (statements (now (ws .entry)) (place-of 1) have) ⌝ }
 {
-    let zero = some_with(ws, 11, have, Which::Only(0), Which::Any);
-    let one = some_with(ws, 11, have, Which::Only(1), Which::Any);
-    !((m.kind == 2) & (m.value == 2)) | (zero & one)
+    let zero = some_with(ws, CERTIFICATE_AT, have, Which::Only(0), Which::Any);
+    let one = some_with(ws, CERTIFICATE_AT, have, Which::Only(1), Which::Any);
+    !((m.kind == V) & (m.value == NONE)) | (zero & one)
 }
 
 // Whether the `rest` statements behind the first `have` of the certificate are the second group, or none where m has no second group.
 fn rest_holds(ws: &[u32], n: u32, m: Fields, have: usize, rest: usize) -> bool
-    requires { ⌜ (have + rest ≤ 32) × (11 + (have + rest) * 10 ≤ length (now ws)) × (m ≡ fields-of (getD (now ws) 1 0)) ⌝ }
-    ensures { λ r. ⌜ r ≡ rest-holds n (main-of (now (ws .entry))) (statements (now (ws .entry)) 11 have) (statements (now (ws .entry)) (11 + have * 10) rest) ⌝ }
+    requires { ⌜ (have + rest ≤ most-statements) × (place-of 1 + (have + rest) * statement-words ≤ length (now ws)) × (m ≡ fields-of (getD (now ws) (place-of 0) 0)) ⌝ }
+    ensures { λ r. ⌜ r ≡ rest-holds n (main-of (now (ws .entry))) (statements (now (ws .entry)) (place-of 1) have) (statements (now (ws .entry)) (place-of 1 + have * statement-words) rest) ⌝ }
 {
     let r = m.round;
-    let dget = some_with(ws, 11, have, Which::Any, Which::Only(0));
+    let dget = some_with(
+        ws,
+        CERTIFICATE_AT,
+        have,
+        Which::Any,
+        Which::Only(format::D_GET),
+    );
     if rules::has_second(m.kind, m.value, r, dget) {
-        return group_holds(ws, 11 + have * 10, rest, rules::second_group(n, m.value, r));
+        return group_holds(
+            ws,
+            CERTIFICATE_AT + have * STATEMENT_WORDS,
+            rest,
+            rules::second_group(n, m.value, r),
+        );
     }
     rest == 0
 }
@@ -94,11 +111,11 @@ pub fn smaller(a: usize, b: usize) -> usize
 
 // Whether the certificate is the first group g with what the rules ask of it, and behind it the second group.
 fn groups_hold(ws: &[u32], n: u32, m: Fields, g: Group, count: usize) -> bool
-    requires { ⌜ (count ≤ 32) × (11 + count * 10 ≤ length (now ws)) × (m ≡ fields-of (getD (now ws) 1 0)) ⌝ }
-    ensures { λ r. ⌜ r ≡ groups-hold n (main-of (now (ws .entry))) g (statements (now (ws .entry)) 11 count) ⌝ }
+    requires { ⌜ (count ≤ most-statements) × (place-of 1 + count * statement-words ≤ length (now ws)) × (m ≡ fields-of (getD (now ws) (place-of 0) 0)) ⌝ }
+    ensures { λ r. ⌜ r ≡ groups-hold n (main-of (now (ws .entry))) g (statements (now (ws .entry)) (place-of 1) count) ⌝ }
 {
     let have = smaller(g.size as usize, count);
-    let first = group_holds(ws, 11, have, g);
+    let first = group_holds(ws, CERTIFICATE_AT, have, g);
     let both = spread(ws, m, have);
     let rest = rest_holds(ws, n, m, have, count - have);
     first & both & rest
@@ -106,12 +123,12 @@ fn groups_hold(ws: &[u32], n: u32, m: Fields, g: Group, count: usize) -> bool
 
 // Whether the certificate of `count` statements is as the rules ask.
 fn rule_holds(ws: &[u32], n: u32, count: usize) -> bool
-    requires { ⌜ (count ≤ 32) × (11 + count * 10 ≤ length (now ws)) ⌝ }
-    ensures { λ r. ⌜ r ≡ rule n (main-of (now (ws .entry))) (statements (now (ws .entry)) 11 count) ⌝ }
+    requires { ⌜ (count ≤ most-statements) × (place-of 1 + count * statement-words ≤ length (now ws)) ⌝ }
+    ensures { λ r. ⌜ r ≡ rule n (main-of (now (ws .entry))) (statements (now (ws .entry)) (place-of 1) count) ⌝ }
 {
     let m = format::read_fields(ws[1]);
     let r = m.round;
-    if m.kind == 0 {
+    if m.kind == format::INIT {
         return count == 0;
     }
     if rules::early_toss(m.kind, m.flag, r) {
@@ -132,17 +149,17 @@ fn layout(ws: &[u32]) -> bool
     (h / MARK == HEAD_MARK)
         & (h / COUNTS % HEAD_ZEROS == 0)
         & (h % COUNTS <= MOST)
-        & (ws.len() == 1 + 10 * (1 + count))
+        & (ws.len() == 1 + STATEMENT_WORDS * (1 + count))
 }
 
 // Whether each of the first k statements, the main statement among them, has its fields in place.
 fn all_well_formed(ws: &[u32], n: u32, k: usize) -> bool
-    requires { ⌜ 1 + k * 10 ≤ length (now ws) ⌝ }
-    ensures { λ r. ⌜ r ≡ all-formed n (now (ws .entry)) 1 k ⌝ }
+    requires { ⌜ place-of k ≤ length (now ws) ⌝ }
+    ensures { λ r. ⌜ r ≡ all-formed n (now (ws .entry)) (place-of 0) k ⌝ }
 {
     let mut i: usize = 0;
     while i < k {
-        let f = format::read_fields(ws[1 + i * 10]);
+        let f = format::read_fields(ws[1 + i * STATEMENT_WORDS]);
         if !format::well_formed(f, n) {
             return false;
         }
@@ -153,13 +170,13 @@ fn all_well_formed(ws: &[u32], n: u32, k: usize) -> bool
 
 // Whether the certificate's statements are of the main statement's question.
 fn same_question(ws: &[u32], count: usize) -> bool
-    requires { ⌜ 11 + count * 10 ≤ length (now ws) ⌝ }
-    ensures { λ r. ⌜ r ≡ one-question (main-of (now (ws .entry))) (statements (now (ws .entry)) 11 count) ⌝ }
+    requires { ⌜ place-of 1 + count * statement-words ≤ length (now ws) ⌝ }
+    ensures { λ r. ⌜ r ≡ one-question (main-of (now (ws .entry))) (statements (now (ws .entry)) (place-of 1) count) ⌝ }
 {
     let question = ws[2];
     let mut i: usize = 0;
     while i < count {
-        if ws[11 + i * 10 + 1] != question {
+        if ws[CERTIFICATE_AT + i * STATEMENT_WORDS + 1] != question {
             return false;
         }
         i += 1;
@@ -169,13 +186,13 @@ fn same_question(ws: &[u32], count: usize) -> bool
 
 // Whether the statement at word `at` has this code. All eight words are compared before the answer, so that its time says nothing of where
 // a forged code differs.
-fn code_matches(ws: &[u32], at: usize, code: [u32; 8]) -> bool
-    requires { ⌜ at + 10 ≤ length (now ws) ⌝ }
-    ensures { λ r. ⌜ r ≡ same-words (take 8 (drop (at + 2) (now (ws .entry)))) code ⌝ }
+fn code_matches(ws: &[u32], at: usize, code: [u32; CODE_WORDS]) -> bool
+    requires { ⌜ at + statement-words ≤ length (now ws) ⌝ }
+    ensures { λ r. ⌜ r ≡ same-words (take code-words (drop (at + covered-words) (now (ws .entry)))) code ⌝ }
 {
     let mut same = true;
     let mut i: usize = 0;
-    while i < 8 {
+    while i < CODE_WORDS {
         same = same & (ws[at + 2 + i] == code[i]);
         i += 1;
     }
@@ -185,7 +202,7 @@ fn code_matches(ws: &[u32], at: usize, code: [u32; 8]) -> bool
 // Whether the code of the statement at word `at` verifies under a prepared key. Bits 26..24 of its word 0 are zero, so the words read are
 // those that the code covers.
 fn verifies_at(key: Prepared, ws: &[u32], at: usize) -> bool
-    requires { ⌜ (at + 10 ≤ length (now ws)) × (spare-of (getD (now ws) at 0) ≡ 0) ⌝ }
+    requires { ⌜ (at + statement-words ≤ length (now ws)) × (spare-of (getD (now ws) at 0) ≡ 0) ⌝ }
     ensures { λ r. ⌜ r ≡ verifies (code-from key) (statement (now (ws .entry)) at) ⌝ }
 {
     let end = at + 2;
@@ -196,12 +213,12 @@ fn verifies_at(key: Prepared, ws: &[u32], at: usize) -> bool
 
 // Whether the codes of the first k statements verify under a prepared key.
 fn codes_verify(key: Prepared, ws: &[u32], k: usize) -> bool
-    requires { ⌜ (1 + k * 10 ≤ length (now ws)) × ((i : ℕ) → i < k → spare-of (getD (now ws) (1 + i * 10) 0) ≡ 0) ⌝ }
-    ensures { λ r. ⌜ r ≡ all-verify (code-from key) (statements (now (ws .entry)) 1 k) ⌝ }
+    requires { ⌜ (place-of k ≤ length (now ws)) × ((i : ℕ) → i < k → spare-of (getD (now ws) (place-of i) 0) ≡ 0) ⌝ }
+    ensures { λ r. ⌜ r ≡ all-verify (code-from key) (statements (now (ws .entry)) (place-of 0) k) ⌝ }
 {
     let mut i: usize = 0;
     while i < k {
-        if !verifies_at(key, ws, 1 + i * 10) {
+        if !verifies_at(key, ws, 1 + i * STATEMENT_WORDS) {
             return false;
         }
         i += 1;
@@ -211,8 +228,8 @@ fn codes_verify(key: Prepared, ws: &[u32], k: usize) -> bool
 
 // Whether the codes of the first k statements verify under the group's key, which is prepared once for all of them.
 fn all_codes_verify(key: [u8; 32], ws: &[u32], k: usize) -> bool
-    requires { ⌜ (1 + k * 10 ≤ length (now ws)) × ((i : ℕ) → i < k → spare-of (getD (now ws) (1 + i * 10) 0) ≡ 0) ⌝ }
-    ensures { λ r. ⌜ r ≡ all-verify (hmac-code key) (statements (now (ws .entry)) 1 k) ⌝ }
+    requires { ⌜ (place-of k ≤ length (now ws)) × ((i : ℕ) → i < k → spare-of (getD (now ws) (place-of i) 0) ≡ 0) ⌝ }
+    ensures { λ r. ⌜ r ≡ all-verify (hmac-code key) (statements (now (ws .entry)) (place-of 0) k) ⌝ }
 {
     let keyed = hmac::prepare(&key);
     let states = keyed.key;
@@ -221,8 +238,8 @@ fn all_codes_verify(key: [u8; 32], ws: &[u32], k: usize) -> bool
 
 // Whether they are, and that question is the one asked for.
 fn question_fits(ws: &[u32], count: usize, asked: Which) -> bool
-    requires { ⌜ 11 + count * 10 ≤ length (now ws) ⌝ }
-    ensures { λ r. ⌜ r ≡ question-fits asked (main-of (now (ws .entry))) (statements (now (ws .entry)) 11 count) ⌝ }
+    requires { ⌜ place-of 1 + count * statement-words ≤ length (now ws) ⌝ }
+    ensures { λ r. ⌜ r ≡ question-fits asked (main-of (now (ws .entry))) (statements (now (ws .entry)) (place-of 1) count) ⌝ }
 {
     same_question(ws, count) & rules::allows(asked, ws[2])
 }

@@ -7,7 +7,7 @@ use lib.Dec.{eqb, leb}
 use lib.ListN.{getD}
 use borrow.Author.Tests.{leb-true, not-true, not-false}
 use Rattle.laws.specs.Bools.{both}
-use Rattle.format.specs.Numbers.{none}
+use Rattle.format.specs.Numbers.{none, most-stations, statement-words}
 use Rattle.format.specs.Group.{size-fits}
 use Rattle.modules.specs.declared.Module.{Module}
 use Rattle.modules.specs.Counter.{module-fits}
@@ -31,7 +31,7 @@ and-assoc false b c d = refl
 module _ (n number : ℕ) (t : Station) where
   pub words-are : (a b c : Bool) (step : ℕ) → size-fits n ≡ true → step ≡ stage-step (t .stage)
       → a ≡ held-words-fit n (number - 1) (t .identity .question) step (t .held .heard) (t .held .slots)
-      → b ≡ stage-fits (t .stage) (getD (t .held .slots) ((number - 1) * 10) 0)
+      → b ≡ stage-fits (t .stage) (getD (t .held .slots) ((number - 1) * statement-words) 0)
       → c ≡ (size-fits n && groups-fit n (t .identity .question) (t .stage) (t .held .heard) (t .held .slots) (t .groups))
       → (a && (b && leb (t .decision) none && c)) ≡ words-fit n number t
   unfolding words-fit held-words-fit groups-fit
@@ -47,7 +47,7 @@ module _ (n number : ℕ) (t : Station) where
   whole a e = rw e
 
 module _ (m : Module) (r : Bool) (e : r ≡ module-fits m) where
-  pub range-out : not r ≡ false → (1 ≤ m .station) × (m .station ≤ 31) × (size-fits (m .n) ≡ true)
+  pub range-out : not r ≡ false → (1 ≤ m .station) × (m .station ≤ most-stations) × (size-fits (m .n) ≡ true)
   range-out h =
       let p = both (size-fits (m .n)) _ (sym e ∙ not-false _ h) in
       let s = both (leb 2 (m .n)) _ (p .0) in

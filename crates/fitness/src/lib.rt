@@ -1,6 +1,8 @@
 // Whether a station fits its module (document 01, "A station fits if", and docs/STATION.md). The contracts cite specs/ of crate station.
+use format::FLAG;
 use format::LAST_ROUND;
 use format::NONE;
+use format::STATEMENT_WORDS;
 use format::Step;
 use modules::Module;
 use station::Stage;
@@ -8,6 +10,7 @@ use station::Station;
 ghost use mathlib.Core.Path.{_≡_};
 ghost use mathlib.Core.Bool.{true, _&&_};
 ghost use Prim.Native.Nat.{_≤_};
+ghost use Rattle.format.specs.Numbers.{most-stations};
 ghost use Rattle.format.specs.Group.{size-fits};
 ghost use Rattle.modules.specs.Counter.{module-fits};
 ghost use Rattle.station.specs.Machine.{stage-step};
@@ -31,14 +34,14 @@ fn stage_fits(stage: Stage, w: u32) -> bool
 {
     match stage {
         Stage::Gathering => true,
-        Stage::Proposing(r, f) => (1 <= r.0) & (r.0 <= LAST_ROUND) & (f == w / 134217728 % 2),
+        Stage::Proposing(r, f) => (1 <= r.0) & (r.0 <= LAST_ROUND) & (f == w / FLAG % 2),
         Stage::Voting(r) => (1 <= r.0) & (r.0 <= LAST_ROUND),
     }
 }
 
 // Whether all that an open station keeps fits.
 fn words_fit(t: Station, n: u32, number: u32) -> bool
-    requires { ⌜ (1 ≤ number) × (number ≤ 31) × (size-fits n ≡ true) ⌝ }
+    requires { ⌜ (1 ≤ number) × (number ≤ most-stations) × (size-fits n ≡ true) ⌝ }
     ensures { λ r. ⌜ r ≡ words-fit n number t ⌝ }
 {
     let held = t.held;
@@ -50,7 +53,7 @@ fn words_fit(t: Station, n: u32, number: u32) -> bool
     let question = id.question;
     let step = step_in(stage);
     let own = number - 1;
-    let at = (own * 10) as usize;
+    let at = own as usize * STATEMENT_WORDS;
     let a = held_fitness::held_fits(&slots, heard, n, own, question, step);
     let b = stage_fits(stage, slots[at]);
     let c = kept_fitness::groups_fit(groups, &slots, heard, stage, n, question);

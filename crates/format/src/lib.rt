@@ -12,11 +12,13 @@ pub const MOST_STATIONS: u32 = 31;
 
 pub const LAST_ROUND: u32 = 65535;
 
-// A statement's words, of which a code covers the first two and fills the others; the most certificate statements; and the most words of a
-// bundle, which a lent output has to hold.
+// A statement's words, of which a code covers the first two and fills the others; where the certificate begins in a bundle; the most certificate
+// statements; and the most words of a bundle, which a lent output has to hold.
 pub const STATEMENT_WORDS: usize = 10;
 
 pub const CODE_WORDS: usize = 8;
+
+pub const CERTIFICATE_AT: usize = 1 + STATEMENT_WORDS;
 
 pub const MOST_STATEMENTS: usize = 32;
 
@@ -40,7 +42,7 @@ const KIND: u32 = 1073741824;
 
 const VALUE: u32 = 268435456;
 
-const FLAG: u32 = 134217728;
+pub const FLAG: u32 = 134217728;
 
 const SPARE: u32 = 16777216;
 

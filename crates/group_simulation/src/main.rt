@@ -13,6 +13,7 @@ use station::Station;
 ghost use mathlib.Core.Path.{_≡_};
 ghost use Prim.Native.Nat.{_+_, _*_, _≤_, _<_};
 ghost use lib.ListN.{length};
+ghost use Rattle.format.specs.Numbers.{most-stations};
 
 // The sites of the largest group.
 const SITES: usize = format::MOST_STATIONS as usize;
@@ -138,7 +139,7 @@ fn hear(h: Heard, words: &[u32], coin: u32) -> Heard {
 // Where a site's bundle of a step is in the air. Sites resend their bundles of the question, since others may be a step behind; the last four are
 // enough here, 331 words for each site.
 fn spot(written: u32, place: usize) -> usize
-    requires { ⌜ place < 31 ⌝ }
+    requires { ⌜ place < most-stations ⌝ }
     ensures { λ r. ⌜ r < 124 ⌝ }
 {
     (written % 4) as usize * SITES + place
@@ -173,7 +174,7 @@ fn hear_spot(h: Heard, spot: usize, air: &[u32; 41044], lengths: [usize; 124], c
 // Gives the site the other sites' bundles of its own step. One of another step would be refused, by 8 if it is early: the host gives it again after
 // the step. When the step has ended the station has written its next bundle.
 fn listen(s: Site, place: usize, n: usize, air: &[u32; 41044], lengths: [usize; 124]) -> Heard
-    requires { ⌜ n ≤ 31 ⌝ }
+    requires { ⌜ n ≤ most-stations ⌝ }
 {
     let mut h = Heard {
         site: s,
@@ -205,7 +206,7 @@ fn turn(
     air: &[u32; 41044],
     lengths: [usize; 124],
 ) -> Heard
-    requires { ⌜ n ≤ 31 ⌝ }
+    requires { ⌜ n ≤ most-stations ⌝ }
 {
     if s.made != 0 {
         return Heard {
@@ -260,7 +261,7 @@ fn print_line(n: usize, question: u32, decisions: [u32; SITES], given: u64, refu
 
 // The sites of a group before the first question.
 fn group(n: usize) -> [Site; SITES]
-    requires { ⌜ n ≤ 31 ⌝ }
+    requires { ⌜ n ≤ most-stations ⌝ }
 {
     let none = fresh(n as u32, 1);
     let mut sites = [none; SITES];
@@ -275,7 +276,7 @@ fn group(n: usize) -> [Site; SITES]
 
 // Whether all sites have decided.
 fn all_decided(decisions: [u32; SITES], n: usize) -> bool
-    requires { ⌜ n ≤ 31 ⌝ }
+    requires { ⌜ n ≤ most-stations ⌝ }
 {
     let mut i = 0;
     while i < n {
@@ -289,7 +290,7 @@ fn all_decided(decisions: [u32; SITES], n: usize) -> bool
 
 // The place of the site whose turn is next.
 fn next_place(k: usize, n: usize) -> usize
-    requires { ⌜ (k < n) × (n ≤ 31) ⌝ }
+    requires { ⌜ (k < n) × (n ≤ most-stations) ⌝ }
     ensures { λ r. ⌜ r < n ⌝ }
 {
     if k + 1 < n {
@@ -314,7 +315,7 @@ fn kind_of(kinds: &[u8], question: u32) -> u8 {
 // Puts the questions to a group one after the other. The sites take turns, and behind each round of turns in which all have decided the next question
 // follows. A proved loop has to end, and that a vote does is not proved: so the turns are counted down, from a number that no run here uses up.
 fn votes(n: usize, kinds: &[u8])
-    requires { ⌜ (1 ≤ n) × (n ≤ 31) ⌝ }
+    requires { ⌜ (1 ≤ n) × (n ≤ most-stations) ⌝ }
 {
     let mut sites = group(n);
     let mut air = [0u32; 41044];

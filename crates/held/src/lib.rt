@@ -18,7 +18,7 @@ ghost use lib.Dec.{eqb, ltb};
 ghost use Rattle.laws.specs.Count.{one-if};
 ghost use Rattle.laws.specs.Sets.{bit};
 ghost use Rattle.station.specs.Machine.{supplies-for-value, supplies-for-none};
-ghost use Rattle.station.specs.Words.{empty-station};
+ghost use Rattle.station.specs.Words.{empty-station, sites};
 ghost use Rattle.held.specs.Scan.{such, scan as Scan, lowest as Lowest};
 
 // The first set with a bit behind that of the last station.
@@ -43,7 +43,7 @@ pub fn number_of(set: u32) -> u32
 
 // How many of its numbers are below i.
 fn number_below(set: u32, i: u32) -> u32
-    requires { ⌜ i < 31 ⌝ }
+    requires { ⌜ i < sites ⌝ }
     ensures { λ r. ⌜ r ≡ ones (set % 2 ^ i) ⌝ }
 {
     let first: u32 = 1 << i;

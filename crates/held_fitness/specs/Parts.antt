@@ -11,12 +11,13 @@ use Rattle.laws.specs.Pick.{pick}
 use Rattle.laws.specs.Sets.{bit}
 use Rattle.format.specs.Group.{quorum}
 use Rattle.certificate.specs.Laws.Parts.{and-pick}
+use Rattle.format.specs.Numbers.{statement-words}
 use Rattle.station.specs.Words.{sites}
 use Rattle.station.specs.Fit.{zeros, slot-fits, slots-fit}
 
 -- a slot is as its bit says
 unfoldable pub slot-right : ℕ → ℕ → ℕ → ℕ → List ℕ → ℕ → Bool
-slot-right n question step set slots i = pick (bit set i) (slot-fits n question step i slots) (zeros slots (i * 10) 10)
+slot-right n question step set slots i = pick (bit set i) (slot-fits n question step i slots) (zeros slots (i * statement-words) statement-words)
 
 -- no bit behind the last slot, fewer than q, that of slot i among them, and each slot as its bit says
 unfoldable pub held-words-fit : ℕ → ℕ → ℕ → ℕ → ℕ → List ℕ → Bool

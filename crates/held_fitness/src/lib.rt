@@ -1,20 +1,22 @@
 // Whether the statements that a station holds fit (document 01, "A station fits if"). The contracts cite specs/ of crate station.
 use format::MOST_STATIONS;
+use format::STATEMENT_WORDS;
 use format::Step;
 use station::SLOTS_WORDS;
 ghost use mathlib.Core.Path.{_≡_};
 ghost use Prim.Native.Nat.{_*_, _<_};
+ghost use Rattle.format.specs.Numbers.{statement-words};
 ghost use Rattle.station.specs.Words.{sites};
 ghost use Rattle.station.specs.Fit.{zeros, slot-fits, slots-fit};
 ghost use Rattle.held_fitness.specs.Parts.{slot-right, held-words-fit};
 
 // Whether the ten words of slot i are zero.
 fn slot_empty(slots: &[u32; SLOTS_WORDS], i: u32) -> bool
-    requires { ⌜ i < 31 ⌝ }
-    ensures { λ r. ⌜ r ≡ zeros (now (slots .entry)) (i * 10) 10 ⌝ }
+    requires { ⌜ i < sites ⌝ }
+    ensures { λ r. ⌜ r ≡ zeros (now (slots .entry)) (i * statement-words) statement-words ⌝ }
 {
-    let mut at = (i * 10) as usize;
-    let end = at + 10;
+    let mut at = i as usize * STATEMENT_WORDS;
+    let end = at + STATEMENT_WORDS;
     while at < end {
         if slots[at] != 0 {
             return false;
@@ -26,10 +28,10 @@ fn slot_empty(slots: &[u32; SLOTS_WORDS], i: u32) -> bool
 
 // Whether slot i holds a well-formed statement of its station, of the question and of the step.
 fn slot_fits(slots: &[u32; SLOTS_WORDS], i: u32, n: u32, question: u32, step: Step) -> bool
-    requires { ⌜ i < 31 ⌝ }
+    requires { ⌜ i < sites ⌝ }
     ensures { λ r. ⌜ r ≡ slot-fits n question (step .0) i (now (slots .entry)) ⌝ }
 {
-    let at = (i * 10) as usize;
+    let at = i as usize * STATEMENT_WORDS;
     let f = format::read_fields(slots[at]);
     let s = format::step_of(f);
     format::well_formed(f, n) & (f.station == i + 1) & (slots[at + 1] == question) & (s.0 == step.0)
@@ -44,7 +46,7 @@ fn slot_matches(
     question: u32,
     step: Step,
 ) -> bool
-    requires { ⌜ i < 31 ⌝ }
+    requires { ⌜ i < sites ⌝ }
     ensures { λ r. ⌜ r ≡ slot-right n question (step .0) heard (now (slots .entry)) i ⌝ }
 {
     if held::in_set(heard, i) {

@@ -12,7 +12,7 @@ use Rattle.laws.specs.Pick.{pick, skip}
 use Rattle.laws.specs.Bools.{join}
 use Rattle.laws.specs.Sets.{bit}
 use Rattle.laws.specs.All.{All}
-use Rattle.format.specs.Numbers.{most-statements}
+use Rattle.format.specs.Numbers.{most-statements, most-stations}
 use Rattle.format.specs.Group.{quorum}
 use Rattle.format.specs.Statement.{Statement, statements}
 use Rattle.format.specs.Bundle.{main-of, certificate-of, all-formed, bundle-of}
@@ -22,7 +22,7 @@ use Rattle.station.specs.declared.Stage.{Stage}
 use Rattle.station.specs.declared.Station.{Station}
 use Rattle.rules.specs.Rules.{some, holds, in-order}
 use Rattle.station.specs.Machine.{State, stage-step, keeping, insert, held-of, began, supplies-for-value, supplies-for-none, kept-for-value, kept-for-none, no-group}
-use Rattle.station.specs.Words.{empty-station, state-of, held-in, held-by, Lengths}
+use Rattle.station.specs.Words.{empty-station, state-of, held-in, held-by, Lengths, kept-words, slots-words}
 use Rattle.station.specs.Words as W
 use Rattle.format.specs.Laws.ReadBack.{Proper}
 use Rattle.station.specs.Laws.Bundles.{main-is, certificate-is, bundle-there}
@@ -63,13 +63,13 @@ unfolding held-in
 none-held slots zero i = refl
 none-held slots (suc k) i = sym (skip _ _ _ _ (no-bit i) refl) ∙ none-held slots k (suc i)
 
-none-fit : (n question st k i : ℕ) → slots-fit n question st 0 (replicate 310 0) i k ≡ true
+none-fit : (n question st k i : ℕ) → slots-fit n question st 0 (replicate slots-words 0) i k ≡ true
 unfolding slots-fit
 none-fit n question st zero i = refl
 none-fit n question st (suc k) i =
     join (pick (bit 0 i) _ _) _ (sym (skip _ _ _ _ (no-bit i) refl) ∙ zeros-there 310 10 (i * 10)) (none-fit n question st k (suc i))
 
-no-group-fits : (n question : ℕ) → group-fits n question no-group (replicate 160 0) ≡ true
+no-group-fits : (n question : ℕ) → group-fits n question no-group (replicate kept-words 0) ≡ true
 unfolding holds in-order all-formed statements every
 no-group-fits n question = zeros-there 160 160 0
 
@@ -141,7 +141,7 @@ module _ (n number question : ℕ) (g : Stage) (d : ℕ) where
         for-none = group-kept (supplies-for-none g s) c e two i;
       }
 
-  pub begun : (s : Statement) (c e : List Statement) → n ≤ 31 → Proper n s → All (Proper n) (c ++ e) → length (c ++ e) ≤ most-statements
+  pub begun : (s : Statement) (c e : List Statement) → n ≤ most-stations → Proper n s → All (Proper n) (c ++ e) → length (c ++ e) ≤ most-statements
       → Below (bundle-of s (c ++ e)) → (supplies-for-value g s ≡ true → length c ≡ quorum n) → (supplies-for-none g s ≡ true → length c ≡ quorum n)
       → with-bundle (blank n number question g d) (bundle-of s (c ++ e)) ≡ W.as-station n number (began question g d s c)
   unfolding bundle-of some

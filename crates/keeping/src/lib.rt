@@ -1,4 +1,5 @@
 // A station with one bundle more (document 01, "The station"). The contracts cite specs/.
+use format::CERTIFICATE_AT;
 use format::MOST_STATIONS;
 use format::STATEMENT_WORDS;
 use station::Groups;
@@ -12,6 +13,8 @@ ghost use Prim.Native.Nat.{_+_, _≤_, _<_};
 ghost use lib.ListN.{length, drop};
 ghost use lib.Seq.{paste};
 ghost use Rattle.laws.specs.Pick.{pick};
+ghost use Rattle.station.specs.Words.{slots-words};
+ghost use Rattle.format.specs.Numbers.{place-of, statement-words};
 ghost use Rattle.keeping.specs.Kept.{with-station, with-slot, words-kept, group-from, is-lowest, held-with, groups-with, with-bundle};
 
 // The set with a station's bit, where it is a station's number and the bit is clear.
@@ -31,8 +34,8 @@ fn with_station(set: u32, s: u32) -> u32
 
 // Puts the ten words of the main statement at a place of the slots.
 fn put_main(slots: [u32; SLOTS_WORDS], at: usize, ws: &[u32]) -> [u32; SLOTS_WORDS]
-    requires { ⌜ (at + 10 ≤ 310) × (11 ≤ length (now ws)) ⌝ }
-    ensures { λ r. ⌜ r ≡ paste slots at (drop 1 (now (ws .entry))) 10 ⌝ }
+    requires { ⌜ (at + statement-words ≤ slots-words) × (place-of 1 ≤ length (now ws)) ⌝ }
+    ensures { λ r. ⌜ r ≡ paste slots at (drop (place-of 0) (now (ws .entry))) statement-words ⌝ }
 {
     let mut out = slots;
     let mut i: usize = 0;
@@ -47,10 +50,10 @@ fn put_main(slots: [u32; SLOTS_WORDS], at: usize, ws: &[u32]) -> [u32; SLOTS_WOR
 fn with_slot(slots: [u32; SLOTS_WORDS], s: u32, ws: &[u32]) -> [u32; SLOTS_WORDS]
     ensures { λ r. ⌜ r ≡ with-slot slots s (now (ws .entry)) ⌝ }
 {
-    if !((1 <= s) & (s <= MOST_STATIONS) & (11 <= ws.len())) {
+    if !((1 <= s) & (s <= MOST_STATIONS) & (CERTIFICATE_AT <= ws.len())) {
         return slots;
     }
-    put_main(slots, ((s - 1) * 10) as usize, ws)
+    put_main(slots, (s - 1) as usize * STATEMENT_WORDS, ws)
 }
 
 // How many certificate words are kept: those of q statements, as far as there are that many and a group has room for them.
@@ -58,10 +61,10 @@ fn words_kept(q: u32, have: usize) -> usize
     ensures { λ r. ⌜ r ≡ words-kept q have ⌝ }
 {
     let most = certificate::smaller(q as usize * STATEMENT_WORDS, KEPT_WORDS);
-    if have < 11 {
+    if have < CERTIFICATE_AT {
         return 0;
     }
-    certificate::smaller(most, have - 11)
+    certificate::smaller(most, have - CERTIFICATE_AT)
 }
 
 // The first q statements of the certificate, and zeros behind them.
@@ -72,7 +75,7 @@ fn group_from(ws: &[u32], q: u32) -> [u32; KEPT_WORDS]
     let mut out = [0u32; KEPT_WORDS];
     let mut i: usize = 0;
     while i < count {
-        out[i] = ws[11 + i];
+        out[i] = ws[CERTIFICATE_AT + i];
         i += 1;
     }
     out

@@ -10,6 +10,7 @@ use lib.ListN.{getD}
 use borrow.Author.Tests.{leb-true, lt-ltb, not-true, not-false}
 use Rattle.laws.specs.Pick.{here, skip}
 use Rattle.laws.specs.Bools.{both}
+use Rattle.format.specs.Numbers.{most-stations, statement-words}
 use Rattle.format.specs.Group.{size-fits}
 use Rattle.format.specs.declared.Fields.{Fields}
 use Rattle.format.specs.Words.{fields-of}
@@ -39,7 +40,7 @@ module _ (n : ℕ) (g : Stage) (set : ℕ) (slots : List ℕ) (found : ℕ) (k :
     there : (found ≡ 0 → ⊥) → 0 < scan (supplies-for-value g) set slots
     there h = omega (arith, h, e)
 
-    pub for-value-found : (f : Fields) → (found ≡ 0 → ⊥) → f ≡ fields-of (getD slots (trailingZeros 32 found * 10) 0) → k ≡ value-group n g (f .value)
+    pub for-value-found : (f : Fields) → (found ≡ 0 → ⊥) → f ≡ fields-of (getD slots (trailingZeros 32 found * statement-words) 0) → k ≡ value-group n g (f .value)
         → k ≡ kept-for-value n g (held-in set slots 0 sites)
     unfolding kept-for-value fields-of
     for-value-found f h r q =
@@ -64,7 +65,7 @@ module _ (n : ℕ) (g : Stage) (set : ℕ) (slots : List ℕ) (found : ℕ) (k :
 
 -- ---- the whole
 module _ (n : ℕ) (r : Bool) (e : r ≡ size-fits n) where
-  pub few : not r ≡ false → n ≤ 31
+  pub few : not r ≡ false → n ≤ most-stations
   few h = leb-true n 31 (both (leb 2 n) _ (sym e ∙ not-false r h) .1)
 
   pub refused : (b : Bool) → not r ≡ true → false ≡ (size-fits n && b)

@@ -11,13 +11,14 @@ ghost use mathlib.Core.Path.{_≡_};
 ghost use mathlib.Core.Bool.{_&&_};
 ghost use Prim.Native.Nat.{_-_, _*_, _≤_};
 ghost use lib.Dec.{eqb};
-ghost use Rattle.format.specs.Group.{size-fits};
+ghost use Rattle.format.specs.Numbers.{statement-words};
+ghost use Rattle.format.specs.Group.{size-fits, quorum};
 ghost use Rattle.format.specs.Statement.{statements};
 ghost use Rattle.format.specs.Bundle.{all-formed};
 ghost use Rattle.rules.specs.Rules.{holds};
 ghost use Rattle.certificate.specs.Check.{every};
 ghost use Rattle.station.specs.Machine.{round-in, no-group, value-group, kept-for-value as KeptForValue, kept-for-none as KeptForNone};
-ghost use Rattle.station.specs.Words.{held-in, sites};
+ghost use Rattle.station.specs.Words.{held-in, sites, kept-words};
 ghost use Rattle.station.specs.Fit.{zeros, group-fits};
 ghost use Rattle.kept_fitness.specs.Parts.{groups-fit};
 
@@ -85,14 +86,14 @@ fn kept_for_none(slots: &[u32; SLOTS_WORDS], heard: u32, n: u32, stage: Stage) -
 
 // Whether the words are, from the first on, as many statements as the group asks for and as it asks for them.
 fn in_order(ws: &[u32; KEPT_WORDS], g: Group) -> bool
-    requires { ⌜ g .size ≤ 16 ⌝ }
+    requires { ⌜ g .size ≤ quorum sites ⌝ }
     ensures { λ r. ⌜ r ≡ holds g (statements (now (ws .entry)) 0 (g .size)) ⌝ }
 {
     let size = g.size;
     let mut i: u32 = 0;
     let mut last: u32 = 0;
     while i < size {
-        let at = (i * 10) as usize;
+        let at = i as usize * STATEMENT_WORDS;
         let f = format::read_fields(ws[at]);
         let station = f.station;
         if !(rules::is_wanted(g, f) & (last < station)) {
@@ -106,12 +107,12 @@ fn in_order(ws: &[u32; KEPT_WORDS], g: Group) -> bool
 
 // Whether each of the first `size` statements has its fields in place.
 fn all_well_formed(ws: &[u32; KEPT_WORDS], n: u32, size: u32) -> bool
-    requires { ⌜ size ≤ 16 ⌝ }
+    requires { ⌜ size ≤ quorum sites ⌝ }
     ensures { λ r. ⌜ r ≡ all-formed n (now (ws .entry)) 0 size ⌝ }
 {
     let mut i: u32 = 0;
     while i < size {
-        let at = (i * 10) as usize;
+        let at = i as usize * STATEMENT_WORDS;
         let f = format::read_fields(ws[at]);
         if !format::well_formed(f, n) {
             return false;
@@ -123,12 +124,12 @@ fn all_well_formed(ws: &[u32; KEPT_WORDS], n: u32, size: u32) -> bool
 
 // Whether each of the first `size` statements is of the question.
 fn all_of_question(ws: &[u32; KEPT_WORDS], question: u32, size: u32) -> bool
-    requires { ⌜ size ≤ 16 ⌝ }
+    requires { ⌜ size ≤ quorum sites ⌝ }
     ensures { λ r. ⌜ r ≡ every (λ s. eqb (s .question) question) (statements (now (ws .entry)) 0 size) ⌝ }
 {
     let mut i: u32 = 0;
     while i < size {
-        let at = (i * 10 + 1) as usize;
+        let at = i as usize * STATEMENT_WORDS + 1;
         if ws[at] != question {
             return false;
         }
@@ -139,10 +140,10 @@ fn all_of_question(ws: &[u32; KEPT_WORDS], question: u32, size: u32) -> bool
 
 // Whether the words behind the first `size` statements are zero.
 fn zero_behind(ws: &[u32; KEPT_WORDS], size: u32) -> bool
-    requires { ⌜ size ≤ 16 ⌝ }
-    ensures { λ r. ⌜ r ≡ zeros (now (ws .entry)) (size * 10) (160 - size * 10) ⌝ }
+    requires { ⌜ size ≤ quorum sites ⌝ }
+    ensures { λ r. ⌜ r ≡ zeros (now (ws .entry)) (size * statement-words) (kept-words - size * statement-words) ⌝ }
 {
-    let mut at = (size * 10) as usize;
+    let mut at = size as usize * STATEMENT_WORDS;
     while at < KEPT_WORDS {
         if ws[at] != 0 {
             return false;
@@ -154,7 +155,7 @@ fn zero_behind(ws: &[u32; KEPT_WORDS], size: u32) -> bool
 
 // Whether the words are the group g, and zeros behind it.
 fn group_fits(ws: &[u32; KEPT_WORDS], n: u32, question: u32, g: Group) -> bool
-    requires { ⌜ g .size ≤ 16 ⌝ }
+    requires { ⌜ g .size ≤ quorum sites ⌝ }
     ensures { λ r. ⌜ r ≡ group-fits n question g (now (ws .entry)) ⌝ }
 {
     let size = g.size;

@@ -11,7 +11,7 @@ use borrow.Author.Tests.{eqb-true, eqb-false, eq-eqb, ltb-true, lt-ltb, leb-true
 use Rattle.laws.specs.Pick.{pick}
 use Rattle.laws.specs.Bools.{both, join}
 use Rattle.laws.specs.Refusals.{test, first-failed, all-passed, none-failed}
-use Rattle.format.specs.Numbers.{kind-P, R-GET, statement-words, out-of-range}
+use Rattle.format.specs.Numbers.{kind-P, R-GET, statement-words, out-of-range, most-stations}
 use Rattle.format.specs.Group.{size-fits}
 use Rattle.format.specs.Words.{formed, fields-of}
 use Rattle.format.specs.Statement.{Statement, statement, word-0, written, well-formed, step}
@@ -37,11 +37,11 @@ no-module-fits = refl
 
 -- ---- what a coding that is answered 0 has shown
 record Passed (m : Module) (ws : List ℕ) (way : Bool) : Type 0 where
-  top : m .n ≤ 31
+  top : m .n ≤ most-stations
   well : well-formed (m .n) (statement ws 0) ≡ true
   right-way : way ≡ true
 
-range-top : (m : Module) → module-fits m ≡ true → m .n ≤ 31
+range-top : (m : Module) → module-fits m ≡ true → m .n ≤ most-stations
 range-top m h = leb-true (m .n) 31 (both (leb 2 (m .n)) _ (both (size-fits (m .n)) _ h .0) .1)
 
 passed : (code : List ℕ → List ℕ) (m : Module) (s : Statement) (ws : List ℕ) (range way : Bool) → (range ≡ true → module-fits m ≡ true)
@@ -115,7 +115,7 @@ module _ (mac : List ℕ → List ℕ → List ℕ) (m : Module) where
   -- ---- a statement of the module's own station
   module _ (s : Statement) (fit : module-fits m ≡ true) (p : Proper (m .n) s) (own : s .station ≡ m .station)
       (later : above (last-for m (s .question)) (s .question) (step s) ≡ true) where
-    top : m .n ≤ 31
+    top : m .n ≤ most-stations
     top = range-top m fit
 
     back : statement (written s) 0 ≡ s

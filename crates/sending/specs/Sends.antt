@@ -12,7 +12,7 @@ use Rattle.laws.specs.Pick.{pick}
 use Rattle.laws.specs.Bools.{both}
 use Rattle.laws.specs.All.{All, all-append}
 use Rattle.format.specs.declared.Fields.{Fields}
-use Rattle.format.specs.Numbers.{kind-P, bundle-words, most-statements}
+use Rattle.format.specs.Numbers.{kind-P, bundle-words, most-statements, output-words}
 use Rattle.format.specs.Group.{quorum}
 use Rattle.format.specs.Statement.{Statement, written, well-formed, step, statement-code}
 use Rattle.hmac.specs.Code.{hmac-code}
@@ -51,7 +51,7 @@ abbrev pub own-statement : Module → ℕ → ℕ → ℕ → ℕ → ℕ → St
 own-statement m question kind value flag round = own (statement-code (hmac-code (m .key))) (m .station) question kind value flag round
 
 module _ (m : Module) (question kind value flag round : ℕ) (g : Stage) (d : ℕ) (first second : List Statement) (slots group : List ℕ)
-    (C : Certificate (m .n) first second slots group) (c e : List Statement) (same : first ++ second ≡ c ++ e) (out : List ℕ) (room : 331 ≤ length out)
+    (C : Certificate (m .n) first second slots group) (c e : List Statement) (same : first ++ second ≡ c ++ e) (out : List ℕ) (room : output-words ≤ length out)
     (p : Proper (m .n) (own-statement m question kind value flag round)) (fit : module-fits m ≡ true)
     (later : above (last-for m question) question (step (own-statement m question kind value flag round)) ≡ true) where
   abbrev s : Statement

@@ -1,4 +1,5 @@
 // Sending (document 01, "The station"): the station's own statement is coded, its bundle written, and it alone is held. The contracts cite specs/.
+use format::CERTIFICATE_AT;
 use format::Fields;
 use modules::Module;
 use station::Identity;
@@ -9,6 +10,7 @@ use station::Station;
 ghost use mathlib.Core.Path.{_≡_};
 ghost use Prim.Native.Nat.{_≤_};
 ghost use lib.ListN.{length, take};
+ghost use Rattle.format.specs.Numbers.{place-of};
 ghost use Rattle.sending.specs.Sent.{coded-lent, coded-after, sent-count, sent-lent, sent-bundle, sent-station, sent-after};
 
 // What sending answers: the word count, the station and the module. The bundle's words are lent.
@@ -42,17 +44,17 @@ fn begin(
 // The module codes the statement that stands behind the head of the lent words: with the coin where it is a P flagged R-GET, whose value the coin is;
 // else plain. Where no word was written it is not asked.
 fn code_main(m: Module, f: Fields, count: usize, out: &mut [u32]) -> Module
-    requires { ⌜ ((count ≡ 0 → ⊥) → 11 ≤ length (now out)) ⌝ }
+    requires { ⌜ ((count ≡ 0 → ⊥) → place-of 1 ≤ length (now out)) ⌝ }
     ensures { λ r. ⌜ (r ≡ coded-after m f count (now (out .entry))) × (now (out .exit) ≡ coded-lent m f count (now (out .entry))) ⌝ }
 {
     if count == 0 {
         return m;
     }
     if (f.kind == format::P) & (f.flag == format::R_GET) {
-        let tossed = sealed::code_coin(m, &mut out[1..11], f.value);
+        let tossed = sealed::code_coin(m, &mut out[1..CERTIFICATE_AT], f.value);
         return tossed.after;
     }
-    let coded = sealed::code_plain(m, &mut out[1..11]);
+    let coded = sealed::code_plain(m, &mut out[1..CERTIFICATE_AT]);
     coded.after
 }
 

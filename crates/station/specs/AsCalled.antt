@@ -12,7 +12,7 @@ use Rattle.laws.specs.Pick.{pick}
 use Rattle.laws.specs.Bools.{join}
 use Rattle.laws.specs.Refusals.{Test, test, passed-front}
 use Rattle.laws.specs.All.{All}
-use Rattle.format.specs.Numbers.{kept, output-words, no-certificate, last-round}
+use Rattle.format.specs.Numbers.{kept, output-words, no-certificate, last-round, code-words}
 use Rattle.format.specs.Statement.{statements, statement-code}
 use Rattle.format.specs.Bundle.{count-in, main-of, certificate-of, bundle-fits}
 use Rattle.rules.specs.declared.Which.the-variants.{Only}
@@ -72,7 +72,7 @@ state-in d (keeps k u) = u
 state-in d (sends k s c u) = u
 
 -- the station of a call that kept the bundle is read as the state that the next call goes on with
-pub kept-as-read : (mac : List ℕ → List ℕ → List ℕ) → ((key ws : List ℕ) → length (mac key ws) ≡ 8) → (m : Module) (t : Station) (ws : List ℕ) (coin : ℕ) (out : List ℕ)
+pub kept-as-read : (mac : List ℕ → List ℕ → List ℕ) → ((key ws : List ℕ) → length (mac key ws) ≡ code-words) → (m : Module) (t : Station) (ws : List ℕ) (coin : ℕ) (out : List ℕ)
     → Lengths t → (u : State) → giving-outcome mac m t ws coin out ≡ keeps kept u → state-of (giving mac m t ws coin out .station) ≡ u
 unfolding giving returned kept-number state-in
 kept-as-read mac eight m t ws coin out L u = go (giving-outcome mac m t ws coin out) (gives-view mac m t ws coin out L)

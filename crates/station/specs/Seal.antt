@@ -12,7 +12,7 @@ use borrow.Author.Tests.{le-leb}
 use Rattle.laws.specs.Pick.{pick}
 use Rattle.laws.specs.Bools.{never, join}
 use Rattle.laws.specs.All.{All, all-append}
-use Rattle.format.specs.Numbers.{kind-INIT, kind-P, none, D-GET, R-GET, bundle-words}
+use Rattle.format.specs.Numbers.{kind-INIT, kind-P, none, D-GET, R-GET, bundle-words, code-words, most-stations, place-of, statement-words}
 use Rattle.format.specs.Group.{size-fits}
 use Rattle.format.specs.Statement.{Statement, statement, covered, written, well-formed, step}
 use Rattle.format.specs.Laws.Shape.{init}
@@ -42,19 +42,19 @@ range-fits m r =
 -- ---- a bundle written over the lent words
 module _ (n : ℕ) (s : Statement) (c : List Statement) (out : List ℕ) (p : Proper n s) where
   -- behind the head stands the main statement
-  main-first : drop 1 (over (bundle-of s c) out) ≡ written s ++ (all-written c ++ drop (length (bundle-of s c)) out)
+  main-first : drop (place-of 0) (over (bundle-of s c) out) ≡ written s ++ (all-written c ++ drop (length (bundle-of s c)) out)
   unfolding bundle-of
   main-first = append-assoc (written s) (all-written c) _
 
-  pub main-words : take 10 (drop 1 (over (bundle-of s c) out)) ≡ written s
+  pub main-words : take statement-words (drop (place-of 0) (over (bundle-of s c) out)) ≡ written s
   main-words = ap (take 10) main-first ∙ take-at (written s) _ 10 (length-written n s p)
 
-  pub main-back : n ≤ 31 → statement (over (bundle-of s c) out) 1 ≡ s
+  pub main-back : n ≤ most-stations → statement (over (bundle-of s c) out) (place-of 0) ≡ s
   main-back top =
       statement-drop (over (bundle-of s c) out) 1 ∙ ap (λ (l : List ℕ). statement l 0) main-first ∙ statement-back n s _ top p
 
   -- its words 0 and 1, with others behind them
-  pub main-front : (x : List ℕ) → take 2 (drop 1 (over (bundle-of s c) out)) ++ x ≡ written (with-code x s)
+  pub main-front : (x : List ℕ) → take 2 (drop (place-of 0) (over (bundle-of s c) out)) ++ x ≡ written (with-code x s)
   unfolding bundle-of
   main-front x = refl
 
@@ -69,14 +69,14 @@ module _ (n : ℕ) (s : Statement) (c : List Statement) (out : List ℕ) (p : Pr
 module _ (mac : List ℕ → List ℕ → List ℕ) (m : Module) (r : InRange m) (s : Statement) (c : List Statement) (out : List ℕ) (p : Proper (m .n) s)
     (own : s .station ≡ m .station) (code : s .code ≡ mac (m .key) (covered s)) (later : above (last-for m (s .question)) (s .question) (step s) ≡ true) where
   -- what is coded with any eight words behind words 0 and 1
-  coded-is : (x : List ℕ) → coded-as (mac (m .key)) m (with-code x s) ≡ record { number = 0; after = advanced m (s .question) (step s); lent = take 10 (drop 1 (over (bundle-of s c) out)) }
+  coded-is : (x : List ℕ) → coded-as (mac (m .key)) m (with-code x s) ≡ record { number = 0; after = advanced m (s .question) (step s); lent = take statement-words (drop (place-of 0) (over (bundle-of s c) out)) }
   unfolding step
   coded-is x =
       let e : written (signed (mac (m .key)) (with-code x s)) ≡ take 10 (drop 1 (over (bundle-of s c) out))
       = ap (λ (l : List ℕ). written (with-code l s)) (sym code) ∙ sym (main-words (m .n) s c out p) in
       λ i. record { number = 0; after = advanced m (s .question) (step s); lent = e i }
 
-  proper-with : (x : List ℕ) → length x ≡ 8 → Proper (m .n) (with-code x s)
+  proper-with : (x : List ℕ) → length x ≡ code-words → Proper (m .n) (with-code x s)
   unfolding well-formed
   proper-with x e = record { formed = p .formed; eight = e }
 
@@ -115,7 +115,7 @@ toss-coin n (Voting r) k coin e = go (ltb (carried (k .held)) none) e
     go true e = never false refl e
     go false e = refl
 
-module _ (mac : List ℕ → List ℕ → List ℕ) (eight : (key ws : List ℕ) → length (mac key ws) ≡ 8) (m : Module) where
+module _ (mac : List ℕ → List ℕ → List ℕ) (eight : (key ws : List ℕ) → length (mac key ws) ≡ code-words) (m : Module) where
   pub opening-sealed : (question v : ℕ) (out : List ℕ) → wrote (opening mac m question v out .number) ≡ true → (coin : ℕ) → BySeal mac m coin (opening mac m question v out)
   unfolding opening returned
   opening-sealed question v out u coin = go (opening-outcome mac m question v out) (opens-view mac m question v out) u

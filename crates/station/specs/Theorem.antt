@@ -11,7 +11,7 @@ use Rattle.laws.specs.Pick.{pick}
 use Rattle.laws.specs.Bools.{both, join}
 use Rattle.laws.specs.Refusals.{first-failed, all-passed, failed-one, passed-front}
 use Rattle.laws.specs.All.{All}
-use Rattle.format.specs.Numbers.{output-words, last-round}
+use Rattle.format.specs.Numbers.{output-words, last-round, code-words}
 use Rattle.format.specs.Statement.{statement-code}
 use Rattle.hmac.specs.Code.{hmac-code, hmac-eight}
 use Rattle.format.specs.Bundle.{main-of, certificate-of}
@@ -75,7 +75,7 @@ module _ (mac : List ℕ → List ℕ → List ℕ) (key : List ℕ) (n : ℕ) (
   pub valid-to-all : ValidToAll mac key n ws
   valid-to-all = record { valid = valid; everywhere = taken-everywhere }
 
-pub demand-2-of : (mac : List ℕ → List ℕ → List ℕ) → ((key ws : List ℕ) → length (mac key ws) ≡ 8) → Demand-2 mac
+pub demand-2-of : (mac : List ℕ → List ℕ → List ℕ) → ((key ws : List ℕ) → length (mac key ws) ≡ code-words) → Demand-2 mac
 demand-2-of mac eight =
     record {
       opening-written = λ key n number m question v out G u. valid-to-all mac key n _ (Written.opening-written mac key n eight number m question v out G u);

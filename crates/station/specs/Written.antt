@@ -13,7 +13,7 @@ use borrow.Author.Tests.{eq-eqb}
 use Rattle.laws.specs.Pick.{pick}
 use Rattle.laws.specs.Bools.{never, join}
 use Rattle.laws.specs.All.{All, all-map, all-append}
-use Rattle.format.specs.Numbers.{kind-INIT, kind-P, none, D-GET, R-GET, bundle-words, most-statements, last-round}
+use Rattle.format.specs.Numbers.{kind-INIT, kind-P, none, D-GET, R-GET, bundle-words, most-statements, last-round, code-words, most-stations}
 use Rattle.format.specs.Group.{quorum, backing}
 use Rattle.format.specs.Statement.{Statement, statements, covered, same-words, verifies, statement-code}
 use Rattle.hmac.specs.Code.{hmac-code, hmac-eight}
@@ -31,7 +31,7 @@ use Rattle.station.specs.declared.Stage.the-variants.{Gathering, Proposi
 use Rattle.station.specs.declared.Station.{Station}
 use Rattle.station.specs.Machine.{State, Outcome, Next, own, began, shut, supplies-for-value, supplies-for-none, takes, closes, those, has-value, first-value, vote-value, carried, follows}
 use Rattle.station.specs.Words as W
-use Rattle.station.specs.Words.{state-of, group-words, sites, Lengths}
+use Rattle.station.specs.Words.{state-of, group-words, sites, Lengths, kept-words}
 use Rattle.station.specs.Calls.{returned, opening, giving, opening-outcome, giving-outcome, no-station}
 use Rattle.station.specs.Laws.ReadBack.{length-all}
 use Rattle.format.specs.Laws.ReadBack.{Proper}
@@ -49,7 +49,7 @@ use Rattle.station.specs.Laws.Fits.{backed, own-proper, init-sane, next-
 use Rattle.station.specs.Laws.Bundles.{bundle-valid, backed-few, ws-length}
 
 -- ---- the lengths of a station that is written from a state
-pub lengths-of : (n number : ℕ) (t : State) → n ≤ 31 → Sane n number t → Lengths (W.as-station n number t)
+pub lengths-of : (n number : ℕ) (t : State) → n ≤ most-stations → Sane n number t → Lengths (W.as-station n number t)
 unfolding W.as-station
 lengths-of n number t top S =
     record {
@@ -58,7 +58,7 @@ lengths-of n number t top S =
       for-none = group-length (t .for-none) (S .for-none .proper) (omega (arith, S .for-none .as-asked .size, for-none-size n (t .stage) (t .held) top));
     }
   where
-    group-length : (c : List Statement) → All (Proper n) c → length c ≤ 16 → length (group-words c) ≡ 160
+    group-length : (c : List Statement) → All (Proper n) c → length c ≤ quorum sites → length (group-words c) ≡ kept-words
     group-length c p few =
         length-append (all-written c) (replicate (160 - length c * 10) 0) ∙ omega (arith, length-all n c p, length-replicate {A = ℕ} (160 - length c * 10) 0)
 
@@ -151,7 +151,7 @@ module _ (mac : List ℕ → List ℕ → List ℕ) (m : Module) (t : Station) (
       part true = vs
       part false = tt
 
-  module _ (eight : (key ws : List ℕ) → length (mac key ws) ≡ 8) (L : Lengths t) (C : Certain code (state-of t))
+  module _ (eight : (key ws : List ℕ) → length (mac key ws) ≡ code-words) (L : Lengths t) (C : Certain code (state-of t))
       (size : length (after mac m t ws coin out .held) ≡ quorum (m .n)) (more : closes last-round (t .stage) ≡ false) where
     abbrev x : Next
     x = follows (m .n) (t .stage) (after mac m t ws coin out) coin
@@ -197,9 +197,9 @@ module _ (mac : List ℕ → List ℕ → List ℕ) (key : List ℕ) (n : ℕ) w
     pub lengths : Lengths t
     pub certain : t .closed ≡ false → Certain (mac key) (state-of t)
 
-  module _ (eight : (key ws : List ℕ) → length (mac key ws) ≡ 8) where
+  module _ (eight : (key ws : List ℕ) → length (mac key ws) ≡ code-words) where
     -- a station written from a sane state of which all is certain
-    good-state : (number i : ℕ) (t : State) → i ≤ 31 → 1 ≤ number → number ≤ i → Sane i number t → Certain (mac key) t → Good number (W.as-station i number t)
+    good-state : (number i : ℕ) (t : State) → i ≤ most-stations → 1 ≤ number → number ≤ i → Sane i number t → Certain (mac key) t → Good number (W.as-station i number t)
     good-state number i t top lo hi S C =
         record {
           lengths = lengths-of i number t top S;
@@ -255,7 +255,7 @@ module _ (mac : List ℕ → List ℕ → List ℕ) (key : List ℕ) (n : ℕ) w
     reached-good number _ (by-giving {t} r m ws coin out G u) = good-giving number t (reached-good number t r) m ws coin out G u
 
     -- the written words are the bundle's, and no more
-    bundle-front : (i : ℕ) (s : Statement) (c : List Statement) (out : List ℕ) → i ≤ 31 → Proper i s → All (Proper i) c → length c ≤ most-statements
+    bundle-front : (i : ℕ) (s : Statement) (c : List Statement) (out : List ℕ) → i ≤ most-stations → Proper i s → All (Proper i) c → length c ≤ most-statements
         → take (bundle-words (length c)) (over (bundle-of s c) out) ≡ bundle-of s c
     unfolding bundle-of
     bundle-front i s c out top p a few =

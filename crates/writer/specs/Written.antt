@@ -7,9 +7,10 @@ use lib.Dec.{ltb, leb}
 use lib.ListN.{length, getD}
 use Rattle.laws.specs.Pick.{pick}
 use Rattle.laws.specs.Sets.{bit}
-use Rattle.format.specs.Numbers.{output-words, most-statements, bundle-words}
+use Rattle.format.specs.Numbers.{statement-words, code-words, output-words, most-statements, bundle-words}
+use Rattle.format.specs.Group.{quorum}
+use Rattle.format.specs.Bundle.{head-mark, mark-bit, over}
 use Rattle.station.specs.Words.{sites}
-use Rattle.format.specs.Bundle.{over}
 
 -- words written over the front of those lent
 unfoldable pub laid : List ℕ → List ℕ → List ℕ
@@ -24,20 +25,20 @@ part (suc n) at l = part n at l ++ (getD l (at + n) 0 ∷ [])
 unfoldable pub held-words : ℕ → List ℕ → ℕ → ℕ → List ℕ
 held-words set slots i zero = []
 held-words set slots i (suc k) =
-    pick (bit set i) (part 10 (i * 10) slots ++ held-words set slots (suc i) k) (held-words set slots (suc i) k)
+    pick (bit set i) (part statement-words (i * statement-words) slots ++ held-words set slots (suc i) k) (held-words set slots (suc i) k)
 
 -- the head word and the main statement's ten words
 unfoldable pub main-words : ℕ → ℕ → ℕ → List ℕ → List ℕ
-main-words count w0 question code = (3 * 2 ^ 30 + count) ∷ w0 ∷ question ∷ part 8 0 code
+main-words count w0 question code = (head-mark * 2 ^ mark-bit + count) ∷ w0 ∷ question ∷ part code-words 0 code
 
 -- head and main statement, the held statements of the set, and behind them k statements of a kept group
 unfoldable pub words-of : ℕ → ℕ → List ℕ → List ℕ → ℕ → List ℕ → ℕ → List ℕ
 words-of w0 question code slots set group k =
-    main-words (ones set + k) w0 question code ++ held-words set slots 0 sites ++ part (k * 10) 0 group
+    main-words (ones set + k) w0 question code ++ held-words set slots 0 sites ++ part (k * statement-words) 0 group
 
 -- what is lent has room for every bundle, the set names stations only, and a bundle has room for the statements
 unfoldable pub writable : ℕ → ℕ → ℕ → ℕ → Bool
-writable lent set count k = leb output-words lent && ltb set (2 ^ sites) && leb k 16 && leb (count + k) most-statements
+writable lent set count k = leb output-words lent && ltb set (2 ^ sites) && leb k (quorum sites) && leb (count + k) most-statements
 
 -- the lent words behind the call, and the word count: where the bundle cannot be written no word is changed
 unfoldable pub lent-after : ℕ → ℕ → List ℕ → List ℕ → ℕ → List ℕ → ℕ → List ℕ → List ℕ

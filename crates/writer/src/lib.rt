@@ -1,5 +1,9 @@
 // Writes a bundle into lent words (document 01, "Words" and "The station"). The contracts cite specs/.
+use format::CERTIFICATE_AT;
 use format::CODE_WORDS;
+use format::HEAD_MARK;
+use format::MARK;
+use format::MOST_STATEMENTS;
 use format::MOST_STATIONS;
 use format::OUTPUT_WORDS;
 use format::STATEMENT_WORDS;
@@ -9,14 +13,21 @@ ghost use mathlib.Core.Path.{_≡_};
 ghost use Prim.Native.Nat.{_+_, _*_, _^_, _≤_, _<_};
 ghost use lib.Count.{ones};
 ghost use lib.ListN.{length};
-ghost use Rattle.format.specs.Numbers.{bundle-words};
-ghost use Rattle.station.specs.Words.{sites};
+ghost use Rattle.format.specs.Numbers.{bundle-words, code-words, most-statements, output-words, place-of, statement-words};
+ghost use Rattle.format.specs.Group.{quorum};
+ghost use Rattle.station.specs.Words.{sites, slots-words};
 ghost use Rattle.writer.specs.Written.{laid, part, held-words, main-words, words-of, writable as Writable, lent-after, count-after};
+
+// As many statements as a kept group has.
+const LARGEST_QUORUM: u32 = MOST_STATIONS / 2 + 1;
+
+// A head that counts no statement.
+const HEAD: u32 = HEAD_MARK * MARK;
 
 // Writes the ten words of the slot that begins at a place, at the front of the lent words.
 fn write_slot(out: &mut [u32], slots: &[u32; SLOTS_WORDS], at: usize)
-    requires { ⌜ (at + 10 ≤ 310) × (10 ≤ length (now out)) ⌝ }
-    ensures { λ _. ⌜ now (out .exit) ≡ laid (part 10 at (now (slots .entry))) (now (out .entry)) ⌝ }
+    requires { ⌜ (at + statement-words ≤ slots-words) × (statement-words ≤ length (now out)) ⌝ }
+    ensures { λ _. ⌜ now (out .exit) ≡ laid (part statement-words at (now (slots .entry))) (now (out .entry)) ⌝ }
 {
     let mut i: usize = 0;
     while i < STATEMENT_WORDS {
@@ -27,15 +38,15 @@ fn write_slot(out: &mut [u32], slots: &[u32; SLOTS_WORDS], at: usize)
 
 // Writes the slots of the stations in the set, by rising station, one behind the other.
 fn write_held(out: &mut [u32], slots: &[u32; SLOTS_WORDS], set: u32)
-    requires { ⌜ 310 ≤ length (now out) ⌝ }
-    ensures { λ _. ⌜ now (out .exit) ≡ laid (held-words set (now (slots .entry)) 0 31) (now (out .entry)) ⌝ }
+    requires { ⌜ slots-words ≤ length (now out) ⌝ }
+    ensures { λ _. ⌜ now (out .exit) ≡ laid (held-words set (now (slots .entry)) 0 sites) (now (out .entry)) ⌝ }
 {
     let mut at: usize = 0;
     let mut i: u32 = 0;
     while i < MOST_STATIONS {
         if held::in_set(set, i) {
-            write_slot(&mut out[at..], slots, (i * 10) as usize);
-            at += 10;
+            write_slot(&mut out[at..], slots, i as usize * STATEMENT_WORDS);
+            at += STATEMENT_WORDS;
         }
         i += 1;
     }
@@ -43,10 +54,10 @@ fn write_held(out: &mut [u32], slots: &[u32; SLOTS_WORDS], set: u32)
 
 // Writes the first k statements of a kept group at the front of the lent words.
 fn write_group(out: &mut [u32], group: &[u32; KEPT_WORDS], k: usize)
-    requires { ⌜ (k ≤ 16) × (k * 10 ≤ length (now out)) ⌝ }
-    ensures { λ _. ⌜ now (out .exit) ≡ laid (part (k * 10) 0 (now (group .entry))) (now (out .entry)) ⌝ }
+    requires { ⌜ (k ≤ quorum sites) × (k * statement-words ≤ length (now out)) ⌝ }
+    ensures { λ _. ⌜ now (out .exit) ≡ laid (part (k * statement-words) 0 (now (group .entry))) (now (out .entry)) ⌝ }
 {
-    let n = k * 10;
+    let n = k * STATEMENT_WORDS;
     let mut i: usize = 0;
     while i < n {
         out[i] = group[i];
@@ -56,8 +67,8 @@ fn write_group(out: &mut [u32], group: &[u32; KEPT_WORDS], k: usize)
 
 // Writes the eight words of a code at the front of the lent words.
 fn write_code(out: &mut [u32], code: &[u32; CODE_WORDS])
-    requires { ⌜ 8 ≤ length (now out) ⌝ }
-    ensures { λ _. ⌜ now (out .exit) ≡ laid (part 8 0 (now (code .entry))) (now (out .entry)) ⌝ }
+    requires { ⌜ code-words ≤ length (now out) ⌝ }
+    ensures { λ _. ⌜ now (out .exit) ≡ laid (part code-words 0 (now (code .entry))) (now (out .entry)) ⌝ }
 {
     let mut i: usize = 0;
     while i < CODE_WORDS {
@@ -68,10 +79,10 @@ fn write_code(out: &mut [u32], code: &[u32; CODE_WORDS])
 
 // Writes the head word and the main statement at the front of the lent words.
 fn write_main(out: &mut [u32], count: u32, w0: u32, question: u32, code: &[u32; CODE_WORDS])
-    requires { ⌜ (count ≤ 32) × (11 ≤ length (now out)) ⌝ }
+    requires { ⌜ (count ≤ most-statements) × (place-of 1 ≤ length (now out)) ⌝ }
     ensures { λ _. ⌜ now (out .exit) ≡ laid (main-words count w0 question (now (code .entry))) (now (out .entry)) ⌝ }
 {
-    out[0] = 3221225472 + count;
+    out[0] = HEAD + count;
     out[1] = w0;
     out[2] = question;
     write_code(&mut out[3..], code);
@@ -81,7 +92,10 @@ fn write_main(out: &mut [u32], count: u32, w0: u32, question: u32, code: &[u32; 
 fn writable(lent: usize, set: u32, count: u32, k: u32) -> bool
     ensures { λ r. ⌜ r ≡ Writable lent set count k ⌝ }
 {
-    (OUTPUT_WORDS <= lent) & (set < held::BEHIND) & (k <= 16) & ((count as u64) + (k as u64) <= 32)
+    (OUTPUT_WORDS <= lent)
+        & (set < held::BEHIND)
+        & (k <= LARGEST_QUORUM)
+        & ((count as u64) + (k as u64) <= MOST_STATEMENTS as u64)
 }
 
 // Writes the parts of a bundle, each behind the one before in the same lent words, and answers the word count.
@@ -96,15 +110,15 @@ fn write_parts(
     group: &[u32; KEPT_WORDS],
     k: u32,
 ) -> usize
-    requires { ⌜ (331 ≤ length (now out)) × (set < 2 ^ sites) × (k ≤ 16) × (count + k ≤ 32) × (count ≡ ones set) ⌝ }
+    requires { ⌜ (output-words ≤ length (now out)) × (set < 2 ^ sites) × (k ≤ quorum sites) × (count + k ≤ most-statements) × (count ≡ ones set) ⌝ }
     ensures { λ r. ⌜ (r ≡ bundle-words (count + k)) × (now (out .exit) ≡ laid (words-of w0 question (now (code .entry)) (now (slots .entry)) set (now (group .entry)) k) (now (out .entry))) ⌝ }
 {
-    let at = 11 + (count as usize) * 10;
+    let at = CERTIFICATE_AT + (count as usize) * STATEMENT_WORDS;
     let n = k as usize;
     write_main(out, count + k, w0, question, code);
-    write_held(&mut out[11..], slots, set);
+    write_held(&mut out[CERTIFICATE_AT..], slots, set);
     write_group(&mut out[at..], group, n);
-    at + n * 10
+    at + n * STATEMENT_WORDS
 }
 
 // Writes a bundle: the main statement, behind it the held statements of the set, and behind these the first k statements of a kept group. It

@@ -11,7 +11,7 @@ use borrow.Author.Tests.{eqb-true, eqb-false, ltb-true}
 use Rattle.laws.specs.Pick.{pick}
 use Rattle.laws.specs.Bools.{never, both}
 use Rattle.laws.specs.Refusals.{Test, test, first-failed, all-passed}
-use Rattle.format.specs.Numbers.{statement-words, out-of-range}
+use Rattle.format.specs.Numbers.{statement-words, out-of-range, code-words}
 use Rattle.format.specs.Words.{formed, fields-of}
 use Rattle.format.specs.Statement.{Statement, statement, covered, step, well-formed}
 use Rattle.format.specs.Laws.Layout.{formed-well}
@@ -39,7 +39,7 @@ refused-silent k e = go (wrote k) refl
     go true x = never (unrefused k) e (wrote-unrefused k x)
     go false x = x
 
-module _ (mac : List ℕ → List ℕ → List ℕ) (eight : (key ws : List ℕ) → length (mac key ws) ≡ 8) (key : List ℕ) (n : ℕ) where
+module _ (mac : List ℕ → List ℕ → List ℕ) (eight : (key ws : List ℕ) → length (mac key ws) ≡ code-words) (key : List ℕ) (n : ℕ) where
   -- what a module codes at a call of site i
   abbrev pub coded-at : Module → ℕ → Action → List Entry
   coded-at m i a = coded-in i (view a) (act mac key n m a)

@@ -6,7 +6,7 @@ use Prim.Native.Nat.{ℕ, suc, _<_}
 use native.Mathlib.Omega.{arith}
 use lib.ListN.{length}
 use Rattle.laws.specs.All.{All}
-use Rattle.format.specs.Numbers.{kind-V, none, last-round}
+use Rattle.format.specs.Numbers.{kind-V, none, last-round, code-words}
 use Rattle.format.specs.Group.{quorum}
 use Rattle.format.specs.Statement.{Statement, statements}
 use Rattle.format.specs.Bundle.{count-in, main-of, certificate-of}
@@ -26,7 +26,7 @@ use Rattle.agreement.specs.Maths.Taking as T
 use Rattle.agreement.specs.Laws.Line.{reads, all-came, Line, open-line}
 use Rattle.agreement.specs.Demand.{Entry, CodesCame}
 
-module _ (mac : List ℕ → List ℕ → List ℕ) (eight : (key ws : List ℕ) → length (mac key ws) ≡ 8) (m : Module) (t : Station) (ws : List ℕ) (coin : ℕ) (out : List ℕ)
+module _ (mac : List ℕ → List ℕ → List ℕ) (eight : (key ws : List ℕ) → length (mac key ws) ≡ code-words) (m : Module) (t : Station) (ws : List ℕ) (coin : ℕ) (out : List ℕ)
     (l : List Entry) (took : List Statement) (L : Line (m .n) (reads l) (m .station) t took) (A : Accepted mac m t ws coin out) (came : CodesCame mac (m .key) (m .n) l ws) where
   abbrev n : ℕ
   n = m .n

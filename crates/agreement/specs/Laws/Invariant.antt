@@ -9,7 +9,7 @@ use borrow.Author.Tests.{eqb-true, eqb-false, le-leb}
 use Rattle.laws.specs.Pick.{pick}
 use Rattle.laws.specs.Bools.{never}
 use Rattle.laws.specs.All.{All, all-map, all-append}
-use Rattle.format.specs.Numbers.{kind-V, none}
+use Rattle.format.specs.Numbers.{kind-V, none, least-stations, most-stations}
 use Rattle.format.specs.Statement.{Statement, statement, covered, step}
 use Rattle.format.specs.Laws.Shape.{Shape, init, proposal, vote, Formed, formed-out}
 use Rattle.modules.specs.declared.Module.{Module}
@@ -28,17 +28,17 @@ abbrev pub NotAbove : Module → Statement → Type 0
 NotAbove m s = above (last-for m (s .question)) (s .question) (step s) ≡ false
 
 -- the covered words of a statement, read again
-pub covered-back : (n : ℕ) (s : Statement) → n ≤ 31 → Proper n s → statement (covered s) 0 ≡ bare s
+pub covered-back : (n : ℕ) (s : Statement) → n ≤ most-stations → Proper n s → statement (covered s) 0 ≡ bare s
 covered-back n s top p =
     let b = word-back n s top (p .formed) in
     λ i. record { kind = b .kind i; value = b .value i; flag = b .flag i; station = b .station i; round = b .round i; question = s .question; code = [] }
 
 -- the entry of a statement: it is read again, and is of its site
-pub entry-read : (n i : ℕ) (s : Statement) → n ≤ 31 → Proper n s → reads (entry i s ∷ []) ≡ bare s ∷ []
+pub entry-read : (n i : ℕ) (s : Statement) → n ≤ most-stations → Proper n s → reads (entry i s ∷ []) ≡ bare s ∷ []
 unfolding reads pick
 entry-read n i s top p = ap (λ (x : Statement). x ∷ []) (covered-back n s top p)
 
-pub entry-at : (n i : ℕ) (s : Statement) → n ≤ 31 → Proper n s → s .station ≡ i → All AtSite (entry i s ∷ [])
+pub entry-at : (n i : ℕ) (s : Statement) → n ≤ most-stations → Proper n s → s .station ≡ i → All AtSite (entry i s ∷ [])
 entry-at n i s top p mine = ((λ e. sym (ap (λ (x : Statement). x .station) (covered-back n s top p) ∙ mine)), tt)
 
 bare-formed : (n : ℕ) (s : Statement) → Formed n s → Formed n (bare s)
@@ -65,7 +65,7 @@ module _ (key : List ℕ) (n : ℕ) (faulty : List ℕ) where
     pub just : All (λ s. member (s .station) faulty ≡ false → Just n (reads l) s) (reads l)
     pub split : All (λ s. member (s .station) faulty ≡ false → s .kind ≡ kind-V → s .value ≡ none → Split n (reads l) (s .question) (s .round)) (reads l)
 
-  pub start : 2 ≤ n → n ≤ 31 → LogInv (λ i. making key n i .made) []
+  pub start : least-stations ≤ n → n ≤ most-stations → LogInv (λ i. making key n i .made) []
   unfolding reads making pick
   start low top =
       record { mods = λ i lo hi. made i lo hi; bound = tt; formed = tt; sites = tt; distinct = tt; just = tt; split = tt }
@@ -89,7 +89,7 @@ module _ (key : List ℕ) (n : ℕ) (faulty : List ℕ) where
         split = subst (λ (x : List Statement). All (λ s. member (s .station) faulty ≡ false → s .kind ≡ kind-V → s .value ≡ none → Split n x (s .question) (s .round)) x) same (I .split);
       }
 
-  module _ (f g : ℕ → Module) (es l : List Entry) (j : ℕ) (s : Statement) (one : reads es ≡ bare s ∷ []) (at : All AtSite es) (top : n ≤ 31) (lo : 1 ≤ j) (hi : j ≤ n) (I : LogInv f l) (p : Proper n s) (mine : s .station ≡ j)
+  module _ (f g : ℕ → Module) (es l : List Entry) (j : ℕ) (s : Statement) (one : reads es ≡ bare s ∷ []) (at : All AtSite es) (top : n ≤ most-stations) (lo : 1 ≤ j) (hi : j ≤ n) (I : LogInv f l) (p : Proper n s) (mine : s .station ≡ j)
       (high : above (last-for (f j) (s .question)) (s .question) (step s) ≡ true) (now : g j ≡ advanced (f j) (s .question) (step s)) (others : (i : ℕ) → (i ≡ j → ⊥) → g i ≡ f i)
       (sj : member j faulty ≡ false → Just n (reads l) s)
       (ss : member j faulty ≡ false → s .kind ≡ kind-V → s .value ≡ none → Split n (reads l) (s .question) (s .round)) where

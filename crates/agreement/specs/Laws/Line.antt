@@ -10,7 +10,7 @@ use Rattle.laws.specs.Pick.{pick}
 use Rattle.laws.specs.Bools.{never, both}
 use Rattle.laws.specs.All.{All}
 use Rattle.laws.specs.Count.{count}
-use Rattle.format.specs.Numbers.{none}
+use Rattle.format.specs.Numbers.{none, most-stations, place-of, statement-words}
 use Rattle.format.specs.Group.{quorum}
 use Rattle.format.specs.Words.{fields-of, formed, station-of}
 use Rattle.format.specs.Statement.{Statement, statement, statements, covered-at, covered, same-words, verifies, well-formed}
@@ -75,8 +75,8 @@ gap : (at : ℕ) → at + 2 - at ≡ 2
 gap at = omega arith
 
 module _ (mac : List ℕ → List ℕ → List ℕ) (key : List ℕ) (n : ℕ) (l : List Entry) (ws : List ℕ) (came : CodesCame mac key n l ws) where
-  one-came : (k : ℕ) → 1 + k * 10 + 10 ≤ length ws → formed n (fields-of (getD ws (1 + k * 10) 0)) ≡ true → well-formed n (statement ws (1 + k * 10)) ≡ true
-      → verifies (mac key) (statement ws (1 + k * 10)) ≡ true → Coded n (reads l) (statement ws (1 + k * 10))
+  one-came : (k : ℕ) → place-of k + statement-words ≤ length ws → formed n (fields-of (getD ws (place-of k) 0)) ≡ true → well-formed n (statement ws (place-of k)) ≡ true
+      → verifies (mac key) (statement ws (place-of k)) ≡ true → Coded n (reads l) (statement ws (place-of k))
   unfolding verifies
   one-came k room f w v =
       let at : ℕ = 1 + k * 10 in
@@ -90,8 +90,8 @@ module _ (mac : List ℕ → List ℕ → List ℕ) (key : List ℕ) (n : ℕ) (
         high = r .high;
       }
 
-  pub all-came : (k j : ℕ) → 1 + (j + k) * 10 ≤ length ws → all-formed n ws (1 + j * 10) k ≡ true → All (λ s. well-formed n s ≡ true) (statements ws (1 + j * 10) k)
-      → All (λ s. verifies (mac key) s ≡ true) (statements ws (1 + j * 10) k) → All (Coded n (reads l)) (statements ws (1 + j * 10) k)
+  pub all-came : (k j : ℕ) → place-of (j + k) ≤ length ws → all-formed n ws (place-of j) k ≡ true → All (λ s. well-formed n s ≡ true) (statements ws (place-of j) k)
+      → All (λ s. verifies (mac key) s ≡ true) (statements ws (place-of j) k) → All (Coded n (reads l)) (statements ws (place-of j) k)
   unfolding statements all-formed
   all-came zero j room f w v = tt
   all-came (suc k) j room f w v =
@@ -134,7 +134,7 @@ module _ (n : ℕ) (l : List Statement) (i : ℕ) (t : Station) (took : List Sta
   line-open = L .standing .while-open
 
 -- and back: a state as a station
-pub open-line : (n number : ℕ) (l : List Statement) (u : State) (took : List Statement) → n ≤ 31 → 1 ≤ number → number ≤ n → Sane n number u → Standing n l number u took
+pub open-line : (n number : ℕ) (l : List Statement) (u : State) (took : List Statement) → n ≤ most-stations → 1 ≤ number → number ≤ n → Sane n number u → Standing n l number u took
     → Line n l number (W.as-station n number u) took
 open-line n number l u took top lo hi S K =
     record {

@@ -11,7 +11,7 @@ use Rattle.laws.specs.Pick.{pick}
 use Rattle.laws.specs.Bools.{never, both, join, left}
 use Rattle.laws.specs.All.{All}
 use Rattle.laws.specs.Count.{count}
-use Rattle.format.specs.Numbers.{kind-INIT, kind-V, none, D-GET, kept, sent, sent-decided, closed-now, last-round}
+use Rattle.format.specs.Numbers.{kind-INIT, kind-V, none, D-GET, kept, sent, sent-decided, closed-now, last-round, code-words, least-stations, most-stations, place-of}
 use Rattle.format.specs.Group.{quorum}
 use Rattle.format.specs.Statement.{Statement, statement, written, step}
 use Rattle.format.specs.Bundle.{main-of, all-written, bundle-of, over}
@@ -42,7 +42,7 @@ use Rattle.agreement.specs.Maths.Votes.{votes}
 use Rattle.agreement.specs.Demand.{Action, opens, gives, Call, call, site, action, apart, view, Entry, Lineage, Found, found, written-main, given-main, opened, gave, member, act, modules, answer, log, openings, lineage, Presents, CodesCame}
 
 -- the main statement of a written bundle, read again
-main-written : (n : ℕ) (s : Statement) (c : List Statement) (out : List ℕ) → n ≤ 31 → Proper n s → statement (over (bundle-of s c) out) 1 ≡ s
+main-written : (n : ℕ) (s : Statement) (c : List Statement) (out : List ℕ) → n ≤ most-stations → Proper n s → statement (over (bundle-of s c) out) (place-of 0) ≡ s
 unfolding bundle-of
 main-written n s c out top p =
     statement-drop (over (bundle-of s c) out) 1
@@ -50,7 +50,7 @@ main-written n s c out top p =
     ∙ statement-back n s (all-written c ++ drop (length (bundle-of s c)) out) top p
 
 -- ---- a station that has just been opened
-module _ (mac : List ℕ → List ℕ → List ℕ) (eight : (key ws : List ℕ) → length (mac key ws) ≡ 8) (m : Module) (q v : ℕ) (out : List ℕ) (l : List Statement) (r : InRange m) (p : v < 2) where
+module _ (mac : List ℕ → List ℕ → List ℕ) (eight : (key ws : List ℕ) → length (mac key ws) ≡ code-words) (m : Module) (q v : ℕ) (out : List ℕ) (l : List Statement) (r : InRange m) (p : v < 2) where
   abbrev s : Statement
   s = init-statement mac m q v out
 
@@ -95,7 +95,7 @@ module _ (mac : List ℕ → List ℕ → List ℕ) (eight : (key ws : List ℕ)
   pub init-line : Line (m .n) l2 (m .station) (W.as-station (m .n) (m .station) (began q Gathering none s [])) (s ∷ [])
   init-line = open-line (m .n) (m .station) l2 (began q Gathering none s []) (s ∷ []) (r .at-most-31) (r .low) (r .high) (init-sane mac eight m q v r p) init-standing
 
-module _ (mac : List ℕ → List ℕ → List ℕ) (eight : (key ws : List ℕ) → length (mac key ws) ≡ 8) (key : List ℕ) (n : ℕ) (low : 2 ≤ n) (top : n ≤ 31) (faulty : List ℕ) where
+module _ (mac : List ℕ → List ℕ → List ℕ) (eight : (key ws : List ℕ) → length (mac key ws) ≡ code-words) (key : List ℕ) (n : ℕ) (low : least-stations ≤ n) (top : n ≤ most-stations) (faulty : List ℕ) where
   -- a site's module is the group's: what holds by its words holds by the group's
   of-mine : (i : ℕ) (m : Module) → Mine key n faulty i m → (l : List Statement) (t : Station) (took : List Statement)
       → Line (m .n) l (m .station) t took → Line n l i t took
@@ -254,7 +254,7 @@ module _ (mac : List ℕ → List ℕ → List ℕ) (eight : (key ws : List ℕ)
     answer-is o e = ap (returned mj no-station out) e
 
     -- the bundle that is written has the statement at its place
-    written-is : Proper (mj .n) (init-statement mac mj q v out) → mj .n ≤ 31 → statement (over (bundle-of (init-statement mac mj q v out) []) out) 1 ≡ init-statement mac mj q v out
+    written-is : Proper (mj .n) (init-statement mac mj q v out) → mj .n ≤ most-stations → statement (over (bundle-of (init-statement mac mj q v out) []) out) (place-of 0) ≡ init-statement mac mj q v out
     unfolding bundle-of
     written-is p top = main-written (mj .n) (init-statement mac mj q v out) [] out top p
 
@@ -408,7 +408,7 @@ module _ (mac : List ℕ → List ℕ → List ℕ) (eight : (key ws : List ℕ)
         }
 
     -- the sent statement, as the lent words have it
-    main-is : (k : ℕ) (s : Statement) (c : List Statement) (u : State) → wrote k ≡ true → Proper (mg .n) s → mg .n ≤ 31 → written-main (returned mg t out (sends k s c u)) ≡ s ∷ []
+    main-is : (k : ℕ) (s : Statement) (c : List Statement) (u : State) → wrote k ≡ true → Proper (mg .n) s → mg .n ≤ most-stations → written-main (returned mg t out (sends k s c u)) ≡ s ∷ []
     unfolding returned pick
     main-is k s c u e p small = rw e (ap (λ (y : Statement). y ∷ []) (main-written (mg .n) s c out small p))
 

@@ -7,6 +7,7 @@ use native.Mathlib.Omega.{arith}
 use lib.Dec.{eqb, ltb}
 use borrow.Author.Tests.{eqb-true, eqb-false, ltb-true, ltb-false}
 use Rattle.laws.specs.Count.{count}
+use Rattle.format.specs.Numbers.{least-stations}
 use Rattle.format.specs.Group.{quorum, backing, most-faulty, quorums-meet, quorum-sound}
 use Rattle.format.specs.Statement.{Statement}
 use Rattle.agreement.specs.Maths.Log.{In, has, Has, has-out, has-one, Supp, Distinct}
@@ -58,7 +59,7 @@ twice-not : (b : Bool) → not (not b) ≡ true → b ≡ true
 twice-not true h = refl
 twice-not false h = h
 
-module _ (n : ℕ) (sound : ℕ → Bool) (l : List Statement) (few : count (λ i. not (sound i)) n ≤ most-faulty n) (big : 2 ≤ n) (L : LogOk n sound l) where
+module _ (n : ℕ) (sound : ℕ → Bool) (l : List Statement) (few : count (λ i. not (sound i)) n ≤ most-faulty n) (big : least-stations ≤ n) (L : LogOk n sound l) where
   pub same : (kd q r v w : ℕ) → Supp n l kd q r v (quorum n) → Supp n l kd q r w (quorum n) → v ≡ w
   same kd q r v w a b =
       let m = quorums-meet n (has l kd q r v) (has l kd q r w) a b in

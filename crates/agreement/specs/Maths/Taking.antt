@@ -12,7 +12,7 @@ use Rattle.laws.specs.Pick.{pick}
 use Rattle.laws.specs.Bools.{never, both, join, left, right}
 use Rattle.laws.specs.All.{All, all-map, all-two, all-append}
 use Rattle.laws.specs.Count.{count}
-use Rattle.format.specs.Numbers.{kind-INIT, kind-P, kind-V, none, D-GET, R-GET, last-round}
+use Rattle.format.specs.Numbers.{kind-INIT, kind-P, kind-V, none, D-GET, R-GET, last-round, least-stations}
 use Rattle.format.specs.Group.{quorum}
 use Rattle.format.specs.Statement.{Statement, step}
 use Rattle.format.specs.Laws.ReadBack.{Proper}
@@ -246,7 +246,7 @@ module _ (n number : ℕ) (l : List Statement) (u : State) (took : List Statemen
         }
 
     -- ---- sent: the station's own statement, as it follows
-    module _ (coin : ℕ) (bit : coin < 2) (more : closes last-round (u .stage) ≡ false) (big : 2 ≤ n) (s : Statement) (p : Proper n s) (mine : s .station ≡ number) (low : 1 ≤ s .station) (high : s .station ≤ n)
+    module _ (coin : ℕ) (bit : coin < 2) (more : closes last-round (u .stage) ≡ false) (big : least-stations ≤ n) (s : Statement) (p : Proper n s) (mine : s .station ≡ number) (low : 1 ≤ s .station) (high : s .station ≤ n)
         (on : s .question ≡ u .question) (kind≡ : s .kind ≡ follows n (u .stage) k coin .kind) (value≡ : s .value ≡ follows n (u .stage) k coin .value)
         (flag≡ : s .flag ≡ follows n (u .stage) k coin .flag) (round≡ : s .round ≡ follows n (u .stage) k coin .round) where
       abbrev x : Next

@@ -10,6 +10,7 @@ use lib.ListN.{length, getD, take, drop}
 use lib.Seq.{drop-cons, drop-length}
 use borrow.Author.Tests.{lt-ltb}
 use Rattle.laws.specs.Pick.{pick, here}
+use Rattle.format.specs.Numbers.{code-words, covered-words, statement-words}
 use Rattle.sha256.specs.Sha256.{limit}
 use Rattle.hmac.specs.declared.Prepared.{Prepared}
 use Rattle.hmac.specs.declared.Code.{Code}
@@ -33,7 +34,7 @@ covered-by-two ws at low z =
     rw e
 
 -- the two words from a place on
-pub two-words : (ws : List ℕ) (at : ℕ) → at + 2 ≤ length ws → take (at + 2 - at) (drop at ws) ≡ getD ws at 0 ∷ getD ws (at + 1) 0 ∷ []
+pub two-words : (ws : List ℕ) (at : ℕ) → at + covered-words ≤ length ws → take (at + covered-words - at) (drop at ws) ≡ getD ws at 0 ∷ getD ws (at + 1) 0 ∷ []
 two-words ws at h =
     let e : at + 2 - at ≡ suc (suc zero) = omega arith in
     let p : at < length ws = omega arith in
@@ -46,9 +47,9 @@ unfolding short-code pick
 two-coded p a b = refl
 
 -- what a matching code tells
-pub verified : (p : Prepared) (ws : List ℕ) (at : ℕ) (code : Code) → at + 2 ≤ length ws → getD ws at 0 < 2 ^ 32 → spare-of (getD ws at 0) ≡ 0
-    → code ≡ short-code p (take (at + 2 - at) (drop at ws))
-    → same-words (take 8 (drop (at + 2) ws)) (code .words) ≡ verifies (code-from p) (statement ws at)
+pub verified : (p : Prepared) (ws : List ℕ) (at : ℕ) (code : Code) → at + covered-words ≤ length ws → getD ws at 0 < 2 ^ 32 → spare-of (getD ws at 0) ≡ 0
+    → code ≡ short-code p (take (at + covered-words - at) (drop at ws))
+    → same-words (take code-words (drop (at + covered-words) ws)) (code .words) ≡ verifies (code-from p) (statement ws at)
 unfolding verifies
 verified p ws at code h low z e =
     rw (e, two-words ws at h, two-coded p (getD ws at 0) (getD ws (at + 1) 0), covered-by-two ws at low z)
@@ -68,9 +69,9 @@ and-shift : (a b c : Bool) → (a && (b && c)) ≡ ((a && b) && c)
 and-shift true b c = refl
 and-shift false b c = refl
 
-pub same-turn : (ws : List ℕ) (at : ℕ) (code : List ℕ) (i : ℕ) (ok : Bool) → i < 8 → length code ≡ 8 → at + 10 ≤ length ws
-    → (ok && same-words (take (8 - i) (drop (at + 2 + i) ws)) (drop i code))
-    ≡ ((ok && eqb (getD ws (at + 2 + i) 0) (getD code i 0)) && same-words (take (8 - (i + 1)) (drop (at + 2 + (i + 1)) ws)) (drop (i + 1) code))
+pub same-turn : (ws : List ℕ) (at : ℕ) (code : List ℕ) (i : ℕ) (ok : Bool) → i < code-words → length code ≡ code-words → at + statement-words ≤ length ws
+    → (ok && same-words (take (code-words - i) (drop (at + covered-words + i) ws)) (drop i code))
+    ≡ ((ok && eqb (getD ws (at + covered-words + i) 0) (getD code i 0)) && same-words (take (code-words - (i + 1)) (drop (at + covered-words + (i + 1)) ws)) (drop (i + 1) code))
 unfolding same-words
 same-turn ws at code i ok h l m =
     let e : 8 - i ≡ suc (8 - (i + 1)) = omega arith in
@@ -81,13 +82,13 @@ same-turn ws at code i ok h l m =
     (and-shift ok (eqb (getD ws (at + 2 + i) 0) (getD code i 0)) (same-words (take (8 - suc i) (drop (suc (at + 2 + i)) ws)) (drop (suc i) code)))
 
 pub same-start : (ws : List ℕ) (at : ℕ) (code : List ℕ)
-    → same-words (take 8 (drop (at + 2) ws)) code ≡ (true && same-words (take (8 - 0) (drop (at + 2 + 0) ws)) (drop 0 code))
+    → same-words (take code-words (drop (at + covered-words) ws)) code ≡ (true && same-words (take (code-words - 0) (drop (at + covered-words + 0) ws)) (drop 0 code))
 same-start ws at code =
     let e : at + 2 + 0 ≡ at + 2 = omega arith in
     rw e
 
-pub same-end : (ws : List ℕ) (at : ℕ) (code : List ℕ) (i : ℕ) (ok : Bool) → 8 ≤ i → i ≤ 8 → length code ≡ 8
-    → ok ≡ (ok && same-words (take (8 - i) (drop at ws)) (drop i code))
+pub same-end : (ws : List ℕ) (at : ℕ) (code : List ℕ) (i : ℕ) (ok : Bool) → code-words ≤ i → i ≤ code-words → length code ≡ code-words
+    → ok ≡ (ok && same-words (take (code-words - i) (drop at ws)) (drop i code))
 unfolding same-words
 same-end ws at code i ok p q l =
     let z : 8 - i ≡ 0 = omega arith in

@@ -7,7 +7,7 @@ use lib.Dec.{eqb}
 use lib.ListN.{getD, length}
 use borrow.Author.Tests.{eq-eqb, ne-eqb}
 use Rattle.laws.specs.Pick.{here, skip}
-use Rattle.format.specs.Numbers.{kind-INIT, kind-V, none}
+use Rattle.format.specs.Numbers.{kind-INIT, kind-V, none, place-of, statement-words}
 use Rattle.format.specs.declared.Fields.{Fields}
 use Rattle.format.specs.Words.{fields-of}
 use Rattle.format.specs.Statement.{Statement, statements}
@@ -41,7 +41,7 @@ module _ (ws : List ℕ) (m : Fields) (main : m ≡ fields-of (getD ws 1 0)) whe
     rest-empty k s e = skip _ _ _ _ (sym needs ∙ s) (rw (← e))
 
   module _ (n count : ℕ) where
-    pub rule-init : m .kind ≡ 0 → eqb count 0 ≡ rule n (main-of ws) (statements ws 11 count)
+    pub rule-init : m .kind ≡ 0 → eqb count 0 ≡ rule n (main-of ws) (statements ws (place-of 1) count)
     unfolding rule fields-of
     rule-init e =
         let k : main-of ws .kind ≡ 0 = rw main at e in
@@ -56,19 +56,19 @@ module _ (ws : List ℕ) (m : Fields) (main : m ≡ fields-of (getD ws 1 0)) whe
       unfolding fields-of
       not-init = ne-eqb _ _ (rw main at other)
 
-      pub rule-toss : toss ≡ true → false ≡ rule n (main-of ws) (statements ws 11 count)
+      pub rule-toss : toss ≡ true → false ≡ rule n (main-of ws) (statements ws (place-of 1) count)
       unfolding rule
       rule-toss s = skip _ _ _ _ not-init (rw (sym early ∙ s))
 
       pub rule-groups : (g : Group) (r : Bool) → toss ≡ false → g ≡ first-group n (m .kind) (m .value) (m .flag) (m .round .0)
-          → r ≡ groups-hold n (main-of ws) g (statements ws 11 count) → r ≡ rule n (main-of ws) (statements ws 11 count)
+          → r ≡ groups-hold n (main-of ws) g (statements ws (place-of 1) count) → r ≡ rule n (main-of ws) (statements ws (place-of 1) count)
       unfolding rule fields-of
       rule-groups g r s e f = skip _ _ _ _ not-init (rw (sym early ∙ s, f, e, main))
 
 -- the certificate, taken apart behind the first group's size
 pub groups-are : (ws : List ℕ) (n : ℕ) (g : Group) (count have : ℕ) (a b r : Bool) → have ≡ least (g .size) count
-    → a ≡ holds g (statements ws 11 have) → b ≡ spread (main-of ws) (statements ws 11 have)
-    → r ≡ rest-holds n (main-of ws) (statements ws 11 have) (statements ws (11 + have * 10) (count - have))
-    → (a && b && r) ≡ groups-hold n (main-of ws) g (statements ws 11 count)
+    → a ≡ holds g (statements ws (place-of 1) have) → b ≡ spread (main-of ws) (statements ws (place-of 1) have)
+    → r ≡ rest-holds n (main-of ws) (statements ws (place-of 1) have) (statements ws (place-of 1 + have * statement-words) (count - have))
+    → (a && b && r) ≡ groups-hold n (main-of ws) g (statements ws (place-of 1) count)
 unfolding groups-hold
 groups-are ws n g count have a b r e p q s = rw (p, q, s, e, parts-take ws 11 (g .size) count, parts-drop ws 11 (g .size) count)

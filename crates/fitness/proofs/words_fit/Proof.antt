@@ -47,8 +47,8 @@ words-fit-spec =
     (tie.spec
     step-in-requires
     sub-own
-    mul-at
     cast-at
+    mul-at
     held-fits-requires
     mul-stage-fits
     array-read-stage-fits

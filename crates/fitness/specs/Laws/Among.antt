@@ -11,6 +11,7 @@ use borrow.Author.Tests.{eqb-true, eqb-false, eq-eqb, ne-eqb}
 use Rattle.laws.specs.Pick.{pick}
 use Rattle.laws.specs.Bools.{both}
 use Rattle.laws.specs.Sets.{bit}
+use Rattle.format.specs.Numbers.{most-stations, statement-words}
 use Rattle.format.specs.Words.{formed, fields-of, station-of}
 use Rattle.format.specs.Statement.{statement}
 use Rattle.rules.specs.Rules.{some}
@@ -19,7 +20,7 @@ use Rattle.station.specs.Words.{sites, held-in}
 use Rattle.station.specs.Fit.{zeros, slot-fits, slots-fit}
 
 module _ (n question step set : ℕ) (slots : List ℕ) where
-  own-slot : (i : ℕ) → slot-fits n question step i slots ≡ true → statement slots (i * 10) .station ≡ suc i
+  own-slot : (i : ℕ) → slot-fits n question step i slots ≡ true → statement slots (i * statement-words) .station ≡ suc i
   own-slot i h =
       let w = getD slots (i * 10) 0 in
       let a = both (formed n (fields-of w) && eqb (station-of w) (i + 1) && eqb (getD slots (i * 10 + 1) 0) question) _ h in
@@ -33,8 +34,8 @@ module _ (n question step set : ℕ) (slots : List ℕ) where
       let a = both (pick (bit set i) (slot-fits n question step i slots) (zeros slots (i * 10) 10)) _ h in
       go (bit set i) (a .0) (below-slots k (suc i) j (a .1) (omega arith))
     where
-      go : (b : Bool) → pick b (slot-fits n question step i slots) (zeros slots (i * 10) 10) ≡ true → held-of (suc j) (held-in set slots (suc i) k) ≡ false
-          → held-of (suc j) (pick b (statement slots (i * 10) ∷ held-in set slots (suc i) k) (held-in set slots (suc i) k)) ≡ false
+      go : (b : Bool) → pick b (slot-fits n question step i slots) (zeros slots (i * statement-words) statement-words) ≡ true → held-of (suc j) (held-in set slots (suc i) k) ≡ false
+          → held-of (suc j) (pick b (statement slots (i * statement-words) ∷ held-in set slots (suc i) k) (held-in set slots (suc i) k)) ≡ false
       go true f ih = rw (ne-eqb (statement slots (i * 10) .station) (suc j) (λ z. omega (arith, own-slot i f))) ih
       go false f ih = ih
 
@@ -45,9 +46,9 @@ module _ (n question step set : ℕ) (slots : List ℕ) where
       let a = both (pick (bit set i) (slot-fits n question step i slots) (zeros slots (i * 10) 10)) _ h in
       go (bit set i) refl (eqb j i) refl (a .0) (below-slots k (suc i) j (a .1)) (λ z. among k (suc i) j (a .1) z (omega arith))
     where
-      go : (b : Bool) → bit set i ≡ b → (c : Bool) → eqb j i ≡ c → pick b (slot-fits n question step i slots) (zeros slots (i * 10) 10) ≡ true
+      go : (b : Bool) → bit set i ≡ b → (c : Bool) → eqb j i ≡ c → pick b (slot-fits n question step i slots) (zeros slots (i * statement-words) statement-words) ≡ true
           → (j < suc i → held-of (suc j) (held-in set slots (suc i) k) ≡ false) → (suc i ≤ j → bit set j ≡ held-of (suc j) (held-in set slots (suc i) k))
-          → bit set j ≡ held-of (suc j) (pick b (statement slots (i * 10) ∷ held-in set slots (suc i) k) (held-in set slots (suc i) k))
+          → bit set j ≡ held-of (suc j) (pick b (statement slots (i * statement-words) ∷ held-in set slots (suc i) k) (held-in set slots (suc i) k))
       go true x true y f under ih =
           let z : j ≡ i = eqb-true j i y in
           rw (eq-eqb (statement slots (i * 10) .station) (suc j) (own-slot i f ∙ ap suc (sym z))) (ap (bit set) z ∙ x)
@@ -56,7 +57,7 @@ module _ (n question step set : ℕ) (slots : List ℕ) where
       go false x true y f under ih = let z : j ≡ i = eqb-true j i y in ap (bit set) z ∙ x ∙ sym (under (omega arith))
       go false x false y f under ih = ih (omega (arith, eqb-false j i y))
 
-  pub bit-is-held : (station : ℕ) → slots-fit n question step set slots 0 sites ≡ true → 1 ≤ station → station ≤ 31
+  pub bit-is-held : (station : ℕ) → slots-fit n question step set slots 0 sites ≡ true → 1 ≤ station → station ≤ most-stations
       → bit set (station - 1) ≡ held-of station (held-in set slots 0 sites)
   bit-is-held station h lo hi =
       let e : suc (station - 1) ≡ station = omega arith in

@@ -7,6 +7,7 @@ use native.Mathlib.Nat.{add-zero}
 use native.Mathlib.Omega.{arith}
 use lib.ListN.{length, getD, take, drop}
 use lib.Seq.{take-at, drop-drop, getD-drop}
+use Rattle.format.specs.Numbers.{code-words, most-stations, statement-words}
 use Rattle.format.specs.declared.Fields.{Fields}
 use Rattle.format.specs.Words.{fields-of, kind-of, value-of, flag-of, station-of, round-of, formed}
 use Rattle.format.specs.Laws.Word0.{InBits, read-written}
@@ -16,12 +17,12 @@ use Rattle.format.specs.Laws.Shape.{formed-out, small}
 -- a statement that its ten words hold whole
 pub record Proper (n : ℕ) (s : Statement) : Type 0 where
   pub formed : well-formed n s ≡ true
-  pub eight : length (s .code) ≡ 8
+  pub eight : length (s .code) ≡ code-words
 
 abbrev pub fields-in : Statement → Fields
 fields-in s = record { kind = s .kind; value = s .value; flag = s .flag; spare = 0; station = s .station; round = record { 0 = s .round } }
 
-pub fit-bits : (n : ℕ) (s : Statement) → n ≤ 31 → well-formed n s ≡ true → InBits (fields-in s)
+pub fit-bits : (n : ℕ) (s : Statement) → n ≤ most-stations → well-formed n s ≡ true → InBits (fields-in s)
 fit-bits n s top h =
     let f = formed-out n s h in
     let b = small s (f .shape) in
@@ -34,11 +35,11 @@ fit-bits n s top h =
       round = omega (arith, b .round);
     }
 
-pub fields-back : (n : ℕ) (s : Statement) → n ≤ 31 → well-formed n s ≡ true → fields-of (word-0 s) ≡ fields-in s
+pub fields-back : (n : ℕ) (s : Statement) → n ≤ most-stations → well-formed n s ≡ true → fields-of (word-0 s) ≡ fields-in s
 fields-back n s top h = read-written (fields-in s) (fit-bits n s top h)
 
 -- a written word 0 is formed
-pub formed-back : (n : ℕ) (s : Statement) → n ≤ 31 → well-formed n s ≡ true → formed n (fields-of (word-0 s)) ≡ true
+pub formed-back : (n : ℕ) (s : Statement) → n ≤ most-stations → well-formed n s ≡ true → formed n (fields-of (word-0 s)) ≡ true
 unfolding formed well-formed
 formed-back n s top h = rw (fields-back n s top h) h
 
@@ -50,7 +51,7 @@ pub record Back (s : Statement) : Type 0 where
   pub station : station-of (word-0 s) ≡ s .station
   pub round : round-of (word-0 s) ≡ s .round
 
-pub word-back : (n : ℕ) (s : Statement) → n ≤ 31 → well-formed n s ≡ true → Back s
+pub word-back : (n : ℕ) (s : Statement) → n ≤ most-stations → well-formed n s ≡ true → Back s
 unfolding fields-of
 word-back n s top h =
     let b : fields-of (word-0 s) ≡ fields-in s = fields-back n s top h in
@@ -62,7 +63,7 @@ word-back n s top h =
       round = ap (λ (f : Fields). f .round .0) b;
     }
 
-pub length-written : (n : ℕ) (s : Statement) → Proper n s → length (written s) ≡ 10
+pub length-written : (n : ℕ) (s : Statement) → Proper n s → length (written s) ≡ statement-words
 length-written n s p = ap (λ (k : ℕ). suc (suc k)) (p .eight)
 
 -- a statement in words depends on the words from its place on
@@ -81,7 +82,7 @@ statement-drop ws at =
       code = take 8 (c i);
     }
 
-pub statement-back : (n : ℕ) (s : Statement) (rest : List ℕ) → n ≤ 31 → Proper n s → statement (written s ++ rest) 0 ≡ s
+pub statement-back : (n : ℕ) (s : Statement) (rest : List ℕ) → n ≤ most-stations → Proper n s → statement (written s ++ rest) 0 ≡ s
 unfolding fields-of
 statement-back n s rest top p =
     let f : fields-of (word-0 s) ≡ fields-in s = fields-back n s top (p .formed) in

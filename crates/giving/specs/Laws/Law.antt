@@ -10,7 +10,7 @@ use borrow.Author.Tests.{ltb-true, lt-ltb, eqb-false}
 use Rattle.laws.specs.Pick.{pick}
 use Rattle.laws.specs.Bools.{never, join}
 use Rattle.laws.specs.All.{All}
-use Rattle.format.specs.Numbers.{none, bundle-words, kind-P, kind-V, D-GET, R-GET, last-round}
+use Rattle.format.specs.Numbers.{none, bundle-words, kind-P, kind-V, D-GET, R-GET, last-round, most-statements, most-stations, output-words}
 use Rattle.format.specs.Group.{quorum, backing}
 use Rattle.format.specs.declared.Fields.{Fields}
 use Rattle.format.specs.Statement.{Statement, step}
@@ -73,7 +73,7 @@ those-few p (s ∷ h) = go (p s) (those-few p h)
     go true e = omega arith
     go false e = omega arith
 
-module _ (n : ℕ) (K : State) (top : n ≤ 31) (F : Full n K) where
+module _ (n : ℕ) (K : State) (top : n ≤ most-stations) (F : Full n K) where
   abbrev groups : Groups
   groups = record { value = group-words (K .for-value); none = group-words (K .for-none) }
 
@@ -92,7 +92,7 @@ module _ (n : ℕ) (K : State) (top : n ≤ 31) (F : Full n K) where
   back : held-in (set-of (K .held)) slots 0 sites ≡ K .held
   back = held-back n (K .held) top (F .rising) (F .proper)
 
-  few : length (K .held) + 0 ≤ 32
+  few : length (K .held) + 0 ≤ most-statements
   few = omega (arith, F .size)
 
   alone : Certificate n (K .held) [] slots (group-words [])
@@ -115,7 +115,7 @@ module _ (n : ℕ) (K : State) (top : n ≤ 31) (F : Full n K) where
         same = refl;
       }
     where
-      inits-few : length (take (backing n (first-value (K .held))) (those (has-value (first-value (K .held))) (K .held))) + 0 ≤ 32
+      inits-few : length (take (backing n (first-value (K .held))) (those (has-value (first-value (K .held))) (K .held))) + 0 ≤ most-statements
       inits-few = omega (arith, take-few (backing n (first-value (K .held))) (those (has-value (first-value (K .held))) (K .held)), those-few (has-value (first-value (K .held))) (K .held), F .size)
 
   -- a vote for 0 or 1 is that of all proposals
@@ -194,7 +194,7 @@ module _ (n : ℕ) (K : State) (top : n ≤ 31) (F : Full n K) where
       from-votes (r .0) (i .0) (omega (arith, i .1, eqb-false (r .0) last-round goes)) coin R
 
 -- what is sent, by words and by the definition
-module _ (m : Module) (K : State) (top : m .n ≤ 31) (F : Full (m .n) K) (d : ℕ) (out : List ℕ) (room : 331 ≤ length out) (X : Following) (x : Next)
+module _ (m : Module) (K : State) (top : m .n ≤ most-stations) (F : Full (m .n) K) (d : ℕ) (out : List ℕ) (room : output-words ≤ length out) (X : Following) (x : Next)
     (ek : X .kind ≡ x .kind) (ev : X .value ≡ x .value) (ef : X .flag ≡ x .flag) (er : X .round .0 ≡ x .round) (es : X .stage ≡ x .stage)
     (C : Chosen (m .n) K top F X x) (p : Proper (m .n) (own-statement m (K .question) (x .kind) (x .value) (x .flag) (x .round))) (fit : module-fits m ≡ true)
     (later : above (last-for m (K .question)) (K .question) (step (own-statement m (K .question) (x .kind) (x .value) (x .flag) (x .round))) ≡ true) where

@@ -12,6 +12,7 @@ use borrow.Author.Tests.{eqb-true, eqb-false, eq-eqb, ne-eqb, lt-ltb, le-ltb, lt
 use Rattle.laws.specs.Pick.{pick}
 use Rattle.laws.specs.Count.{one-if}
 use Rattle.laws.specs.Sets.{bit}
+use Rattle.format.specs.Numbers.{statement-words}
 use Rattle.format.specs.declared.Fields.{Fields}
 use Rattle.format.specs.Words.{fields-of}
 use Rattle.format.specs.Statement.{Statement, statement}
@@ -27,15 +28,15 @@ use Rattle.held.specs.Scan.{gathered, scan, such}
 use Rattle.held.specs.Laws.Sets.{gathered-low, gathered-none, gathered-two, bit-of}
 
 -- what is read of a slot's first word
-pub read-such : (value flag : Which) (slots : List ℕ) (i : ℕ) (f : Fields) (a b : Bool) → f ≡ fields-of (getD slots (i * 10) 0)
-    → a ≡ which value (f .value) → b ≡ which flag (f .flag) → (a && b) ≡ such value flag (statement slots (i * 10))
+pub read-such : (value flag : Which) (slots : List ℕ) (i : ℕ) (f : Fields) (a b : Bool) → f ≡ fields-of (getD slots (i * statement-words) 0)
+    → a ≡ which value (f .value) → b ≡ which flag (f .flag) → (a && b) ≡ such value flag (statement slots (i * statement-words))
 unfolding fields-of
 read-such value flag slots i f a b e p q = rw (p, q, e)
 
 module _ (p : Statement → Bool) (set : ℕ) (slots : List ℕ) where
   -- the test of a number: it is in the set, and its slot's statement is one of those
   abbrev pub found : ℕ → Bool
-  found i = bit set i && p (statement slots (i * 10))
+  found i = bit set i && p (statement slots (i * statement-words))
 
   pub scan-low : scan p set slots < 2 ^ sites
   unfolding scan
@@ -52,9 +53,9 @@ module _ (p : Statement → Bool) (set : ℕ) (slots : List ℕ) where
   held-found x (suc m) i h =
       rw (h i (omega arith) (omega arith)) (go (bit set i) (p (statement slots (i * 10))) refl (held-found x m (suc i) (λ j a b. h j (omega arith) (omega arith))))
     where
-      go : (b c : Bool) → p (statement slots (i * 10)) ≡ c → held-in x slots (suc i) m ≡ those p (held-in set slots (suc i) m)
-          → pick (b && c) (statement slots (i * 10) ∷ held-in x slots (suc i) m) (held-in x slots (suc i) m)
-          ≡ those p (pick b (statement slots (i * 10) ∷ held-in set slots (suc i) m) (held-in set slots (suc i) m))
+      go : (b c : Bool) → p (statement slots (i * statement-words)) ≡ c → held-in x slots (suc i) m ≡ those p (held-in set slots (suc i) m)
+          → pick (b && c) (statement slots (i * statement-words) ∷ held-in x slots (suc i) m) (held-in x slots (suc i) m)
+          ≡ those p (pick b (statement slots (i * statement-words) ∷ held-in set slots (suc i) m) (held-in set slots (suc i) m))
       go true true e ih = rw e (ap (λ (c : List Statement). statement slots (i * 10) ∷ c) ih)
       go true false e ih = rw e ih
       go false c e ih = ih
@@ -77,9 +78,9 @@ module _ (p : Statement → Bool) (set : ℕ) (slots : List ℕ) where
       twice x true e = lt-ltb 0 (2 * x + 0) (omega (arith, ltb-true 0 x e))
       twice x false e = let z : 2 * x + 0 ≡ 0 = omega (arith, ltb-false 0 x e) in ap (ltb 0) z
 
-      go : (b c : Bool) → p (statement slots (i * 10)) ≡ c → ltb 0 (gathered found (suc i) m) ≡ some p (held-in set slots (suc i) m)
+      go : (b c : Bool) → p (statement slots (i * statement-words)) ≡ c → ltb 0 (gathered found (suc i) m) ≡ some p (held-in set slots (suc i) m)
           → ltb 0 (2 * gathered found (suc i) m + one-if (b && c))
-          ≡ some p (pick b (statement slots (i * 10) ∷ held-in set slots (suc i) m) (held-in set slots (suc i) m))
+          ≡ some p (pick b (statement slots (i * statement-words) ∷ held-in set slots (suc i) m) (held-in set slots (suc i) m))
       go true true e ih = rw e (lt-ltb 0 (2 * gathered found (suc i) m + 1) (omega arith))
       go true false e ih = rw e (twice (gathered found (suc i) m) _ ih)
       go false c e ih = twice (gathered found (suc i) m) _ ih
@@ -89,7 +90,7 @@ module _ (p : Statement → Bool) (set : ℕ) (slots : List ℕ) where
   scan-some = some-from sites 0
 
   -- ---- whether all are, where the scan for any statement finds them all
-  all-from : (m i : ℕ) → eqb (gathered found i m) (gathered (λ j. bit set j && such Any Any (statement slots (j * 10))) i m) ≡ every p (held-in set slots i m)
+  all-from : (m i : ℕ) → eqb (gathered found i m) (gathered (λ j. bit set j && such Any Any (statement slots (j * statement-words))) i m) ≡ every p (held-in set slots i m)
   unfolding gathered held-in every pick
   all-from zero i = refl
   all-from (suc m) i = go (bit set i) (p (statement slots (i * 10))) refl (all-from m (suc i))
@@ -101,9 +102,9 @@ module _ (p : Statement → Bool) (set : ℕ) (slots : List ℕ) where
       twice x y b true e = eq-eqb (2 * x + b) (2 * y + b) (omega (arith, eqb-true x y e))
       twice x y b false e = ne-eqb (2 * x + b) (2 * y + b) (λ z. omega (arith, eqb-false x y e))
 
-      go : (b c : Bool) → p (statement slots (i * 10)) ≡ c → eqb (gathered found (suc i) m) all ≡ every p (held-in set slots (suc i) m)
-          → eqb (2 * gathered found (suc i) m + one-if (b && c)) (2 * all + one-if (b && such Any Any (statement slots (i * 10))))
-          ≡ every p (pick b (statement slots (i * 10) ∷ held-in set slots (suc i) m) (held-in set slots (suc i) m))
+      go : (b c : Bool) → p (statement slots (i * statement-words)) ≡ c → eqb (gathered found (suc i) m) all ≡ every p (held-in set slots (suc i) m)
+          → eqb (2 * gathered found (suc i) m + one-if (b && c)) (2 * all + one-if (b && such Any Any (statement slots (i * statement-words))))
+          ≡ every p (pick b (statement slots (i * statement-words) ∷ held-in set slots (suc i) m) (held-in set slots (suc i) m))
       go true true e ih = rw e (twice (gathered found (suc i) m) all 1 _ ih)
       go true false e ih = rw e (ne-eqb (2 * gathered found (suc i) m + 0) (2 * all + 1) (λ z. omega arith))
       go false c e ih = twice (gathered found (suc i) m) all 0 _ ih
@@ -115,7 +116,7 @@ module _ (p : Statement → Bool) (set : ℕ) (slots : List ℕ) where
   -- ---- the first of them, by the lowest bit
   first-from : (m i : ℕ) → 0 < gathered found i m
       → (trailingZeros (suc m) (gathered found i m) < m)
-      × (leading p (held-in set slots i m) ≡ statement slots ((i + trailingZeros (suc m) (gathered found i m)) * 10) .value)
+      × (leading p (held-in set slots i m) ≡ statement slots ((i + trailingZeros (suc m) (gathered found i m)) * statement-words) .value)
   unfolding gathered held-in leading pick trailingZeros
   first-from zero i h = absurd (omega arith)
   first-from (suc m) i h = go (bit set i) (p (statement slots (i * 10))) refl h (first-from m (suc i))
@@ -138,8 +139,8 @@ module _ (p : Statement → Bool) (set : ℕ) (slots : List ℕ) where
           let e : i + suc (trailingZeros (suc m) rest) ≡ suc i + trailingZeros (suc m) rest = omega arith in
           rw (a, b, e) (omega (arith, r .0), r .1)
 
-      go : (b c : Bool) → p (statement slots (i * 10)) ≡ c → 0 < 2 * rest + one-if (b && c) → Rest
-          → First (2 * rest + one-if (b && c)) (pick b (statement slots (i * 10) ∷ held-in set slots (suc i) m) (held-in set slots (suc i) m))
+      go : (b c : Bool) → p (statement slots (i * statement-words)) ≡ c → 0 < 2 * rest + one-if (b && c) → Rest
+          → First (2 * rest + one-if (b && c)) (pick b (statement slots (i * statement-words) ∷ held-in set slots (suc i) m) (held-in set slots (suc i) m))
       go true true e h ih =
           let a : (2 * rest + 1) % 2 ≡ 1 = omega arith in
           let b : i + 0 ≡ i = omega arith in
@@ -148,7 +149,7 @@ module _ (p : Statement → Bool) (set : ℕ) (slots : List ℕ) where
       go false c e h ih = later ih h
 
   pub scan-first : 0 < scan p set slots
-      → (trailingZeros 32 (scan p set slots) < sites) × (leading p (held-in set slots 0 sites) ≡ statement slots (trailingZeros 32 (scan p set slots) * 10) .value)
+      → (trailingZeros 32 (scan p set slots) < sites) × (leading p (held-in set slots 0 sites) ≡ statement slots (trailingZeros 32 (scan p set slots) * statement-words) .value)
   unfolding scan
   scan-first h =
       let r = first-from sites 0 h in

@@ -15,6 +15,7 @@ use Rattle.laws.specs.Pick.{pick}
 use Rattle.laws.specs.Bools.{both}
 use Rattle.laws.specs.All.{All, all-two}
 use Rattle.laws.specs.Sets.{bit}
+use Rattle.format.specs.Numbers.{most-stations, statement-words}
 use Rattle.format.specs.Statement.{Statement, statement, written}
 use Rattle.format.specs.Laws.ReadBack.{Proper, statement-drop, statement-back}
 use Rattle.rules.specs.Rules.{Rising}
@@ -65,8 +66,8 @@ module _ (set k : ℕ) where
       where
         go : (b : Bool) → bit set i ≡ b → (c : Bool) → ltb (ones (set % 2 ^ i)) k ≡ c
             → held-in (lowest set k) slots (suc i) m ≡ take (k - ones (set % 2 ^ suc i)) (held-in set slots (suc i) m)
-            → pick (b && c) (statement slots (i * 10) ∷ held-in (lowest set k) slots (suc i) m) (held-in (lowest set k) slots (suc i) m)
-            ≡ take (k - ones (set % 2 ^ i)) (pick b (statement slots (i * 10) ∷ held-in set slots (suc i) m) (held-in set slots (suc i) m))
+            → pick (b && c) (statement slots (i * statement-words) ∷ held-in (lowest set k) slots (suc i) m) (held-in (lowest set k) slots (suc i) m)
+            ≡ take (k - ones (set % 2 ^ i)) (pick b (statement slots (i * statement-words) ∷ held-in set slots (suc i) m) (held-in set slots (suc i) m))
         go true x true y ih =
             let e : k - ones (set % 2 ^ i) ≡ suc (k - ones (set % 2 ^ suc i)) = omega (arith, ltb-true (ones (set % 2 ^ i)) k y, more-there i x) in
             rw e (ap (λ (c : List Statement). statement slots (i * 10) ∷ c) ih)
@@ -85,7 +86,7 @@ module _ (set k : ℕ) where
 -- ---- the set of the stations held
 -- each slot of the set holds a statement of its own station
 abbrev pub Own : ℕ → List ℕ → Type 0
-Own set slots = (j : ℕ) → j < sites → bit set j ≡ true → statement slots (j * 10) .station ≡ suc j
+Own set slots = (j : ℕ) → j < sites → bit set j ≡ true → statement slots (j * statement-words) .station ≡ suc j
 
 module _ (set : ℕ) (slots : List ℕ) (own : Own set slots) where
   set-from : (k i : ℕ) → i + k ≤ sites → set < 2 ^ (i + k) → set-of (held-in set slots i k) ≡ set / 2 ^ i * 2 ^ i
@@ -104,7 +105,7 @@ module _ (set : ℕ) (slots : List ℕ) (own : Own set slots) where
       from b e = ap (λ (z : ℕ). z * 2 ^ i) e ∙ add-mul (set / 2 ^ suc i * 2) b (2 ^ i)
 
       go : (b : Bool) → bit set i ≡ b → set-of (held-in set slots (suc i) k) ≡ set / 2 ^ suc i * 2 ^ suc i
-          → set-of (pick b (statement slots (i * 10) ∷ held-in set slots (suc i) k) (held-in set slots (suc i) k)) ≡ set / 2 ^ i * 2 ^ i
+          → set-of (pick b (statement slots (i * statement-words) ∷ held-in set slots (suc i) k) (held-in set slots (suc i) k)) ≡ set / 2 ^ i * 2 ^ i
       go true e ih =
           let s : statement slots (i * 10) .station - 1 ≡ i = omega (arith, own i (omega arith) e) in
           let d : set / 2 ^ i % 2 ≡ 1 = eqb-true (set / 2 ^ i % 2) 1 e in
@@ -120,7 +121,7 @@ module _ (set : ℕ) (slots : List ℕ) (own : Own set slots) where
 
 -- ---- written from a list of statements by rising station
 -- a slot of the set of statements holds one of its own station
-own-slot : (n : ℕ) (h : List Statement) → n ≤ 31 → Rising 0 h → All (Proper n) h → Own (set-of h) (slots-of h 1 sites)
+own-slot : (n : ℕ) (h : List Statement) → n ≤ most-stations → Rising 0 h → All (Proper n) h → Own (set-of h) (slots-of h 1 sites)
 own-slot n h top r a j few e =
     let f = find (λ s. (slot-of h (s .station) ≡ written s) × Proper n s) (suc j) h
     (all-two (λ s. slot-of h (s .station) ≡ written s) (Proper n) h (slot-held 0 h r) a) (sym (bit-set h r j) ∙ e) in
@@ -132,7 +133,7 @@ own-slot n h top r a j few e =
     ap (λ (s : Statement). s .station) d ∙ f .of-station
 
 -- the set of the k lowest-numbered that a test takes
-pub lowest-set : (n : ℕ) (p : Statement → Bool) (h : List Statement) (k : ℕ) → n ≤ 31 → Rising 0 h → All (Proper n) h
+pub lowest-set : (n : ℕ) (p : Statement → Bool) (h : List Statement) (k : ℕ) → n ≤ most-stations → Rising 0 h → All (Proper n) h
     → lowest (scan p (set-of h) (slots-of h 1 sites)) k ≡ set-of (take k (those p h))
 lowest-set n p h k top r a =
     sym (set-held (lowest found k) slots own (lowest-low found k))

@@ -31,9 +31,6 @@ turn d =
 mul-at : tie.Need-mul-at Inv-loop μ-loop
 mul-at c = search needs
 
-cast-at : tie.Need-cast-at Inv-loop μ-loop
-cast-at c = search needs
-
 add-end : tie.Need-add-end Inv-loop μ-loop
 add-end c = search needs
 
@@ -71,7 +68,6 @@ slot-empty-spec =
     Inv-loop
     μ-loop
     mul-at
-    cast-at
     add-end
     loop-holds
     mul-if1

@@ -7,9 +7,6 @@ use Rattle.held_fitness.proofs.slot_fits.Tie as tie
 mul-at : tie.Need-mul-at
 mul-at c = search needs
 
-cast-at : tie.Need-cast-at
-cast-at c = search needs
-
 mul-read-fields : tie.Need-mul-read-fields
 mul-read-fields c = search needs
 
@@ -48,7 +45,6 @@ slot-fits-spec =
     tie.close
     (tie.spec
     mul-at
-    cast-at
     mul-read-fields
     element-copy-out-read-fields
     read-fields-requires

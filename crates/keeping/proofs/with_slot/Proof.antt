@@ -32,4 +32,4 @@ returns-2 c = skip _ _ _ _ (c .before .if1 .left) (c .put-main .ensures)
 pub with-slot-spec : {M : Type 1} → statement M
 with-slot-spec =
     tie.close
-    (tie.spec returns sub-put-main mul-put-main cast-put-main put-main-requires returns-2)
+    (tie.spec returns sub-put-main cast-put-main mul-put-main put-main-requires returns-2)

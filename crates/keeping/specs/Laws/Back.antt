@@ -12,18 +12,20 @@ use Rattle.laws.specs.Pick.{pick}
 use Rattle.laws.specs.Bools.{both}
 use Rattle.laws.specs.Sets.{bit}
 use Rattle.laws.specs.Below.{Below}
+use Rattle.format.specs.Group.{quorum}
+use Rattle.format.specs.Numbers.{statement-words}
 use Rattle.format.specs.Words.{fields-of, formed, station-of}
 use Rattle.format.specs.Statement.{Statement, statement, statements, word-0, written}
 use Rattle.format.specs.Bundle.{all-formed, all-written}
 use Rattle.format.specs.Laws.Layout.{covered-read}
 use Rattle.certificate.specs.Laws.Parts.{parts-length}
-use Rattle.station.specs.Words.{held-in, set-of, slot-of, slots-of, group-words, sites}
+use Rattle.station.specs.Words.{held-in, set-of, slot-of, slots-of, group-words, sites, kept-words, slots-words}
 use Rattle.station.specs.Fit.{zeros, slot-fits, slots-fit}
 use Rattle.held.specs.Laws.Lowest.{Own, set-held}
 
 -- ---- a statement, and a list of them
-pub written-back : (n : ℕ) (ws : List ℕ) (at : ℕ) → Below ws → at + 10 ≤ length ws → formed n (fields-of (getD ws at 0)) ≡ true
-    → written (statement ws at) ≡ take 10 (drop at ws)
+pub written-back : (n : ℕ) (ws : List ℕ) (at : ℕ) → Below ws → at + statement-words ≤ length ws → formed n (fields-of (getD ws at 0)) ≡ true
+    → written (statement ws at) ≡ take statement-words (drop at ws)
 written-back n ws at low room f =
     let w : word-0 (statement ws at) ≡ getD ws at 0 = ap (λ (l : List ℕ). getD l 0 0) (covered-read n ws at (low at) f) in
     let e : suc at ≡ at + 1 = omega arith in
@@ -33,8 +35,8 @@ written-back n ws at low room f =
     = drop-cons ws (at + 1) 0 (omega arith) ∙ ap (λ (k : ℕ). getD ws (at + 1) 0 ∷ drop k ws) g in
     ap (λ (z : ℕ). z ∷ getD ws (at + 1) 0 ∷ take 8 (drop (at + 2) ws)) w ∙ sym (ap (take 10) (one ∙ ap (λ (l : List ℕ). getD ws at 0 ∷ l) two))
 
-pub all-back : (n : ℕ) (ws : List ℕ) → Below ws → (k at : ℕ) → at + k * 10 ≤ length ws → all-formed n ws at k ≡ true
-    → all-written (statements ws at k) ≡ take (k * 10) (drop at ws)
+pub all-back : (n : ℕ) (ws : List ℕ) → Below ws → (k at : ℕ) → at + k * statement-words ≤ length ws → all-formed n ws at k ≡ true
+    → all-written (statements ws at k) ≡ take (k * statement-words) (drop at ws)
 unfolding all-formed statements all-written
 all-back n ws low zero at room h = refl
 all-back n ws low (suc k) at room h =
@@ -55,7 +57,7 @@ zeros-back ws (suc k) at room h =
     ap (take (suc k)) (drop-cons ws at 0 (omega arith)) ∙ (λ i. z i ∷ more i)
 
 -- a group's array: k statements, and zeros behind them
-pub group-back : (n : ℕ) (ws : List ℕ) (k : ℕ) → Below ws → length ws ≡ 160 → k ≤ 16 → all-formed n ws 0 k ≡ true → zeros ws (k * 10) (160 - k * 10) ≡ true
+pub group-back : (n : ℕ) (ws : List ℕ) (k : ℕ) → Below ws → length ws ≡ kept-words → k ≤ quorum sites → all-formed n ws 0 k ≡ true → zeros ws (k * statement-words) (kept-words - k * statement-words) ≡ true
     → ws ≡ group-words (statements ws 0 k)
 group-back n ws k low long few f z =
     let front : all-written (statements ws 0 k) ≡ take (k * 10) ws = all-back n ws low k 0 (omega arith) f in
@@ -66,7 +68,7 @@ group-back n ws k low long few f z =
 
 -- ---- the set and the slots
 module _ (n question st set : ℕ) (slots : List ℕ) where
-  slot-facts : (i : ℕ) → slot-fits n question st i slots ≡ true → (formed n (fields-of (getD slots (i * 10) 0)) ≡ true) × (station-of (getD slots (i * 10) 0) ≡ i + 1)
+  slot-facts : (i : ℕ) → slot-fits n question st i slots ≡ true → (formed n (fields-of (getD slots (i * statement-words) 0)) ≡ true) × (station-of (getD slots (i * statement-words) 0) ≡ i + 1)
   slot-facts i h =
       let w = getD slots (i * 10) 0 in
       let a = both (formed n (fields-of w) && eqb (station-of w) (i + 1) && eqb (getD slots (i * 10 + 1) 0) question) _ h in
@@ -76,16 +78,16 @@ module _ (n question st set : ℕ) (slots : List ℕ) where
 
   -- what is said of one slot
   fit-at : (k i j : ℕ) → slots-fit n question st set slots i k ≡ true → i ≤ j → j < i + k
-      → pick (bit set j) (slot-fits n question st j slots) (zeros slots (j * 10) 10) ≡ true
+      → pick (bit set j) (slot-fits n question st j slots) (zeros slots (j * statement-words) statement-words) ≡ true
   unfolding slots-fit
   fit-at zero i j h lo hi = absurd (omega arith)
   fit-at (suc k) i j h lo hi =
       let a = both (pick (bit set i) (slot-fits n question st i slots) (zeros slots (i * 10) 10)) _ h in
       go (eqb j i) refl (a .0) (λ z. fit-at k (suc i) j (a .1) z (omega arith))
     where
-      go : (b : Bool) → eqb j i ≡ b → pick (bit set i) (slot-fits n question st i slots) (zeros slots (i * 10) 10) ≡ true
-          → (suc i ≤ j → pick (bit set j) (slot-fits n question st j slots) (zeros slots (j * 10) 10) ≡ true)
-          → pick (bit set j) (slot-fits n question st j slots) (zeros slots (j * 10) 10) ≡ true
+      go : (b : Bool) → eqb j i ≡ b → pick (bit set i) (slot-fits n question st i slots) (zeros slots (i * statement-words) statement-words) ≡ true
+          → (suc i ≤ j → pick (bit set j) (slot-fits n question st j slots) (zeros slots (j * statement-words) statement-words) ≡ true)
+          → pick (bit set j) (slot-fits n question st j slots) (zeros slots (j * statement-words) statement-words) ≡ true
       go true e f ih = let z : j ≡ i = eqb-true j i e in rw z f
       go false e f ih = ih (omega (arith, eqb-false j i e))
 
@@ -100,19 +102,19 @@ module _ (n question st set : ℕ) (slots : List ℕ) where
           slot-facts j f .1 ∙ omega arith
 
   -- a slot's ten words, by its bit
-  pub slot-words : (i : ℕ) → Below slots → length slots ≡ 310 → slots-fit n question st set slots 0 sites ≡ true → i < sites
-      → take 10 (drop (i * 10) slots) ≡ pick (bit set i) (written (statement slots (i * 10))) (replicate 10 0)
+  pub slot-words : (i : ℕ) → Below slots → length slots ≡ slots-words → slots-fit n question st set slots 0 sites ≡ true → i < sites
+      → take statement-words (drop (i * statement-words) slots) ≡ pick (bit set i) (written (statement slots (i * statement-words))) (replicate statement-words 0)
   unfolding pick
   slot-words i low long h few = go (bit set i) (fit-at sites 0 i h (omega arith) (omega arith))
     where
-      go : (b : Bool) → pick b (slot-fits n question st i slots) (zeros slots (i * 10) 10) ≡ true
-          → take 10 (drop (i * 10) slots) ≡ pick b (written (statement slots (i * 10))) (replicate 10 0)
+      go : (b : Bool) → pick b (slot-fits n question st i slots) (zeros slots (i * statement-words) statement-words) ≡ true
+          → take statement-words (drop (i * statement-words) slots) ≡ pick b (written (statement slots (i * statement-words))) (replicate statement-words 0)
       go true f = sym (written-back n slots (i * 10) low (omega arith) (slot-facts i f .0))
       go false f = zeros-back slots 10 (i * 10) (omega arith) f
 
 -- slots that are, one by one, the words of an array
-pub slots-are : (h : List Statement) (ws : List ℕ) (k i : ℕ) → ((j : ℕ) → i ≤ j → j < i + k → slot-of h (suc j) ≡ take 10 (drop (j * 10) ws))
-    → slots-of h (suc i) k ≡ take (k * 10) (drop (i * 10) ws)
+pub slots-are : (h : List Statement) (ws : List ℕ) (k i : ℕ) → ((j : ℕ) → i ≤ j → j < i + k → slot-of h (suc j) ≡ take statement-words (drop (j * statement-words) ws))
+    → slots-of h (suc i) k ≡ take (k * statement-words) (drop (i * statement-words) ws)
 unfolding slots-of
 slots-are h ws zero i s = refl
 slots-are h ws (suc k) i s =
@@ -124,5 +126,5 @@ slots-are h ws (suc k) i s =
     ∙ ap (λ (z : ℕ). take (k * 10) (drop z ws)) f ∙ ap (take (k * 10)) (sym (drop-drop 10 (i * 10) ws)) in
     rw (e, take-add 10 (k * 10) (drop (i * 10) ws)) (λ i. one i ++ more i)
 
-pub all-slots : (h : List Statement) (ws : List ℕ) → length ws ≡ 310 → ((j : ℕ) → j < sites → slot-of h (suc j) ≡ take 10 (drop (j * 10) ws)) → slots-of h 1 sites ≡ ws
+pub all-slots : (h : List Statement) (ws : List ℕ) → length ws ≡ slots-words → ((j : ℕ) → j < sites → slot-of h (suc j) ≡ take statement-words (drop (j * statement-words) ws)) → slots-of h 1 sites ≡ ws
 all-slots h ws long s = slots-are h ws sites 0 (λ j lo hi. s j (omega arith)) ∙ take-all 310 ws (omega arith)

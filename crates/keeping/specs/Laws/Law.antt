@@ -11,6 +11,7 @@ use borrow.Author.Tests.{eqb-true, eqb-false, eq-eqb, ne-eqb, le-leb}
 use Rattle.laws.specs.Pick.{pick, skip, not-f}
 use Rattle.laws.specs.Bools.{both, join}
 use Rattle.laws.specs.Sets.{bit}
+use Rattle.format.specs.Numbers.{most-stations, place-of, statement-words}
 use Rattle.format.specs.Group.{quorum}
 use Rattle.format.specs.Words.{fields-of, formed}
 use Rattle.format.specs.Statement.{Statement, written}
@@ -39,9 +40,9 @@ use Rattle.keeping.specs.Laws.One.{LowWords, Fit, fit-out, rising, set-s
 use Rattle.keeping.specs.Kept.{with-station, with-slot, group-from, is-lowest, taken-from, held-with, groups-with, with-bundle}
 use Rattle.keeping.specs.Laws.Parts.{set-insert, slot-insert, put-slot, group-kept, first-inserted}
 
-module _ (n number : ℕ) (t : Station) (ws : List ℕ) (top : n ≤ 31) (L : Lengths t) (A : LowWords t) (low : Below ws) (F : Fit n number t) (B : Bundle n ws)
+module _ (n number : ℕ) (t : Station) (ws : List ℕ) (top : n ≤ most-stations) (L : Lengths t) (A : LowWords t) (low : Below ws) (F : Fit n number t) (B : Bundle n ws)
     (new : held-of (main-of ws .station) (held-by t) ≡ false) where
-  formed-all : (formed n (fields-of (getD ws 1 0)) ≡ true) × (all-formed n ws 11 (count-in ws) ≡ true)
+  formed-all : (formed n (fields-of (getD ws 1 0)) ≡ true) × (all-formed n ws (place-of 1) (count-in ws) ≡ true)
   unfolding all-formed
   formed-all = both (formed n (fields-of (getD ws 1 0))) _ (B .fields)
 
@@ -51,13 +52,13 @@ module _ (n number : ℕ) (t : Station) (ws : List ℕ) (top : n ≤ 31) (L : Le
   main : Formed n (main-of ws)
   main = formed-out n (main-of ws) (formed-well n ws 1 (formed-all .0))
 
-  long : length ws ≡ 11 + count-in ws * 10
+  long : length ws ≡ place-of 1 + count-in ws * statement-words
   long = omega (arith, B .size)
 
   of-station : suc (main-of ws .station - 1) ≡ main-of ws .station
   of-station = omega (arith, main .low)
 
-  in-sites : (leb 1 (main-of ws .station) && leb (main-of ws .station) 31) ≡ true
+  in-sites : (leb 1 (main-of ws .station) && leb (main-of ws .station) most-stations) ≡ true
   in-sites = join (leb 1 (main-of ws .station)) _ (le-leb _ _ (main .low)) (le-leb (main-of ws .station) 31 (omega (arith, main .high)))
 
   -- the bit is clear, and is set
@@ -81,7 +82,7 @@ module _ (n number : ℕ) (t : Station) (ws : List ℕ) (top : n ≤ 31) (L : Le
       ∙ sym (all-slots (insert (main-of ws) (held-by t)) (paste (t .held .slots) ((main-of ws .station - 1) * 10) (drop 1 ws) 10)
       (length-paste (t .held .slots) ((main-of ws .station - 1) * 10) (drop 1 ws) 10 (omega (arith, L .slots, main .low, main .high)) ten ∙ L .slots) each)
     where
-      ten : 10 ≤ length (drop 1 ws)
+      ten : statement-words ≤ length (drop 1 ws)
       ten = rw length-drop (omega (arith, long))
 
       numbered : (j : ℕ) → eqb (main-of ws .station) (suc j) ≡ eqb (main-of ws .station - 1) j
@@ -92,7 +93,7 @@ module _ (n number : ℕ) (t : Station) (ws : List ℕ) (top : n ≤ 31) (L : Le
           go false e = ne-eqb (main-of ws .station) (suc j) (λ z. eqb-false (main-of ws .station - 1) j e (omega arith))
 
       each : (j : ℕ) → j < sites
-          → slot-of (insert (main-of ws) (held-by t)) (suc j) ≡ take 10 (drop (j * 10) (paste (t .held .slots) ((main-of ws .station - 1) * 10) (drop 1 ws) 10))
+          → slot-of (insert (main-of ws) (held-by t)) (suc j) ≡ take statement-words (drop (j * statement-words) (paste (t .held .slots) ((main-of ws .station - 1) * statement-words) (drop 1 ws) statement-words))
       each j few =
           let w : written (main-of ws) ≡ take 10 (drop 1 ws) = written-back n ws 1 low (omega (arith, long)) (formed-all .0) in
           slot-insert (main-of ws) (suc j) (held-by t) new

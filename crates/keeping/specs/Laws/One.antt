@@ -12,7 +12,7 @@ use Rattle.laws.specs.Pick.{pick}
 use Rattle.laws.specs.Bools.{both}
 use Rattle.laws.specs.All.{All, all-two}
 use Rattle.laws.specs.Sets.{bit}
-use Rattle.format.specs.Numbers.{none}
+use Rattle.format.specs.Numbers.{none, most-stations, statement-words}
 use Rattle.format.specs.Group.{quorum}
 use Rattle.format.specs.Statement.{Statement, statement, statements, written}
 use Rattle.format.specs.Bundle.{all-formed}
@@ -21,7 +21,7 @@ use Rattle.certificate.specs.Check.{every}
 use Rattle.rules.specs.Rules.{Rising, holds}
 use Rattle.station.specs.declared.Station.{Station}
 use Rattle.station.specs.Machine.{stage-step, kept-for-value, kept-for-none}
-use Rattle.station.specs.Words.{set-of, slot-of, slots-of, group-words, sites, held-by, state-of, Lengths}
+use Rattle.station.specs.Words.{set-of, slot-of, slots-of, group-words, sites, held-by, state-of, Lengths, kept-words}
 use Rattle.station.specs.Words as W
 use Rattle.station.specs.Fit.{slots-fit, stage-fits, group-fits, held-fits, rest-fits, fits}
 use Rattle.station.specs.Laws.Slots.{bit-set, slot-held}
@@ -76,7 +76,7 @@ module _ (n number : ℕ) (t : Station) (L : Lengths t) (A : LowWords t) (F : Fi
   set-same = set-back n (t .identity .question) (stage-step (t .stage)) (t .held .heard) (t .held .slots) (F .slots) (F .no-more)
 
   -- each slot has the words of its station's statement, or zeros
-  pub slot-same : (i : ℕ) → i < sites → slot-of (held-by t) (suc i) ≡ take 10 (drop (i * 10) (t .held .slots))
+  pub slot-same : (i : ℕ) → i < sites → slot-of (held-by t) (suc i) ≡ take statement-words (drop (i * statement-words) (t .held .slots))
   unfolding pick
   slot-same i few =
       go (bit (t .held .heard) i) refl
@@ -91,12 +91,12 @@ module _ (n number : ℕ) (t : Station) (L : Lengths t) (A : LowWords t) (F : Fi
           (slot-held 0 (held-by t) rising)
           (read-slots n (t .identity .question) (stage-step (t .stage)) (t .held .heard) (t .held .slots) sites 0 (omega (arith, L .slots)) (F .slots) .placed)
 
-      of : At P (suc i) → slot-of (held-by t) (suc i) ≡ written (statement (t .held .slots) (i * 10))
+      of : At P (suc i) → slot-of (held-by t) (suc i) ≡ written (statement (t .held .slots) (i * statement-words))
       of f =
           let e : (f .one .station - 1) * 10 ≡ i * 10 = omega (arith, f .of-station) in
           ap (slot-of (held-by t)) (sym (f .of-station)) ∙ f .has .0 ∙ ap written (f .has .1) ∙ ap (λ (k : ℕ). written (statement (t .held .slots) k)) e
 
-      go : (b : Bool) → bit (t .held .heard) i ≡ b → slot-of (held-by t) (suc i) ≡ pick b (written (statement (t .held .slots) (i * 10))) (replicate 10 0)
+      go : (b : Bool) → bit (t .held .heard) i ≡ b → slot-of (held-by t) (suc i) ≡ pick b (written (statement (t .held .slots) (i * statement-words))) (replicate statement-words 0)
       go true e =
           of (find P (suc i) (held-by t) all-P
           (bit-held n (t .identity .question) (stage-step (t .stage)) (t .held .heard) (t .held .slots) sites 0 i (omega (arith, L .slots)) (F .slots) (omega arith) (omega arith) e))
@@ -105,7 +105,7 @@ module _ (n number : ℕ) (t : Station) (L : Lengths t) (A : LowWords t) (F : Fi
   pub slots-same : slots-of (held-by t) 1 sites ≡ t .held .slots
   slots-same = all-slots (held-by t) (t .held .slots) (L .slots) slot-same
 
-  group-same : (g : Group) (ws : List ℕ) → Below ws → length ws ≡ 160 → g .size ≤ 16 → group-fits n (t .identity .question) g ws ≡ true
+  group-same : (g : Group) (ws : List ℕ) → Below ws → length ws ≡ kept-words → g .size ≤ quorum sites → group-fits n (t .identity .question) g ws ≡ true
       → ws ≡ group-words (statements ws 0 (g .size))
   group-same g ws low long few h =
       let c = statements ws 0 (g .size) in
@@ -113,19 +113,19 @@ module _ (n number : ℕ) (t : Station) (L : Lengths t) (A : LowWords t) (F : Fi
       let b = both (holds g c && all-formed n ws 0 (g .size)) _ (a .0) in
       group-back n ws (g .size) low long few (both (holds g c) _ (b .0) .1) (a .1)
 
-  pub for-value-same : n ≤ 31 → t .groups .value ≡ group-words (state-of t .for-value)
+  pub for-value-same : n ≤ most-stations → t .groups .value ≡ group-words (state-of t .for-value)
   unfolding state-of
   for-value-same top =
       group-same (kept-for-value n (t .stage) (held-by t)) (t .groups .value) (A .for-value) (L .for-value) (for-value-size n (t .stage) (held-by t) top) (F .for-value)
       ∙ ap (λ (k : ℕ). group-words (statements (t .groups .value) 0 (kept-for-value k (t .stage) (held-by t) .size))) (sym (F .same-n))
 
-  pub for-none-same : n ≤ 31 → t .groups .none ≡ group-words (state-of t .for-none)
+  pub for-none-same : n ≤ most-stations → t .groups .none ≡ group-words (state-of t .for-none)
   unfolding state-of
   for-none-same top =
       group-same (kept-for-none n (t .stage) (held-by t)) (t .groups .none) (A .for-none) (L .for-none) (for-none-size n (t .stage) (held-by t) top) (F .for-none)
       ∙ ap (λ (k : ℕ). group-words (statements (t .groups .none) 0 (kept-for-none k (t .stage) (held-by t) .size))) (sym (F .same-n))
 
-pub one-form : (n number : ℕ) (t : Station) → n ≤ 31 → Lengths t → LowWords t → fits n number t ≡ true → t .closed ≡ false → t ≡ W.as-station n number (state-of t)
+pub one-form : (n number : ℕ) (t : Station) → n ≤ most-stations → Lengths t → LowWords t → fits n number t ≡ true → t .closed ≡ false → t ≡ W.as-station n number (state-of t)
 unfolding state-of W.as-station
 one-form n number t top L A h shut =
     let F = fit-out n number t h shut in

@@ -12,6 +12,8 @@ use lib.Seq.{paste, drop-append-le, take-append-le, drop-at, take-at, drop-drop,
 use borrow.Author.Tests.{eqb-true, eqb-false, eq-eqb, ne-eqb, lt-ltb, le-ltb, ltb-true, ltb-false}
 use Rattle.laws.specs.Pick.{pick}
 use Rattle.laws.specs.Bools.{never, both, join}
+use Rattle.format.specs.Group.{quorum}
+use Rattle.format.specs.Numbers.{place-of, statement-words}
 use Rattle.format.specs.Words.{fields-of, formed}
 use Rattle.format.specs.Statement.{Statement, statements, written}
 use Rattle.format.specs.Bundle.{all-formed, all-written}
@@ -19,7 +21,7 @@ use Rattle.certificate.specs.Laws.Parts.{parts-take, parts-length}
 use Rattle.laws.specs.Least.{least, least-fits}
 use Rattle.rules.specs.Rules.{Rising, some}
 use Rattle.station.specs.Machine.{insert, held-of, those, takes}
-use Rattle.station.specs.Words.{set-of, slot-of, group-words}
+use Rattle.station.specs.Words.{set-of, slot-of, group-words, sites, slots-words}
 use Rattle.laws.specs.Below.{Below}
 use Rattle.keeping.specs.Laws.Back.{all-back}
 use Rattle.keeping.specs.Kept.{words-kept, group-from}
@@ -59,7 +61,7 @@ slot-insert m i (s ∷ h) e = go (ltb (m .station) (s .station)) (eqb (s .statio
         (λ z. let b = both (eqb (s .station) i) _ z in eqb-false (s .station) (m .station) x (omega (arith, eqb-true (s .station) i (b .0), eqb-true (m .station) i (b .1))))
 
 -- ten words of a list that lie in its front do not depend on what is behind the front
-front-part : (a x y : List ℕ) (k : ℕ) → k + 10 ≤ length a → take 10 (drop k (a ++ x)) ≡ take 10 (drop k (a ++ y))
+front-part : (a x y : List ℕ) (k : ℕ) → k + statement-words ≤ length a → take statement-words (drop k (a ++ x)) ≡ take statement-words (drop k (a ++ y))
 front-part a x y k h =
     let l : 10 ≤ length (drop k a) = rw length-drop (omega arith) in
     let one : (z : List ℕ) → take 10 (drop k (a ++ z)) ≡ take 10 (drop k a)
@@ -67,41 +69,41 @@ front-part a x y k h =
     one x ∙ sym (one y)
 
 -- slot j of the slots with ten words put into slot i
-pub put-slot : (d w : List ℕ) (i j : ℕ) → length d ≡ 310 → 10 ≤ length w → i < 31 → j < 31
-    → take 10 (drop (j * 10) (paste d (i * 10) w 10)) ≡ pick (eqb i j) (take 10 w) (take 10 (drop (j * 10) d))
+pub put-slot : (d w : List ℕ) (i j : ℕ) → length d ≡ slots-words → statement-words ≤ length w → i < sites → j < sites
+    → take statement-words (drop (j * statement-words) (paste d (i * statement-words) w statement-words)) ≡ pick (eqb i j) (take statement-words w) (take statement-words (drop (j * statement-words) d))
 unfolding pick
 put-slot d w i j long ten p q = go (eqb i j) refl
   where
-    front : length (take (i * 10) d) ≡ i * 10
+    front : length (take (i * statement-words) d) ≡ i * statement-words
     front = length-take-le (i * 10) d (omega arith)
 
-    together : paste d (i * 10) w 10 ≡ take (i * 10) d ++ (take 10 w ++ drop (i * 10 + 10) d)
+    together : paste d (i * statement-words) w statement-words ≡ take (i * statement-words) d ++ (take statement-words w ++ drop (i * statement-words + statement-words) d)
     together = append-assoc (take (i * 10) d) (take 10 w) (drop (i * 10 + 10) d)
 
-    same : take 10 (drop (i * 10) (paste d (i * 10) w 10)) ≡ take 10 w
+    same : take statement-words (drop (i * statement-words) (paste d (i * statement-words) w statement-words)) ≡ take statement-words w
     same =
         ap (λ (l : List ℕ). take 10 (drop (i * 10) l)) together
         ∙ ap (take 10) (drop-at (take (i * 10) d) (take 10 w ++ drop (i * 10 + 10) d) (i * 10) front)
         ∙ take-at (take 10 w) (drop (i * 10 + 10) d) 10 (length-take-le 10 w ten)
 
-    before : j < i → take 10 (drop (j * 10) (paste d (i * 10) w 10)) ≡ take 10 (drop (j * 10) d)
+    before : j < i → take statement-words (drop (j * statement-words) (paste d (i * statement-words) w statement-words)) ≡ take statement-words (drop (j * statement-words) d)
     before l =
         ap (λ (x : List ℕ). take 10 (drop (j * 10) x)) together
         ∙ front-part (take (i * 10) d) (take 10 w ++ drop (i * 10 + 10) d) (drop (i * 10) d) (j * 10) (omega (arith, front))
         ∙ ap (λ (x : List ℕ). take 10 (drop (j * 10) x)) (take-append-drop (i * 10) d)
 
-    behind : i < j → take 10 (drop (j * 10) (paste d (i * 10) w 10)) ≡ take 10 (drop (j * 10) d)
+    behind : i < j → take statement-words (drop (j * statement-words) (paste d (i * statement-words) w statement-words)) ≡ take statement-words (drop (j * statement-words) d)
     behind l =
         let r : ℕ = j * 10 - (i * 10 + 10) in
         let e : j * 10 ≡ i * 10 + 10 + (j * 10 - (i * 10 + 10)) = omega arith in
         let at : (x : List ℕ) → drop (j * 10) x ≡ drop r (drop (i * 10 + 10) x) = λ x. ap (λ (k : ℕ). drop k x) e ∙ sym (drop-drop r (i * 10 + 10) x) in
         ap (take 10) (at (paste d (i * 10) w 10) ∙ ap (drop r) (drop-paste d (i * 10) w 10 (omega arith) ten) ∙ sym (at d))
 
-    go : (b : Bool) → eqb i j ≡ b → take 10 (drop (j * 10) (paste d (i * 10) w 10)) ≡ pick b (take 10 w) (take 10 (drop (j * 10) d))
+    go : (b : Bool) → eqb i j ≡ b → take statement-words (drop (j * statement-words) (paste d (i * statement-words) w statement-words)) ≡ pick b (take statement-words w) (take statement-words (drop (j * statement-words) d))
     go true e = let z : j ≡ i = sym (eqb-true i j e) in rw z same
     go false e = apart (ltb j i) refl
       where
-        apart : (c : Bool) → ltb j i ≡ c → take 10 (drop (j * 10) (paste d (i * 10) w 10)) ≡ take 10 (drop (j * 10) d)
+        apart : (c : Bool) → ltb j i ≡ c → take statement-words (drop (j * statement-words) (paste d (i * statement-words) w statement-words)) ≡ take statement-words (drop (j * statement-words) d)
         apart true x = before (ltb-true j i x)
         apart false x = behind (omega (arith, ltb-false j i x, eqb-false i j e))
 
@@ -114,11 +116,11 @@ formed-few n ws (suc k) (suc c) at l h =
     let b = both (formed n (fields-of (getD ws at 0))) _ h in
     join (formed n (fields-of (getD ws at 0))) _ (b .0) (formed-few n ws k c (at + 10) (omega arith) (b .1))
 
-least-ten : (a b : ℕ) → least (a * 10) (b * 10) ≡ least a b * 10
+least-ten : (a b : ℕ) → least (a * statement-words) (b * statement-words) ≡ least a b * statement-words
 unfolding least pick
 least-ten a b = go (ltb (a * 10) (b * 10)) refl (ltb a b) refl
   where
-    go : (x : Bool) → ltb (a * 10) (b * 10) ≡ x → (y : Bool) → ltb a b ≡ y → pick x (a * 10) (b * 10) ≡ pick y a b * 10
+    go : (x : Bool) → ltb (a * statement-words) (b * statement-words) ≡ x → (y : Bool) → ltb a b ≡ y → pick x (a * statement-words) (b * statement-words) ≡ pick y a b * statement-words
     go true e true f = refl
     go true e false f = absurd (omega (arith, ltb-true (a * 10) (b * 10) e, ltb-false a b f))
     go false e true f = absurd (omega (arith, ltb-false (a * 10) (b * 10) e, ltb-true a b f))
@@ -133,8 +135,8 @@ least-room a b l = go (ltb a b) refl
     go false e = omega (arith, ltb-false a b e)
 
 -- the words kept of a bundle with c certificate statements are those of the first q of them
-pub group-kept : (n q c : ℕ) (ws : List ℕ) → Below ws → q ≤ 16 → length ws ≡ 11 + c * 10 → all-formed n ws 11 c ≡ true
-    → group-from q ws ≡ group-words (take q (statements ws 11 c))
+pub group-kept : (n q c : ℕ) (ws : List ℕ) → Below ws → q ≤ quorum sites → length ws ≡ place-of 1 + c * statement-words → all-formed n ws (place-of 1) c ≡ true
+    → group-from q ws ≡ group-words (take q (statements ws (place-of 1) c))
 unfolding group-from words-kept
 group-kept n q c ws low few long f =
     let in-c : least q c ≤ c = least-fits q c in

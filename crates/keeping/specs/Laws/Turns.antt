@@ -13,21 +13,23 @@ use Rattle.laws.specs.Pick.{pick}
 use Rattle.laws.specs.Bools.{both}
 use Rattle.laws.specs.Fill.{put}
 use Rattle.laws.specs.Least.{least, least-fits}
+use Rattle.station.specs.Words.{kept-words, slots-words}
+use Rattle.format.specs.Numbers.{most-stations, place-of, statement-words}
 use Rattle.rules.specs.Rules.{some}
 use Rattle.keeping.specs.Kept.{words-kept}
 
 -- a number that passed the test is a station's
-pub is-station : (s : ℕ) → not (leb 1 s && leb s 31) ≡ false → (1 ≤ s) × (s ≤ 31)
+pub is-station : (s : ℕ) → not (leb 1 s && leb s most-stations) ≡ false → (1 ≤ s) × (s ≤ most-stations)
 is-station s e = let b = both (leb 1 s) _ (not-false _ e) in (leb-true _ _ (b .0), leb-true _ _ (b .1))
 
-pub has-main : (s have : ℕ) → not (leb 1 s && leb s 31 && leb 11 have) ≡ false → (1 ≤ s) × (s ≤ 31) × (11 ≤ have)
+pub has-main : (s have : ℕ) → not (leb 1 s && leb s most-stations && leb (place-of 1) have) ≡ false → (1 ≤ s) × (s ≤ most-stations) × (place-of 1 ≤ have)
 has-main s have e =
     let a = both (leb 1 s && leb s 31) _ (not-false _ e) in
     let b = both (leb 1 s) _ (a .0) in
     (leb-true _ _ (b .0), leb-true _ _ (b .1), leb-true _ _ (a .1))
 
 -- one word more of the main statement
-pub main-turn : (slots : List ℕ) (at : ℕ) (ws : List ℕ) (i : ℕ) → length slots ≡ 310 → at + 10 ≤ 310 → 11 ≤ length ws → i < 10
+pub main-turn : (slots : List ℕ) (at : ℕ) (ws : List ℕ) (i : ℕ) → length slots ≡ slots-words → at + statement-words ≤ slots-words → place-of 1 ≤ length ws → i < statement-words
     → set (paste slots at (drop 1 ws) i) (at + i) (getD ws (1 + i) 0) ≡ paste slots at (drop 1 ws) (i + 1)
 main-turn slots at ws i long room some few =
     let l : i < length (drop 1 ws) = rw length-drop (omega arith) in
@@ -44,16 +46,16 @@ least-low a b = go (ltb a b) refl
     go true e = omega arith
     go false e = omega (arith, ltb-false a b e)
 
-pub kept-room : (q have : ℕ) → (words-kept q have ≤ 160) × (words-kept q have ≤ have - 11)
+pub kept-room : (q have : ℕ) → (words-kept q have ≤ kept-words) × (words-kept q have ≤ have - place-of 1)
 unfolding words-kept
 kept-room q have = (omega (arith, least-low (least (q * 10) 160) (have - 11), least-fits (q * 10) 160), least-fits (least (q * 10) 160) (have - 11))
 
-pub none-kept : (q have : ℕ) → have < 11 → 0 ≡ words-kept q have
+pub none-kept : (q have : ℕ) → have < place-of 1 → 0 ≡ words-kept q have
 none-kept q have h = omega (arith, kept-room q have .1)
 
 -- one certificate word more
-pub group-turn : (ws b : List ℕ) (count i : ℕ) → i < count → count ≤ 160 → count ≤ length ws - 11 → b ≡ take i (drop 11 ws) ++ replicate (160 - i) 0
-    → set b i (getD ws (11 + i) 0) ≡ take (i + 1) (drop 11 ws) ++ replicate (160 - (i + 1)) 0
+pub group-turn : (ws b : List ℕ) (count i : ℕ) → i < count → count ≤ kept-words → count ≤ length ws - place-of 1 → b ≡ take i (drop (place-of 1) ws) ++ replicate (kept-words - i) 0
+    → set b i (getD ws (place-of 1 + i) 0) ≡ take (i + 1) (drop (place-of 1) ws) ++ replicate (kept-words - (i + 1)) 0
 group-turn ws b count i h few room e =
     let l : i < length (drop 11 ws) = rw length-drop (omega arith) in
     put 160 (drop 11 ws) b i (getD ws (11 + i) 0) l (omega arith) e (sym (getD-drop 11 ws i 0))

@@ -73,9 +73,9 @@ all-of-question-spec =
     Inv-loop
     μ-loop
     loop-holds
+    cast-at
     mul-at
     add-at
-    cast-at
     mul-if1
     element-copy-out-if1
     returns

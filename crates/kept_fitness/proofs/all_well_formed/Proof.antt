@@ -74,8 +74,8 @@ all-well-formed-spec =
     Inv-loop
     μ-loop
     loop-holds
-    mul-at
     cast-at
+    mul-at
     mul-read-fields
     element-copy-out-read-fields
     read-fields-requires

@@ -84,8 +84,8 @@ in-order-spec =
     Inv-loop
     μ-loop
     loop-holds
-    mul-at
     cast-at
+    mul-at
     mul-read-fields
     element-copy-out-read-fields
     read-fields-requires

@@ -31,9 +31,6 @@ turn d =
 mul-at : tie.Need-mul-at Inv-loop μ-loop
 mul-at c = search needs
 
-cast-at : tie.Need-cast-at Inv-loop μ-loop
-cast-at c = search needs
-
 loop-holds : tie.Need-loop-holds Inv-loop μ-loop
 loop-holds c = (search needs, refl)
 
@@ -68,7 +65,6 @@ zero-behind-spec =
     Inv-loop
     μ-loop
     mul-at
-    cast-at
     loop-holds
     mul-if1
     element-copy-out-if1

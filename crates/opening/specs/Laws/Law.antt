@@ -8,7 +8,7 @@ use borrow.Author.Tests.{le-leb, ltb-true}
 use mathlib.Core.Bool.{false}
 use Rattle.laws.specs.Bools.{never}
 use Rattle.format.specs.declared.Fields.{Fields}
-use Rattle.format.specs.Numbers.{kind-INIT, D-GET, sent, none, output-words}
+use Rattle.format.specs.Numbers.{kind-INIT, D-GET, sent, none, output-words, most-stations}
 use Rattle.format.specs.Statement.{step}
 use Rattle.hmac.specs.Code.{hmac-code, hmac-eight}
 use Rattle.format.specs.Words.{step-of}
@@ -29,7 +29,7 @@ use Rattle.sending.specs.Sends.{own-fields, own-statement, lent-is, count-is, s
 use Rattle.opening.specs.Opens.{open-refusal, Passed, passed}
 
 -- an empty certificate, whatever the slots and the group hold
-no-certificate : (n : ℕ) (slots group : List ℕ) → n ≤ 31 → Certificate n [] [] slots group
+no-certificate : (n : ℕ) (slots group : List ℕ) → n ≤ most-stations → Certificate n [] [] slots group
 unfolding Rattle.format.specs.Bundle.all-written
 no-certificate n slots group top =
     record { top = top; rising = tt; proper = tt; slotted = tt; more-proper = tt; rest = group; kept = refl; few-kept = omega arith; few = omega arith }

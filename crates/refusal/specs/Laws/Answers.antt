@@ -12,6 +12,7 @@ use Rattle.laws.specs.Pick.{pick}
 use Rattle.laws.specs.Bools.{both}
 use Rattle.laws.specs.Refusals.{first-failed}
 use Rattle.laws.specs.Sets.{bit}
+use Rattle.format.specs.Numbers.{out-of-range, output-words, short-output, station-closed}
 use Rattle.format.specs.Group.{size-fits, quorum}
 use Rattle.format.specs.declared.Fields.{Fields}
 use Rattle.format.specs.Words.{fields-of, formed, of-group, spare-of, station-of}
@@ -62,15 +63,15 @@ module _ (m : Module) (t : Station) (ws : List ℕ) (coin room : ℕ) where
   words : length (replicate {A = ℕ} room 0) ≡ room
   words = length-replicate room 0
 
-  pub answer-room : room < 331 → 1 ≡ first-refusal m t ws coin room
+  pub answer-room : room < output-words → short-output ≡ first-refusal m t ws coin room
   unfolding first-refusal first-failed pick
   answer-room h = rw (words, lt-leb 331 room h)
 
-  module _ (a : 331 ≤ room) (fit : Bool) (e : fit ≡ (module-fits m && fits (m .n) (m .station) t)) where
+  module _ (a : output-words ≤ room) (fit : Bool) (e : fit ≡ (module-fits m && fits (m .n) (m .station) t)) where
     in-range : (fit && ltb coin 2) ≡ (module-fits m && ltb coin 2 && fits (m .n) (m .station) t)
     in-range = rw e (swap (module-fits m) (ltb coin 2) (fits (m .n) (m .station) t))
 
-    pub answer-range : not (fit && ltb coin 2) ≡ true → 2 ≡ first-refusal m t ws coin room
+    pub answer-range : not (fit && ltb coin 2) ≡ true → out-of-range ≡ first-refusal m t ws coin room
     unfolding first-refusal first-failed pick
     answer-range h = rw (words, le-leb 331 room a, sym in-range ∙ not-true _ h)
 
@@ -78,7 +79,7 @@ module _ (m : Module) (t : Station) (ws : List ℕ) (coin room : ℕ) where
       passed : (module-fits m && ltb coin 2 && fits (m .n) (m .station) t) ≡ true
       passed = sym in-range ∙ not-false _ p
 
-      pub answer-closed : t .closed ≡ true → 11 ≡ first-refusal m t ws coin room
+      pub answer-closed : t .closed ≡ true → station-closed ≡ first-refusal m t ws coin room
       unfolding first-refusal first-failed pick
       answer-closed h = rw (words, le-leb 331 room a, passed, h)
 

@@ -9,7 +9,7 @@ use lib.ListN.{length, take, replicate}
 use borrow.Author.Tests.{eq-eqb, ne-eqb}
 use Rattle.laws.specs.Pick.{pick, here, skip}
 use Rattle.format.specs.declared.Fields.{Fields}
-use Rattle.format.specs.Numbers.{bundle-words}
+use Rattle.format.specs.Numbers.{bundle-words, place-of, code-words}
 use Rattle.format.specs.Words.{word-of}
 use Rattle.hmac.specs.Code.{hmac-code}
 use Rattle.modules.specs.declared.Module.{Module}
@@ -31,18 +31,18 @@ count-fits lent set k = go (writable lent set (ones set) k) refl
     go false e = omega arith
 
 -- a count that is not 0 is that of a bundle, which fits the words lent
-pub main-fits : (lent set k : ℕ) → (count-after lent set k ≡ 0 → ⊥) → 11 ≤ lent
+pub main-fits : (lent set k : ℕ) → (count-after lent set k ≡ 0 → ⊥) → place-of 1 ≤ lent
 unfolding count-after pick
 main-fits lent set k h = go (writable lent set (ones set) k) refl h
   where
-    go : (b : Bool) → writable lent set (ones set) k ≡ b → (pick b (bundle-words (ones set + k)) 0 ≡ 0 → ⊥) → 11 ≤ lent
+    go : (b : Bool) → writable lent set (ones set) k ≡ b → (pick b (bundle-words (ones set + k)) 0 ≡ 0 → ⊥) → place-of 1 ≤ lent
     go true e h = let w = writable-out lent set (ones set) k e in omega (arith, w .0, w .3)
     go false e h = absurd (h refl)
 
 -- what the calls of `send` answer, put together
 pub sent-all : (m : Module) (q : ℕ) (f : Fields) (g : Stage) (d : ℕ) (slots : List ℕ) (set : ℕ) (group : List ℕ) (k : ℕ) (out : List ℕ) (w0 : ℕ) (count : ℕ)
     (t : Station) (after : Module) (xs ys : List ℕ)
-    → w0 ≡ word-of f → (count ≡ count-after (length out) set k) × (xs ≡ lent-after w0 q (replicate 8 0) slots set group k out)
+    → w0 ≡ word-of f → (count ≡ count-after (length out) set k) × (xs ≡ lent-after w0 q (replicate code-words 0) slots set group k out)
     → (after ≡ coded-after m f count xs) × (ys ≡ coded-lent m f count xs) → t ≡ sent-station m q g d (take count ys)
     → (count ≡ sent-count set k out) × (t ≡ sent-station m q g d (sent-bundle m q f slots set group k out)) × (after ≡ sent-after m q f slots set group k out)
     × (ys ≡ sent-lent m q f slots set group k out)

@@ -9,8 +9,9 @@ use lib.ListN.{length, getD, drop, length-append}
 use lib.Seq.{drop-at}
 use Rattle.laws.specs.Bools.{join}
 use Rattle.laws.specs.All.{All, all-map}
-use Rattle.format.specs.Numbers.{most-statements, bundle-words}
-use Rattle.format.specs.Group.{backing}
+use Rattle.station.specs.Words.{sites}
+use Rattle.format.specs.Numbers.{most-statements, bundle-words, least-stations, most-stations, place-of}
+use Rattle.format.specs.Group.{backing, quorum}
 use Rattle.format.specs.Words.{fields-of, formed}
 use Rattle.format.specs.Statement.{Statement, statement, statements, written, verifies}
 use Rattle.format.specs.Bundle.{count-in, main-of, certificate-of, all-formed, all-written, bundle-of}
@@ -20,7 +21,7 @@ use Rattle.station.specs.Laws.ReadBack.{statements-drop, statements-back
 use Rattle.format.specs.Laws.ReadBack.{Proper, statement-drop, statement-back, length-written, formed-back}
 use Rattle.station.specs.Laws.Sane.{all-formed-drop, all-formed-back}
 
-module _ (n : ℕ) (s : Statement) (c : List Statement) (top : n ≤ 31) (p : Proper n s) (a : All (Proper n) c) (few : length c ≤ most-statements) where
+module _ (n : ℕ) (s : Statement) (c : List Statement) (top : n ≤ most-stations) (p : Proper n s) (a : All (Proper n) c) (few : length c ≤ most-statements) where
   abbrev ws : List ℕ
   ws = (3 * 2 ^ 30 + length c) ∷ (written s ++ all-written c)
 
@@ -30,7 +31,7 @@ module _ (n : ℕ) (s : Statement) (c : List Statement) (top : n ≤ 31) (p : Pr
   pub main-is : main-of ws ≡ s
   main-is = statement-drop ws 1 ∙ statement-back n s (all-written c) top p
 
-  behind : drop 11 ws ≡ all-written c
+  behind : drop (place-of 1) ws ≡ all-written c
   behind = drop-at (written s) (all-written c) 10 (length-written n s p)
 
   pub certificate-is : certificate-of ws ≡ c
@@ -62,7 +63,7 @@ module _ (n : ℕ) (s : Statement) (c : List Statement) (top : n ≤ 31) (p : Pr
         fields = formed-in-words;
       }
 
-  pub bundle-valid : (code : List ℕ → List ℕ) → 2 ≤ n → All (λ x. x .question ≡ s .question) c → verifies code s ≡ true → All (λ x. verifies code x ≡ true) c → Backed n s c
+  pub bundle-valid : (code : List ℕ → List ℕ) → least-stations ≤ n → All (λ x. x .question ≡ s .question) c → verifies code s ≡ true → All (λ x. verifies code x ≡ true) c → Backed n s c
       → Valid code n (bundle-of s c)
   unfolding bundle-of
   bundle-valid code low q v vs b =
@@ -76,15 +77,15 @@ module _ (n : ℕ) (s : Statement) (c : List Statement) (top : n ≤ 31) (p : Pr
       }
 
 -- a certificate has at most 32 statements
-backing-few : (n v : ℕ) → n ≤ 31 → backing n v ≤ 16
+backing-few : (n v : ℕ) → n ≤ most-stations → backing n v ≤ quorum sites
 unfolding backing Rattle.laws.specs.Pick.pick
 backing-few n v h = go (eqb v 0)
   where
-    go : (b : Bool) → Rattle.laws.specs.Pick.pick b (n / 4 + 1) ((n + 2) / 4 + 1) ≤ 16
+    go : (b : Bool) → Rattle.laws.specs.Pick.pick b (n / 4 + 1) ((n + 2) / 4 + 1) ≤ quorum sites
     go true = omega arith
     go false = omega arith
 
-pub backed-few : (n : ℕ) (m : Statement) (c : List Statement) → n ≤ 31 → Backed n m c → length c ≤ most-statements
+pub backed-few : (n : ℕ) (m : Statement) (c : List Statement) → n ≤ most-stations → Backed n m c → length c ≤ most-statements
 backed-few n m c top (rule-1 k) = omega arith
 backed-few n m c top (rule-2 k r f h) = omega (arith, h .size, backing-few n (m .value) top)
 backed-few n m c top (rule-3 k r f h) = omega (arith, h .size)

@@ -14,7 +14,7 @@ use Rattle.laws.specs.Pick.{pick}
 use Rattle.laws.specs.Bools.{never, both, left, right}
 use Rattle.laws.specs.All.{All, all-map, all-two}
 use Rattle.laws.specs.Sets.{bit}
-use Rattle.format.specs.Numbers.{none, last-round}
+use Rattle.format.specs.Numbers.{none, last-round, code-words, covered-words, most-stations, statement-words}
 use Rattle.format.specs.Group.{quorum}
 use Rattle.format.specs.Words.{fields-of, formed, flag-of, station-of}
 use Rattle.format.specs.Statement.{Statement, statement, statements, well-formed, step}
@@ -29,12 +29,12 @@ use Rattle.station.specs.declared.Stage.{Stage}
 use Rattle.station.specs.declared.Stage.the-variants.{Gathering, Proposing, Voting}
 use Rattle.station.specs.declared.Station.{Station}
 use Rattle.station.specs.Machine.{stage-step, held-of, supplies-for-value, supplies-for-none, round-in, kept-for-value, kept-for-none, value-group, leading, no-group}
-use Rattle.station.specs.Words.{held-in, sites, held-by, state-of, Lengths}
+use Rattle.station.specs.Words.{held-in, sites, held-by, state-of, Lengths, kept-words}
 use Rattle.station.specs.Fit.{zeros, slot-fits, slots-fit, stage-fits, group-fits, held-fits, rest-fits, fits}
 use Rattle.format.specs.Laws.ReadBack.{Proper}
 use Rattle.station.specs.Laws.Sane.{Kept, InRounds, FlagOf, Sane}
 
-code-eight : (ws : List ℕ) (at : ℕ) → at + 10 ≤ length ws → length (take 8 (drop (at + 2) ws)) ≡ 8
+code-eight : (ws : List ℕ) (at : ℕ) → at + statement-words ≤ length ws → length (take code-words (drop (at + covered-words) ws)) ≡ code-words
 code-eight ws at h = length-take-le 8 (drop (at + 2) ws) (rw length-drop (omega arith))
 
 -- ---- the held statements
@@ -43,10 +43,10 @@ module _ (n question st set : ℕ) (slots : List ℕ) where
     pub rising : Rising i l
     pub proper : All (Proper n) l
     pub alike : All (λ s. (s .question ≡ question) × (step s ≡ st)) l
-    pub placed : All (λ s. s ≡ statement slots ((s .station - 1) * 10)) l
+    pub placed : All (λ s. s ≡ statement slots ((s .station - 1) * statement-words)) l
 
-  one-slot : (i : ℕ) → (i + 1) * 10 ≤ length slots → slot-fits n question st i slots ≡ true
-      → (Proper n (statement slots (i * 10)) × (statement slots (i * 10) .station ≡ i + 1)) × ((statement slots (i * 10) .question ≡ question) × (step (statement slots (i * 10)) ≡ st))
+  one-slot : (i : ℕ) → (i + 1) * statement-words ≤ length slots → slot-fits n question st i slots ≡ true
+      → (Proper n (statement slots (i * statement-words)) × (statement slots (i * statement-words) .station ≡ i + 1)) × ((statement slots (i * statement-words) .question ≡ question) × (step (statement slots (i * statement-words)) ≡ st))
   unfolding step
   one-slot i room h =
       let w = getD slots (i * 10) 0 in
@@ -57,7 +57,7 @@ module _ (n question st set : ℕ) (slots : List ℕ) where
         (eqb-true _ _ (b .1), eqb-true _ _ (a .1)),
       )
 
-  pub read-slots : (k i : ℕ) → (i + k) * 10 ≤ length slots → slots-fit n question st set slots i k ≡ true → Read i (held-in set slots i k)
+  pub read-slots : (k i : ℕ) → (i + k) * statement-words ≤ length slots → slots-fit n question st set slots i k ≡ true → Read i (held-in set slots i k)
   unfolding slots-fit held-in pick
   read-slots zero i room h = record { rising = tt; proper = tt; alike = tt; placed = tt }
   read-slots (suc k) i room h =
@@ -68,8 +68,8 @@ module _ (n question st set : ℕ) (slots : List ℕ) where
       lower [] r = tt
       lower (s ∷ l) r = (omega (arith, r .0), r .1)
 
-      go : (b : Bool) → pick b (slot-fits n question st i slots) (zeros slots (i * 10) 10) ≡ true → Read (suc i) (held-in set slots (suc i) k)
-          → Read i (pick b (statement slots (i * 10) ∷ held-in set slots (suc i) k) (held-in set slots (suc i) k))
+      go : (b : Bool) → pick b (slot-fits n question st i slots) (zeros slots (i * statement-words) statement-words) ≡ true → Read (suc i) (held-in set slots (suc i) k)
+          → Read i (pick b (statement slots (i * statement-words) ∷ held-in set slots (suc i) k) (held-in set slots (suc i) k))
       go false e r = record { rising = lower (held-in set slots (suc i) k) (r .rising); proper = r .proper; alike = r .alike; placed = r .placed }
       go true e r =
           let f = one-slot i (omega arith) e in
@@ -83,7 +83,7 @@ module _ (n question st set : ℕ) (slots : List ℕ) where
           }
 
   -- a station whose bit is set is among them
-  pub bit-held : (k i j : ℕ) → (i + k) * 10 ≤ length slots → slots-fit n question st set slots i k ≡ true → i ≤ j → j < i + k → bit set j ≡ true
+  pub bit-held : (k i j : ℕ) → (i + k) * statement-words ≤ length slots → slots-fit n question st set slots i k ≡ true → i ≤ j → j < i + k → bit set j ≡ true
       → held-of (suc j) (held-in set slots i k) ≡ true
   unfolding slots-fit held-in pick some
   bit-held zero i j room h lo hi e = absurd (omega arith)
@@ -91,9 +91,9 @@ module _ (n question st set : ℕ) (slots : List ℕ) where
       let a = both (pick (bit set i) (slot-fits n question st i slots) (zeros slots (i * 10) 10)) _ h in
       go (bit set i) refl (eqb j i) refl (a .0) (λ z. bit-held k (suc i) j (omega arith) (a .1) z (omega arith) e)
     where
-      go : (b : Bool) → bit set i ≡ b → (c : Bool) → eqb j i ≡ c → pick b (slot-fits n question st i slots) (zeros slots (i * 10) 10) ≡ true
+      go : (b : Bool) → bit set i ≡ b → (c : Bool) → eqb j i ≡ c → pick b (slot-fits n question st i slots) (zeros slots (i * statement-words) statement-words) ≡ true
           → (suc i ≤ j → held-of (suc j) (held-in set slots (suc i) k) ≡ true)
-          → held-of (suc j) (pick b (statement slots (i * 10) ∷ held-in set slots (suc i) k) (held-in set slots (suc i) k)) ≡ true
+          → held-of (suc j) (pick b (statement slots (i * statement-words) ∷ held-in set slots (suc i) k) (held-in set slots (suc i) k)) ≡ true
       go true x true y f ih =
           let s = one-slot i (omega arith) f in
           left (eqb (statement slots (i * 10) .station) (suc j)) _ (eq-eqb _ _ (s .0 .1 ∙ omega (arith, eqb-true j i y)))
@@ -114,17 +114,17 @@ held-count set slots (suc k) i h =
     go (bit set i) refl o (held-count set slots k (suc i) (rw e at h))
   where
     go : (b : Bool) → bit set i ≡ b → ones (set / 2 ^ i) ≡ set / 2 ^ i % 2 + ones (set / 2 ^ suc i) → length (held-in set slots (suc i) k) ≡ ones (set / 2 ^ suc i)
-        → length (pick b (statement slots (i * 10) ∷ held-in set slots (suc i) k) (held-in set slots (suc i) k)) ≡ ones (set / 2 ^ i)
+        → length (pick b (statement slots (i * statement-words) ∷ held-in set slots (suc i) k) (held-in set slots (suc i) k)) ≡ ones (set / 2 ^ i)
     go true e o ih = omega (arith, eqb-true (set / 2 ^ i % 2) 1 e)
     go false e o ih = omega (arith, eqb-false (set / 2 ^ i % 2) 1 e)
 
 -- ---- the kept groups
-pub eights : (ws : List ℕ) (k at : ℕ) → at + k * 10 ≤ length ws → All (λ s. length (s .code) ≡ 8) (statements ws at k)
+pub eights : (ws : List ℕ) (k at : ℕ) → at + k * statement-words ≤ length ws → All (λ s. length (s .code) ≡ code-words) (statements ws at k)
 unfolding statements
 eights ws zero at h = tt
 eights ws (suc k) at h = (code-eight ws at (omega arith), eights ws k (at + 10) (omega arith))
 
-kept-out : (n question : ℕ) (g : Group) (ws : List ℕ) → length ws ≡ 160 → g .size ≤ 16 → group-fits n question g ws ≡ true → Kept n question g (statements ws 0 (g .size))
+kept-out : (n question : ℕ) (g : Group) (ws : List ℕ) → length ws ≡ kept-words → g .size ≤ quorum sites → group-fits n question g ws ≡ true → Kept n question g (statements ws 0 (g .size))
 kept-out n question g ws long few h =
     let c = statements ws 0 (g .size) in
     let a = both (holds g c && all-formed n ws 0 (g .size) && every (λ s. eqb (s .question) question) c) _ h in
@@ -138,26 +138,26 @@ kept-out n question g ws long few h =
       alike = all-map (λ s e. eqb-true _ _ e) c (every-out (λ s. eqb (s .question) question) c (b .1));
     }
 
-pub for-value-size : (n : ℕ) (g : Stage) (h : List Statement) → n ≤ 31 → kept-for-value n g h .size ≤ 16
+pub for-value-size : (n : ℕ) (g : Stage) (h : List Statement) → n ≤ most-stations → kept-for-value n g h .size ≤ quorum sites
 unfolding kept-for-value pick
 for-value-size n g h top = go (some (supplies-for-value g) h) g (leading (supplies-for-value g) h)
   where
-    go : (b : Bool) (g : Stage) (v : ℕ) → pick b (value-group n g v) no-group .size ≤ 16
+    go : (b : Bool) (g : Stage) (v : ℕ) → pick b (value-group n g v) no-group .size ≤ quorum sites
     go false g v = omega arith
     go true Gathering v = omega arith
     go true (Proposing r f) v = omega arith
     go true (Voting r) v = omega arith
 
-pub for-none-size : (n : ℕ) (g : Stage) (h : List Statement) → n ≤ 31 → kept-for-none n g h .size ≤ 16
+pub for-none-size : (n : ℕ) (g : Stage) (h : List Statement) → n ≤ most-stations → kept-for-none n g h .size ≤ quorum sites
 unfolding kept-for-none pick
 for-none-size n g h top = go (some (supplies-for-none g) h)
   where
-    go : (b : Bool) → pick b (none-votes n (round-in g - 1)) no-group .size ≤ 16
+    go : (b : Bool) → pick b (none-votes n (round-in g - 1)) no-group .size ≤ quorum sites
     go false = omega arith
     go true = omega arith
 
 -- ---- the whole
-module _ (n number : ℕ) (t : Station) (top : n ≤ 31) (lo : 1 ≤ number) (hi : number ≤ n) (L : Lengths t) where
+module _ (n number : ℕ) (t : Station) (top : n ≤ most-stations) (lo : 1 ≤ number) (hi : number ≤ n) (L : Lengths t) where
   flag-out : (g : Stage) (w : ℕ) → stage-fits g w ≡ true → InRounds g × ((s : Statement) → s .flag ≡ flag-of w → FlagOf g s)
   flag-out Gathering w h = (tt, λ s e. tt)
   flag-out (Proposing r f) w h =
@@ -206,5 +206,5 @@ module _ (n number : ℕ) (t : Station) (top : n ≤ 31) (lo : 1 ≤ number) (hi
         for-none = rw same two;
       }
     where
-      own : (s : Statement) → s ≡ statement (t .held .slots) ((s .station - 1) * 10) → s .station ≡ number → s .flag ≡ flag-of (getD (t .held .slots) ((number - 1) * 10) 0)
+      own : (s : Statement) → s ≡ statement (t .held .slots) ((s .station - 1) * statement-words) → s .station ≡ number → s .flag ≡ flag-of (getD (t .held .slots) ((number - 1) * statement-words) 0)
       own s p e = ap (λ (x : Statement). x .flag) p ∙ ap (λ (k : ℕ). flag-of (getD (t .held .slots) ((k - 1) * 10) 0)) e

@@ -10,7 +10,7 @@ use borrow.Author.Tests.{eqb-false, eq-eqb}
 use Rattle.laws.specs.Pick.{pick}
 use Rattle.laws.specs.Bools.{never, join, left}
 use Rattle.laws.specs.All.{All}
-use Rattle.format.specs.Numbers.{kind-INIT, none, D-GET, last-round}
+use Rattle.format.specs.Numbers.{kind-INIT, none, D-GET, last-round, code-words, least-stations}
 use Rattle.format.specs.Group.{quorum}
 use Rattle.format.specs.Words.{step-of}
 use Rattle.format.specs.Statement.{Statement, step, statement-code}
@@ -35,7 +35,7 @@ use Rattle.station.specs.Laws.Views.{InRange, Accepted, after, decision-
 use Rattle.station.specs.Returns.{unrefused}
 
 -- ---- a station that has just sent
-module _ (n number question d : ℕ) (g : Stage) (s : Statement) (c : List Statement) (big : 2 ≤ n) (p : Proper n s) (mine : s .station ≡ number)
+module _ (n number question d : ℕ) (g : Stage) (s : Statement) (c : List Statement) (big : least-stations ≤ n) (p : Proper n s) (mine : s .station ≡ number)
     (low : 1 ≤ s .station) (asked : s .question ≡ question) (steps : step s ≡ stage-step g) (r : InRounds g) (f : FlagOf g s) (e : d ≤ none)
     (cp : All (Proper n) c) (ca : All (λ s. s .question ≡ question) c)
     (one : supplies-for-value g s ≡ true → Holds (value-group n g (s .value)) c)
@@ -132,7 +132,7 @@ module _ (n : ℕ) (k : State) (F : Full n k) (coin : ℕ) (bit : coin < 2) wher
           rw q (rw q at (proposals-backed n k F (p .0) e top coin s (rw q at a) (rw q (rw q at b)) (rw q (rw q at d)) (rw q at r)))
 
 -- ---- the returned stations
-module _ (mac : List ℕ → List ℕ → List ℕ) (eight : (key ws : List ℕ) → length (mac key ws) ≡ 8) where
+module _ (mac : List ℕ → List ℕ → List ℕ) (eight : (key ws : List ℕ) → length (mac key ws) ≡ code-words) where
   -- a statement of the module's own station is proper
   pub own-proper : (m : Module) (question kind value flag round : ℕ) → InRange m
       → Shape (own (statement-code (mac (m .key))) (m .station) question kind value flag round) → Proper (m .n) (own (statement-code (mac (m .key))) (m .station) question kind value flag round)

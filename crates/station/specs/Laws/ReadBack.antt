@@ -6,12 +6,13 @@ use native.Mathlib.Omega.{arith}
 use lib.ListN.{length, drop, length-append}
 use lib.Seq.{drop-at, drop-drop}
 use Rattle.laws.specs.All.{All}
+use Rattle.format.specs.Numbers.{most-stations, statement-words}
 use Rattle.format.specs.Statement.{Statement, statement, statements, written}
 use Rattle.format.specs.Laws.ReadBack.{Proper, length-written, statement-drop, statement-back}
 use Rattle.format.specs.Bundle.{all-written}
 
 -- a list of statements
-pub length-all : (n : ℕ) (c : List Statement) → All (Proper n) c → length (all-written c) ≡ length c * 10
+pub length-all : (n : ℕ) (c : List Statement) → All (Proper n) c → length (all-written c) ≡ length c * statement-words
 unfolding all-written
 length-all n [] h = refl
 length-all n (s ∷ c) h =
@@ -25,7 +26,7 @@ statements-drop ws at (suc k) =
     = statements-drop ws (at + 10) k ∙ ap (λ (l : List ℕ). statements l 0 k) (sym (drop-drop 10 at ws)) ∙ sym (statements-drop (drop at ws) (0 + 10) k) in
     λ i. statement-drop ws at i ∷ r i
 
-pub statements-back : (n : ℕ) (c : List Statement) (rest : List ℕ) → n ≤ 31 → All (Proper n) c → statements (all-written c ++ rest) 0 (length c) ≡ c
+pub statements-back : (n : ℕ) (c : List Statement) (rest : List ℕ) → n ≤ most-stations → All (Proper n) c → statements (all-written c ++ rest) 0 (length c) ≡ c
 unfolding statements all-written
 statements-back n [] rest top h = refl
 statements-back n (s ∷ c) rest top h =

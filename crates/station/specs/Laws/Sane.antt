@@ -14,7 +14,7 @@ use Rattle.laws.specs.Pick.{pick}
 use Rattle.laws.specs.Bools.{never, join, right}
 use Rattle.laws.specs.All.{All, all-map, all-two}
 use Rattle.laws.specs.Sets.{bit}
-use Rattle.format.specs.Numbers.{none, last-round}
+use Rattle.format.specs.Numbers.{none, last-round, most-stations, statement-words}
 use Rattle.format.specs.Group.{quorum}
 use Rattle.format.specs.Words.{fields-of, formed, kind-of, flag-of, station-of, round-of, step-of}
 use Rattle.format.specs.Statement.{Statement, statement, statements, word-0, written, step}
@@ -29,7 +29,7 @@ use Rattle.station.specs.declared.Stage.{Stage}
 use Rattle.station.specs.declared.Stage.the-variants.{Gathering, Proposing, Voting}
 use Rattle.station.specs.Machine.{State, stage-step, held-of, kept-for-value, kept-for-none}
 use Rattle.station.specs.Words as W
-use Rattle.station.specs.Words.{set-of, slot-of, slots-of, group-words, sites, held-by, state-of}
+use Rattle.station.specs.Words.{set-of, slot-of, slots-of, group-words, sites, held-by, state-of, kept-words}
 use Rattle.station.specs.Fit.{zeros, slot-fits, slots-fit, stage-fits, group-fits, fits}
 use Rattle.station.specs.Laws.ReadBack.{length-all, statements-back}
 use Rattle.format.specs.Laws.ReadBack.{Proper, formed-back, word-back, length-written}
@@ -80,12 +80,12 @@ find P j (s ∷ h) a e = go (eqb (s .station) j) refl e (find P j h (a .1))
     go false x e ih = ih e
 
 -- a slot of a station that is not held
-pub no-slot : (j : ℕ) (h : List Statement) → held-of j h ≡ false → slot-of h j ≡ replicate 10 0
+pub no-slot : (j : ℕ) (h : List Statement) → held-of j h ≡ false → slot-of h j ≡ replicate statement-words 0
 unfolding some slot-of pick
 no-slot j [] e = refl
 no-slot j (s ∷ h) e = go (eqb (s .station) j) e (no-slot j h)
   where
-    go : (b : Bool) → (b || held-of j h) ≡ false → (held-of j h ≡ false → slot-of h j ≡ replicate 10 0) → pick b (written s) (slot-of h j) ≡ replicate 10 0
+    go : (b : Bool) → (b || held-of j h) ≡ false → (held-of j h ≡ false → slot-of h j ≡ replicate statement-words 0) → pick b (written s) (slot-of h j) ≡ replicate statement-words 0
     go true e ih = never true e refl
     go false e ih = ih e
 
@@ -120,9 +120,9 @@ unfolding step
 step-is s = refl
 
 -- ---- the held statements fit
-module _ (n question st : ℕ) (h : List Statement) (top : n ≤ 31) (r : Rising 0 h) (a : All (Proper n) h)
+module _ (n question st : ℕ) (h : List Statement) (top : n ≤ most-stations) (r : Rising 0 h) (a : All (Proper n) h)
     (like : All (λ s. (s .question ≡ question) × (step s ≡ st)) h) where
-  slot-fit : (i : ℕ) → i < sites → pick (bit (set-of h) i) (slot-fits n question st i (slots-of h 1 sites)) (zeros (slots-of h 1 sites) (i * 10) 10) ≡ true
+  slot-fit : (i : ℕ) → i < sites → pick (bit (set-of h) i) (slot-fits n question st i (slots-of h 1 sites)) (zeros (slots-of h 1 sites) (i * statement-words) statement-words) ≡ true
   unfolding pick
   slot-fit i low = go (bit (set-of h) i) (sym (bit-set h r i))
     where
@@ -137,7 +137,7 @@ module _ (n question st : ℕ) (h : List Statement) (top : n ≤ 31) (r : Rising
       rest : List ℕ
       rest = slots-of h (suc (suc i)) (sites - suc i)
 
-      here : drop (i * 10) (slots-of h 1 sites) ≡ slot-of h (suc i) ++ rest
+      here : drop (i * statement-words) (slots-of h 1 sites) ≡ slot-of h (suc i) ++ rest
       here = slot-at n h i a low
 
       full : At P (suc i) → slot-fits n question st i (slots-of h 1 sites) ≡ true
@@ -156,7 +156,7 @@ module _ (n question st : ℕ) (h : List Statement) (top : n ≤ 31) (r : Rising
               (formed-back n s top (p .0 .formed)) (eq-eqb (station-of (word-0 s)) (i + 1) (b .station ∙ omega arith)) (eq-eqb (s .question) question (p .1 .1 .0))
               (eq-eqb (step-of (kind-of (word-0 s)) (round-of (word-0 s))) st (rw (b .kind, b .round) (step-is s ∙ p .1 .1 .1))))
 
-      go : (c : Bool) → held-of (suc i) h ≡ c → pick c (slot-fits n question st i (slots-of h 1 sites)) (zeros (slots-of h 1 sites) (i * 10) 10) ≡ true
+      go : (c : Bool) → held-of (suc i) h ≡ c → pick c (slot-fits n question st i (slots-of h 1 sites)) (zeros (slots-of h 1 sites) (i * statement-words) statement-words) ≡ true
       go true e = full (find P (suc i) h all-P e)
       go false e =
           zeros-drop (slots-of h 1 sites) (i * 10) 10 ∙ ap (λ (l : List ℕ). zeros l 0 10) (here ∙ ap (λ (l : List ℕ). l ++ rest) (no-slot (suc i) h e)) ∙ zero-list 10 rest
@@ -177,7 +177,7 @@ all-formed-drop n ws at (suc k) =
     = all-formed-drop n ws (at + 10) k ∙ ap (λ (l : List ℕ). all-formed n l 0 k) (sym (drop-drop 10 at ws)) ∙ sym (all-formed-drop n (drop at ws) (0 + 10) k) in
     rw (e, getD-at ws at (drop at ws) refl)
 
-pub all-formed-back : (n : ℕ) (c : List Statement) (rest : List ℕ) → n ≤ 31 → All (Proper n) c → all-formed n (all-written c ++ rest) 0 (length c) ≡ true
+pub all-formed-back : (n : ℕ) (c : List Statement) (rest : List ℕ) → n ≤ most-stations → All (Proper n) c → all-formed n (all-written c ++ rest) 0 (length c) ≡ true
 unfolding all-formed all-written
 all-formed-back n [] rest top h = refl
 all-formed-back n (s ∷ c) rest top h =
@@ -188,7 +188,7 @@ all-formed-back n (s ∷ c) rest top h =
     ∙ all-formed-back n c rest top (h .1) in
     join (formed n (fields-of (getD (written s ++ all-written c ++ rest) 0 0))) _ (formed-back n s top (h .0 .formed)) more
 
-group-ok : (n question : ℕ) (g : Group) (c : List Statement) → n ≤ 31 → Kept n question g c → group-fits n question g (group-words c) ≡ true
+group-ok : (n question : ℕ) (g : Group) (c : List Statement) → n ≤ most-stations → Kept n question g c → group-fits n question g (group-words c) ≡ true
 group-ok n question g c top k =
     let size : length c ≡ g .size = k .as-asked .size in
     let back : statements (group-words c) 0 (g .size) ≡ c
@@ -204,19 +204,19 @@ group-ok n question g c top k =
     (rw back (every-in (λ s. eqb (s .question) question) c (all-map (λ s e. eq-eqb _ _ e) c (k .alike)))))
     behind
   where
-    tail : length (all-written c) ≡ length c * 10 → zeros (group-words c) (length c * 10) (160 - length c * 10) ≡ true
+    tail : length (all-written c) ≡ length c * statement-words → zeros (group-words c) (length c * statement-words) (kept-words - length c * statement-words) ≡ true
     tail e =
         zeros-drop (group-words c) (length c * 10) (160 - length c * 10)
         ∙ ap (λ (l : List ℕ). zeros l 0 (160 - length c * 10)) (drop-at (all-written c) (replicate (160 - length c * 10) 0) (length c * 10) e ∙ sym (append-nil (replicate (160 - length c * 10) 0)))
         ∙ zero-list (160 - length c * 10) []
 
 -- ---- the words of a sane state
-module _ (n number : ℕ) (t : State) (top : n ≤ 31) (lo : 1 ≤ number) (hi : number ≤ n) (S : Sane n number t) where
+module _ (n number : ℕ) (t : State) (top : n ≤ most-stations) (lo : 1 ≤ number) (hi : number ≤ n) (S : Sane n number t) where
   pub held-read : held-by (W.as-station n number t) ≡ t .held
   unfolding W.as-station
   held-read = held-back n (t .held) top (S .rising) (S .proper)
 
-  stage-ok : stage-fits (t .stage) (getD (slots-of (t .held) 1 sites) ((number - 1) * 10) 0) ≡ true
+  stage-ok : stage-fits (t .stage) (getD (slots-of (t .held) 1 sites) ((number - 1) * statement-words) 0) ≡ true
   stage-ok = go (find P number (t .held) all-P (S .mine))
     where
       P : Statement → Type 0
@@ -233,7 +233,7 @@ module _ (n number : ℕ) (t : State) (top : n ≤ 31) (lo : 1 ≤ number) (hi :
           join (leb 1 (r .0) && leb (r .0) last-round) _ (join (leb 1 (r .0)) _ (le-leb _ _ (b .0)) (le-leb _ _ (b .1))) (eq-eqb x (flag-of w) (f ∙ sym e))
       by (Voting r) w s e b f = join (leb 1 (r .0)) _ (le-leb _ _ (b .0)) (le-leb _ _ (b .1))
 
-      at-own : (s : Statement) → s .station ≡ number → P s → stage-fits (t .stage) (getD (slots-of (t .held) 1 sites) ((number - 1) * 10) 0) ≡ true
+      at-own : (s : Statement) → s .station ≡ number → P s → stage-fits (t .stage) (getD (slots-of (t .held) 1 sites) ((number - 1) * statement-words) 0) ≡ true
       at-own s e p =
           let rest : List ℕ = slots-of (t .held) (suc (suc (number - 1))) (sites - suc (number - 1)) in
           let x : suc (number - 1) ≡ s .station = omega arith in
@@ -243,7 +243,7 @@ module _ (n number : ℕ) (t : State) (top : n ≤ 31) (lo : 1 ≤ number) (hi :
           = getD-at (slots-of (t .held) 1 sites) ((number - 1) * 10) (written s ++ rest) d in
           rw w (by (t .stage) (word-0 s) s (word-back n s top (p .1 .0 .formed) .flag) (S .rounds) (p .0 e))
 
-      go : At P number → stage-fits (t .stage) (getD (slots-of (t .held) 1 sites) ((number - 1) * 10) 0) ≡ true
+      go : At P number → stage-fits (t .stage) (getD (slots-of (t .held) 1 sites) ((number - 1) * statement-words) 0) ≡ true
       go f = at-own (f .one) (f .of-station) (f .has)
 
   pub sane-fits : fits n number (W.as-station n number t) ≡ true

@@ -14,6 +14,7 @@ use borrow.Author.Tests.{eqb-true, eqb-false, eq-eqb, ne-eqb}
 use Rattle.laws.specs.Pick.{pick}
 use Rattle.laws.specs.All.{All, all-map, all-two}
 use Rattle.laws.specs.Sets.{bit, set-same, set-other, ones-bit-set, bit-fits}
+use Rattle.format.specs.Numbers.{most-stations, statement-words}
 use Rattle.format.specs.Statement.{Statement, statement, written}
 use Rattle.format.specs.Laws.Shape.{formed-out}
 use Rattle.rules.specs.Rules.{Rising, some}
@@ -75,21 +76,21 @@ set-low k (s ∷ h) r a =
     bit-fits (set-of h) (s .station - 1) (fresh s h (r .0) (r .1) (bit-set h low)) k (omega (arith, r .0, a .0)) (set-low k h low (a .1))
 
 -- ---- the slots
-pub slot-length : (n : ℕ) (h : List Statement) (i : ℕ) → All (Proper n) h → length (slot-of h i) ≡ 10
+pub slot-length : (n : ℕ) (h : List Statement) (i : ℕ) → All (Proper n) h → length (slot-of h i) ≡ statement-words
 unfolding slot-of pick
 slot-length n [] i a = refl
 slot-length n (s ∷ h) i a = go (eqb (s .station) i) (slot-length n h i (a .1))
   where
-    go : (b : Bool) → length (slot-of h i) ≡ 10 → length (pick b (written s) (slot-of h i)) ≡ 10
+    go : (b : Bool) → length (slot-of h i) ≡ statement-words → length (pick b (written s) (slot-of h i)) ≡ statement-words
     go true ih = length-written n s (a .0)
     go false ih = ih
 
-pub slots-length : (n : ℕ) (h : List Statement) (i k : ℕ) → All (Proper n) h → length (slots-of h i k) ≡ k * 10
+pub slots-length : (n : ℕ) (h : List Statement) (i k : ℕ) → All (Proper n) h → length (slots-of h i k) ≡ k * statement-words
 unfolding slots-of
 slots-length n h i zero a = refl
 slots-length n h i (suc k) a = length-append (slot-of h i) (slots-of h (suc i) k) ∙ omega (arith, slot-length n h i a, slots-length n h (suc i) k a)
 
-pub slots-drop : (n : ℕ) (h : List Statement) (j i k : ℕ) → All (Proper n) h → drop (j * 10) (slots-of h i (j + k)) ≡ slots-of h (i + j) k
+pub slots-drop : (n : ℕ) (h : List Statement) (j i k : ℕ) → All (Proper n) h → drop (j * statement-words) (slots-of h i (j + k)) ≡ slots-of h (i + j) k
 unfolding slots-of
 slots-drop n h zero i k a = rw (zero-add, add-zero)
 slots-drop n h (suc j) i k a =
@@ -100,7 +101,7 @@ slots-drop n h (suc j) i k a =
     (ap (drop (j * 10)) (drop-at (slot-of h i) (slots-of h (suc i) (j + k)) 10 (slot-length n h i a)) ∙ slots-drop n h j (suc i) k a)
 
 -- slot j begins with station j + 1's words
-pub slot-at : (n : ℕ) (h : List Statement) (j : ℕ) → All (Proper n) h → j < sites → drop (j * 10) (slots-of h 1 sites) ≡ slot-of h (suc j) ++ slots-of h (suc (suc j)) (sites - suc j)
+pub slot-at : (n : ℕ) (h : List Statement) (j : ℕ) → All (Proper n) h → j < sites → drop (j * statement-words) (slots-of h 1 sites) ≡ slot-of h (suc j) ++ slots-of h (suc (suc j)) (sites - suc j)
 unfolding slots-of
 slot-at n h j a low =
     let e : sites ≡ j + suc (sites - suc j) = omega arith in
@@ -119,7 +120,7 @@ slot-held a (s ∷ h) r = (
 
 -- ---- reading the slots
 collect : (set : ℕ) (slots : List ℕ) (k i : ℕ) (h : List Statement) → Rising i h → All (λ s. s .station ≤ i + k) h
-    → ((j : ℕ) → i ≤ j → bit set j ≡ held-of (suc j) h) → All (λ s. statement slots ((s .station - 1) * 10) ≡ s) h → held-in set slots i k ≡ h
+    → ((j : ℕ) → i ≤ j → bit set j ≡ held-of (suc j) h) → All (λ s. statement slots ((s .station - 1) * statement-words) ≡ s) h → held-in set slots i k ≡ h
 unfolding held-in pick some
 collect set slots zero i [] r a b w = refl
 collect set slots zero i (s ∷ h) r a b w = absurd (omega (arith, r .0, a .0))
@@ -131,7 +132,7 @@ collect set slots (suc k) i (s ∷ h) r a b w = go (eqb (s .station) (suc i)) re
         → ((j : ℕ) → suc i ≤ j → bit set j ≡ held-of (suc j) l) → All (λ s. statement slots ((s .station - 1) * 10) ≡ s) l → held-in set slots (suc i) k ≡ l
 
     go : (c : Bool) → eqb (s .station) (suc i) ≡ c → Rest
-        → pick (bit set i) (statement slots (i * 10) ∷ held-in set slots (suc i) k) (held-in set slots (suc i) k) ≡ s ∷ h
+        → pick (bit set i) (statement slots (i * statement-words) ∷ held-in set slots (suc i) k) (held-in set slots (suc i) k) ≡ s ∷ h
     go true e ih =
         let x : s .station ≡ suc i = eqb-true _ _ e in
         let y : bit set i ≡ true = b i (omega arith) ∙ rw e in
@@ -146,14 +147,14 @@ collect set slots (suc k) i (s ∷ h) r a b w = go (eqb (s .station) (suc i)) re
         let y : bit set i ≡ false = b i (omega arith) ∙ below-not-held (suc i) (suc i) (s ∷ h) (x, r .1) (omega arith) in
         rw y (ih (s ∷ h) (x, r .1) (all-map (λ t z. omega arith) (s ∷ h) a) (λ j z. b j (omega arith)) w)
 
-pub held-back : (n : ℕ) (h : List Statement) → n ≤ 31 → Rising 0 h → All (Proper n) h → held-in (set-of h) (slots-of h 1 sites) 0 sites ≡ h
+pub held-back : (n : ℕ) (h : List Statement) → n ≤ most-stations → Rising 0 h → All (Proper n) h → held-in (set-of h) (slots-of h 1 sites) 0 sites ≡ h
 held-back n h top r a =
     collect (set-of h) (slots-of h 1 sites) sites 0 h r (all-map (λ s p. omega (arith, formed-out n s (p .formed) .high)) h a)
     (λ j e. bit-set h r j)
     (all-map at h (all-two (λ s. 0 < s .station) (λ s. Proper n s × (slot-of h (s .station) ≡ written s)) h (rising-above 0 h r)
     (all-two (Proper n) (λ s. slot-of h (s .station) ≡ written s) h a (slot-held 0 h r))))
   where
-    at : (s : Statement) → (0 < s .station) × (Proper n s × (slot-of h (s .station) ≡ written s)) → statement (slots-of h 1 sites) ((s .station - 1) * 10) ≡ s
+    at : (s : Statement) → (0 < s .station) × (Proper n s × (slot-of h (s .station) ≡ written s)) → statement (slots-of h 1 sites) ((s .station - 1) * statement-words) ≡ s
     at s p =
         let j : ℕ = s .station - 1 in
         let e : suc (s .station - 1) ≡ s .station = omega (arith, p .0) in

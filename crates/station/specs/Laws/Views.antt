@@ -11,7 +11,7 @@ use Rattle.laws.specs.Pick.{pick}
 use Rattle.laws.specs.Bools.{both}
 use Rattle.laws.specs.Refusals.{Test, test, first-failed, all-passed, failed-one, passed-until}
 use Rattle.laws.specs.All.{All, all-map, all-two}
-use Rattle.format.specs.Numbers.{kind-INIT, none, D-GET, kept, sent, sent-decided, closed-now, output-words, conflicting, not-above, last-round}
+use Rattle.format.specs.Numbers.{kind-INIT, none, D-GET, kept, sent, sent-decided, closed-now, output-words, conflicting, not-above, last-round, least-stations, most-stations}
 use Rattle.format.specs.Group.{size-fits, quorum}
 use Rattle.format.specs.Statement.{Statement, statements, well-formed, verifies, step, statement-code}
 use Rattle.format.specs.Bundle.{count-in, main-of, certificate-of}
@@ -41,8 +41,8 @@ use Rattle.station.specs.Laws.End.{Full, full-grown}
 
 -- a module in range
 pub record InRange (m : Module) : Type 0 where
-  pub at-least-2 : 2 ≤ m .n
-  pub at-most-31 : m .n ≤ 31
+  pub at-least-2 : least-stations ≤ m .n
+  pub at-most-31 : m .n ≤ most-stations
   pub low : 1 ≤ m .station
   pub high : m .station ≤ m .n
 

@@ -1,5 +1,5 @@
 -- Words read back as the station that was written, and a station written back as the words that were read.
-use Prim.Native.Nat.{ℕ, zero, suc, _≤_, _<_}
+use Prim.Native.Nat.{ℕ, zero, suc, _+_, _≤_, _<_}
 use mathlib.Core.Bool.{Bool, true, false, _&&_, _||_}
 use mathlib.Core.List.{List, [], _∷_, _++_, append-assoc}
 use mathlib.Core.Path.{_≡_, refl, sym, ap, _∙_}
@@ -14,13 +14,13 @@ use Rattle.station.specs.declared.Stage.{Stage}
 use Rattle.station.specs.declared.Stage.the-variants.{Gathering, Proposing, Voting}
 use Rattle.station.specs.declared.Station.{Station}
 use Rattle.station.specs.Words.{Lengths, slots-words, kept-words}
-use Rattle.station_words.specs.Words.{slots-at, value-at, none-at, station-words, stage-words, closed-word, settings-of, sets-of, statements-of, words-of, is-stage, is-station, stage-in, part, station-in, flag-fits}
+use Rattle.station_words.specs.Words.{stage-at, closed-at, decision-at, heard-at, slots-at, value-at, none-at, station-words, stage-words, closed-word, settings-of, sets-of, statements-of, words-of, is-stage, is-station, stage-in, part, station-in, flag-fits}
 
 -- ---- the head: eight settings and the set
 abbrev head : ℕ → ℕ → ℕ → Stage → Bool → ℕ → ℕ → List ℕ
 head n number question g c d h = (n ∷ number ∷ question ∷ (stage-words g ++ (closed-word c ∷ d ∷ []))) ++ (h ∷ [])
 
-pub head-length : (n number question : ℕ) (g : Stage) (c : Bool) (d h : ℕ) → length (head n number question g c d h) ≡ 9
+pub head-length : (n number question : ℕ) (g : Stage) (c : Bool) (d h : ℕ) → length (head n number question g c d h) ≡ slots-at
 unfolding stage-words
 head-length n number question Gathering c d h = refl
 head-length n number question (Proposing r f) c d h = refl
@@ -31,11 +31,11 @@ record Heads (n number question : ℕ) (g : Stage) (c : Bool) (d h : ℕ) (ws : 
   at-0 : getD ws 0 0 ≡ n
   at-1 : getD ws 1 0 ≡ number
   at-2 : getD ws 2 0 ≡ question
-  stage : stage-in (getD ws 3 0) (getD ws 4 0) (getD ws 5 0) ≡ g
-  staged : is-stage (getD ws 3 0) (getD ws 4 0) (getD ws 5 0) ≡ true
-  at-6 : getD ws 6 0 ≡ closed-word c
-  at-7 : getD ws 7 0 ≡ d
-  at-8 : getD ws 8 0 ≡ h
+  stage : stage-in (getD ws stage-at 0) (getD ws (stage-at + 1) 0) (getD ws (stage-at + 2) 0) ≡ g
+  staged : is-stage (getD ws stage-at 0) (getD ws (stage-at + 1) 0) (getD ws (stage-at + 2) 0) ≡ true
+  at-6 : getD ws closed-at 0 ≡ closed-word c
+  at-7 : getD ws decision-at 0 ≡ d
+  at-8 : getD ws heard-at 0 ≡ h
 
 below-2 : (f : ℕ) → ltb f 2 ≡ true → leb f 1 ≡ true
 below-2 f e = let l : f < 2 = ltb-true f 2 e in le-leb f 1 (omega arith)
@@ -183,7 +183,7 @@ module _ (ws : List ℕ) (is : is-station ws ≡ true) where
   unfolding is-station
   long = eqb-true (length ws) station-words (both (eqb (length ws) station-words) _ is .0)
 
-  tests : (is-stage (getD ws 3 0) (getD ws 4 0) (getD ws 5 0) ≡ true) × (leb (getD ws 6 0) 1 ≡ true)
+  tests : (is-stage (getD ws stage-at 0) (getD ws (stage-at + 1) 0) (getD ws (stage-at + 2) 0) ≡ true) × (leb (getD ws closed-at 0) 1 ≡ true)
   unfolding is-station
   tests = both (is-stage (getD ws 3 0) (getD ws 4 0) (getD ws 5 0)) _ (both (eqb (length ws) station-words) _ is .1)
 
@@ -201,7 +201,7 @@ module _ (ws : List ℕ) (is : is-station ws ≡ true) where
       ∙ ap (λ (x : List ℕ). getD ws 7 0 ∷ x) (drop-cons ws 8 0 (omega (arith, long))))))))))
 
   -- the statements behind them
-  statements-again : part slots-at slots-words ws ++ part value-at kept-words ws ++ part none-at kept-words ws ≡ drop 9 ws
+  statements-again : part slots-at slots-words ws ++ part value-at kept-words ws ++ part none-at kept-words ws ≡ drop slots-at ws
   unfolding part
   statements-again =
       let d : length (drop 479 ws) ≤ 160 = rw length-drop (omega (arith, long)) in

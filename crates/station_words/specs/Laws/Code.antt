@@ -10,12 +10,13 @@ use lib.Seq.{length-take-le}
 use borrow.Author.Tests.{eqb-true, eq-eqb, ne-eqb, le-leb, leb-true, not-true, not-false}
 use Rattle.laws.specs.Pick.{pick, here, skip}
 use Rattle.laws.specs.Bools.{both}
+use Rattle.format.specs.Numbers.{malformed}
 use Rattle.station.specs.declared.Stage.{Stage}
 use Rattle.station.specs.declared.Stage.the-variants.{Gathering, Proposing, Voting}
 use Rattle.station.specs.declared.Station.{Station}
 use Rattle.format.specs.Bundle.{over}
 use Rattle.station.specs.Calls.{no-station}
-use Rattle.station_words.specs.Words.{station-words, stage-at, closed-at, stage-words, closed-word, settings-of, sets-of, statements-of, words-of, is-stage, is-station, part, station-in, flag-fits, refusal, reading, writing, Writing, Wrote}
+use Rattle.station_words.specs.Words.{station-words, slots-at, stage-at, closed-at, stage-words, closed-word, settings-of, sets-of, statements-of, words-of, is-stage, is-station, part, station-in, flag-fits, refusal, reading, writing, Writing, Wrote}
 use Rattle.station_words.specs.Laws.Put.{put-at, put-whole}
 use Rattle.station_words.specs.Laws.Back.{head-length}
 
@@ -74,7 +75,7 @@ head-is t g c g-is c-is =
     (ap (λ (x : List ℕ). t .identity .n ∷ t .identity .station ∷ t .identity .question ∷ x) (three (t .stage) (closed-word (t .closed)) (t .decision) (t .held .heard)))
 
 -- ---- the words, part by part
-pub head-words : (t : Station) → length (settings-of t ++ sets-of t) ≡ 9
+pub head-words : (t : Station) → length (settings-of t ++ sets-of t) ≡ slots-at
 unfolding settings-of sets-of
 head-words t = head-length (t .identity .n) (t .identity .station) (t .identity .question) (t .stage) (t .closed) (t .decision) (t .held .heard)
 
@@ -91,7 +92,7 @@ words-put t out words xs e xs-are =
     xs-are ∙ ap (λ (x : List ℕ). over (x ++ b ++ c ++ d) out) e ∙ ap (λ (x : List ℕ). over x out) w
 
 -- ---- the calls
-pub read-none : (ws : List ℕ) (b : Bool) (t : Station) → b ≡ is-station ws → not b ≡ true → t ≡ no-station → record { number = 3; station = t } ≡ reading ws
+pub read-none : (ws : List ℕ) (b : Bool) (t : Station) → b ≡ is-station ws → not b ≡ true → t ≡ no-station → record { number = malformed; station = t } ≡ reading ws
 unfolding reading
 read-none ws b t b-is e t-is = (λ i. record { number = 3; station = t-is i }) ∙ skip (is-station ws) _ _ _ (sym b-is ∙ not-true b e) refl
 

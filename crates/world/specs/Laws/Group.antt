@@ -19,7 +19,7 @@ use Rattle.station.specs.Calls.{Returned, no-station, opening, giving}
 use Rattle.station.specs.Answers.{Answers}
 use Rattle.world.specs.declared.Bundle.{Bundle}
 use Rattle.world.specs.declared.World.{World}
-use Rattle.world.specs.Valley.{no-bundle, group-of, at-number, module-at, station-at, bundle-at, the-question, the-output, opens, after, shown-step, shown-decision, is-open, gives}
+use Rattle.world.specs.Valley.{most-n, most-bundles, no-bundle, group-of, at-number, module-at, station-at, bundle-at, the-question, the-output, opens, after, shown-step, shown-decision, is-open, gives}
 use Rattle.world.specs.Group.{shorter}
 
 pub answered : (x : Returned) (number count : ℕ) (t : Station) (m : Module) (lent : List ℕ) → Answers x number count t m lent
@@ -42,7 +42,7 @@ gives-are w s k coin m t b x m-is t-is b-is x-is =
 
 -- ---- the group
 pub group-is : (n : ℕ) (modules : List Module) (t : Station) (b : Bundle) → modules ≡ group-of n .modules → t ≡ no-station → b ≡ no-bundle
-    → _≡_ {A = World} (record { modules = modules; stations = replicate 7 t; written = 0; bundles = replicate 40 b }) (group-of n)
+    → _≡_ {A = World} (record { modules = modules; stations = replicate most-n t; written = 0; bundles = replicate most-bundles b }) (group-of n)
 unfolding group-of
 group-is n modules t b m-is t-is b-is =
     λ i. record { modules = m-is i; stations = replicate 7 (t-is i); written = 0; bundles = replicate 40 (b-is i) }

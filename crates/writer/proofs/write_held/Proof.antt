@@ -104,8 +104,8 @@ write-held-spec =
     sub-write-slot
     part-write-slot-start
     part-write-slot-end
-    mul-write-slot-2
     cast-write-slot
+    mul-write-slot-2
     write-slot-requires
     add-at
     add-i

@@ -13,7 +13,8 @@ use Rattle.laws.specs.Pick.{pick, here}
 use Rattle.laws.specs.Bools.{join}
 use Rattle.laws.specs.All.{All, all-map, all-two}
 use Rattle.laws.specs.Sets.{bit}
-use Rattle.format.specs.Numbers.{bundle-words}
+use Rattle.format.specs.Group.{quorum}
+use Rattle.format.specs.Numbers.{bundle-words, code-words, most-statements, most-stations, output-words, statement-words}
 use Rattle.format.specs.Statement.{Statement, word-0, written}
 use Rattle.format.specs.Laws.Shape.{formed-out}
 use Rattle.rules.specs.Rules.{Rising, some}
@@ -48,7 +49,7 @@ part-whole n l e = part-is n 0 l l [] e (sym (append-nil l))
 -- ---- the held statements
 -- the slot of a statement's station has its words
 abbrev pub InSlot : List ℕ → Statement → Type 0
-InSlot slots s = part 10 ((s .station - 1) * 10) slots ≡ written s
+InSlot slots s = part statement-words ((s .station - 1) * statement-words) slots ≡ written s
 
 gathered : (h : ℕ) (slots : List ℕ) (k i : ℕ) (c : List Statement) → Rising i c → All (λ s. s .station ≤ i + k) c
     → ((j : ℕ) → i ≤ j → bit h j ≡ held-of (suc j) c) → All (InSlot slots) c → held-words h slots i k ≡ all-written c
@@ -63,7 +64,7 @@ gathered h slots (suc k) i (s ∷ c) r a b w = go (eqb (s .station) (suc i)) ref
         → ((j : ℕ) → suc i ≤ j → bit h j ≡ held-of (suc j) l) → All (InSlot slots) l → held-words h slots (suc i) k ≡ all-written l
 
     go : (d : Bool) → eqb (s .station) (suc i) ≡ d → Rest
-        → pick (bit h i) (part 10 (i * 10) slots ++ held-words h slots (suc i) k) (held-words h slots (suc i) k) ≡ written s ++ all-written c
+        → pick (bit h i) (part statement-words (i * statement-words) slots ++ held-words h slots (suc i) k) (held-words h slots (suc i) k) ≡ written s ++ all-written c
     go true e ih =
         let x : s .station ≡ suc i = eqb-true _ _ e in
         let y : bit h i ≡ true = b i (omega arith) ∙ rw e in
@@ -79,12 +80,12 @@ gathered h slots (suc k) i (s ∷ c) r a b w = go (eqb (s .station) (suc i)) ref
         rw y (ih (s ∷ c) (x, r .1) (all-map (λ t z. omega arith) (s ∷ c) a) (λ j z. b j (omega arith)) w)
 
 -- the set names the stations of some statements, whose slots hold them
-pub held-written : (c : List Statement) (slots : List ℕ) → Rising 0 c → All (λ s. s .station ≤ 31) c → All (InSlot slots) c
+pub held-written : (c : List Statement) (slots : List ℕ) → Rising 0 c → All (λ s. s .station ≤ most-stations) c → All (InSlot slots) c
     → held-words (set-of c) slots 0 sites ≡ all-written c
 held-written c slots r a w = gathered (set-of c) slots sites 0 c r (all-map (λ t z. omega arith) c a) (λ j e. bit-set c r j) w
 
 -- the slots of the statements held have the words of each
-pub in-slots : (n : ℕ) (h : List Statement) → n ≤ 31 → Rising 0 h → All (Proper n) h → All (InSlot (slots-of h 1 sites)) h
+pub in-slots : (n : ℕ) (h : List Statement) → n ≤ most-stations → Rising 0 h → All (Proper n) h → All (InSlot (slots-of h 1 sites)) h
 in-slots n h top r a =
     all-map at h
     (all-two (λ s. 0 < s .station) (λ s. Proper n s × (slot-of h (s .station) ≡ written s)) h (rising-above 0 h r)
@@ -100,7 +101,7 @@ in-slots n h top r a =
         (length-written n s (p .1 .0)) d
 
 -- ---- a kept group
-pub group-written : (n : ℕ) (c : List Statement) (group rest : List ℕ) → All (Proper n) c → group ≡ all-written c ++ rest → part (length c * 10) 0 group ≡ all-written c
+pub group-written : (n : ℕ) (c : List Statement) (group rest : List ℕ) → All (Proper n) c → group ≡ all-written c ++ rest → part (length c * statement-words) 0 group ≡ all-written c
 group-written n c group rest a e = part-is (length c * 10) 0 group (all-written c) rest (length-all n c a) e
 
 all-written-append : (c d : List Statement) → all-written (c ++ d) ≡ all-written c ++ all-written d
@@ -111,24 +112,24 @@ all-written-append (s ∷ c) d = ap (λ (x : List ℕ). written s ++ x) (all-wri
 -- ---- the bundle
 -- the first group stands in the slots, and the second at the front of the kept words; together they are not too many
 pub record Certificate (n : ℕ) (first second : List Statement) (slots group : List ℕ) : Type 0 where
-  pub top : n ≤ 31
+  pub top : n ≤ most-stations
   pub rising : Rising 0 first
   pub proper : All (Proper n) first
   pub slotted : All (InSlot slots) first
   pub more-proper : All (Proper n) second
   pub rest : List ℕ
   pub kept : group ≡ all-written second ++ rest
-  pub few-kept : length second ≤ 16
-  pub few : length first + length second ≤ 32
+  pub few-kept : length second ≤ quorum sites
+  pub few : length first + length second ≤ most-statements
 
 module _ (n : ℕ) (first second : List Statement) (slots group : List ℕ) (C : Certificate n first second slots group) where
-  low : All (λ s. s .station ≤ 31) first
+  low : All (λ s. s .station ≤ most-stations) first
   low = all-map (λ s p. omega (arith, formed-out n s (p .formed) .high, C .top)) first (C .proper)
 
   number : ones (set-of first) + length second ≡ length (first ++ second)
   number = omega (arith, ones-set first (C .rising), length-append first second)
 
-  pub words-bundle : (s : Statement) → length (s .code) ≡ 8
+  pub words-bundle : (s : Statement) → length (s .code) ≡ code-words
       → words-of (word-0 s) (s .question) (s .code) slots (set-of first) group (length second) ≡ bundle-of s (first ++ second)
   unfolding words-of main-words bundle-of
   words-bundle s e =
@@ -139,7 +140,7 @@ module _ (n : ℕ) (first second : List Statement) (slots group : List ℕ) (C :
       ∙ append-assoc ((3 * 2 ^ 30 + length (first ++ second)) ∷ written s) (all-written first) (all-written second)
       ∙ ap (λ (x : List ℕ). (3 * 2 ^ 30 + length (first ++ second)) ∷ (written s ++ x)) (sym (all-written-append first second))
 
-  can-write : (lent : ℕ) → 331 ≤ lent → writable lent (set-of first) (ones (set-of first)) (length second) ≡ true
+  can-write : (lent : ℕ) → output-words ≤ lent → writable lent (set-of first) (ones (set-of first)) (length second) ≡ true
   unfolding writable
   can-write lent room =
       let f : ones (set-of first) + length second ≤ 32 = omega (arith, ones-set first (C .rising), C .few) in
@@ -150,14 +151,14 @@ module _ (n : ℕ) (first second : List Statement) (slots group : List ℕ) (C :
       (le-leb (ones (set-of first) + length second) 32 f)
 
   -- the lent words and the word count, as the table of returns has them
-  pub lent-bundle : (s : Statement) → length (s .code) ≡ 8 → (out : List ℕ) → 331 ≤ length out
+  pub lent-bundle : (s : Statement) → length (s .code) ≡ code-words → (out : List ℕ) → output-words ≤ length out
       → lent-after (word-0 s) (s .question) (s .code) slots (set-of first) group (length second) out ≡ over (bundle-of s (first ++ second)) out
   unfolding lent-after
   lent-bundle s e out room =
       sym (here (writable (length out) (set-of first) (ones (set-of first)) (length second)) _ _ (can-write (length out) room))
       ∙ ap (λ (x : List ℕ). over x out) (words-bundle s e)
 
-  pub count-bundle : (lent : ℕ) → 331 ≤ lent → count-after lent (set-of first) (length second) ≡ bundle-words (length (first ++ second))
+  pub count-bundle : (lent : ℕ) → output-words ≤ lent → count-after lent (set-of first) (length second) ≡ bundle-words (length (first ++ second))
   unfolding count-after
   count-bundle lent room =
       sym (here (writable lent (set-of first) (ones (set-of first)) (length second)) _ _ (can-write lent room)) ∙ ap bundle-words number
@@ -167,10 +168,10 @@ pub alone : (c : List Statement) → [] ++ c ≡ c ++ []
 alone c = sym (append-nil c)
 
 -- ---- the certificates that a station writes
-module _ (n : ℕ) (h : List Statement) (top : n ≤ 31) (r : Rising 0 h) (a : All (Proper n) h) (second : List Statement) (b : All (Proper n) second)
-    (few : length second ≤ 16) where
+module _ (n : ℕ) (h : List Statement) (top : n ≤ most-stations) (r : Rising 0 h) (a : All (Proper n) h) (second : List Statement) (b : All (Proper n) second)
+    (few : length second ≤ quorum sites) where
   -- the statements held, and a kept group behind them
-  pub all-held : length h + length second ≤ 32 → Certificate n h second (slots-of h 1 sites) (group-words second)
+  pub all-held : length h + length second ≤ most-statements → Certificate n h second (slots-of h 1 sites) (group-words second)
   all-held most =
       record {
         top = top;
@@ -185,7 +186,7 @@ module _ (n : ℕ) (h : List Statement) (top : n ≤ 31) (r : Rising 0 h) (a : A
       }
 
   -- the first k of the statements held that a test takes, and a kept group behind them
-  pub some-held : (k : ℕ) (p : Statement → Bool) → length (take k (those p h)) + length second ≤ 32
+  pub some-held : (k : ℕ) (p : Statement → Bool) → length (take k (those p h)) + length second ≤ most-statements
       → Certificate n (take k (those p h)) second (slots-of h 1 sites) (group-words second)
   some-held k p most =
       record {

@@ -16,7 +16,9 @@ use native.Mathlib.Omega.{arith}
 use Rattle.laws.specs.Pick.{pick, here, skip}
 use Rattle.laws.specs.Bools.{both, never}
 use Rattle.laws.specs.Sets.{bit}
-use Rattle.format.specs.Numbers.{bundle-words}
+use Rattle.format.specs.Group.{quorum}
+use Rattle.format.specs.Bundle.{head-mark, mark-bit}
+use Rattle.format.specs.Numbers.{bundle-words, code-words, most-statements, output-words, place-of, statement-words}
 use Rattle.station.specs.Words.{sites}
 use Rattle.writer.specs.Written.{laid, part, held-words, main-words, words-of, writable, lent-after, count-after}
 
@@ -70,24 +72,24 @@ part-turn i at l out h = rw (add-one i) (laid-snoc (part i at l) (getD l (at + i
 -- ---- the slots of a set
 module _ (h : ℕ) (slots : List ℕ) where
   -- one slot more, at the end
-  held-snoc : (k i : ℕ) → held-words h slots i (suc k) ≡ held-words h slots i k ++ pick (bit h (i + k)) (part 10 ((i + k) * 10) slots) []
+  held-snoc : (k i : ℕ) → held-words h slots i (suc k) ≡ held-words h slots i k ++ pick (bit h (i + k)) (part statement-words ((i + k) * statement-words) slots) []
   unfolding held-words pick
   held-snoc zero i = rw (add-zero i) (go (bit h i))
     where
-      go : (b : Bool) → pick b (part 10 (i * 10) slots ++ []) [] ≡ [] ++ pick b (part 10 (i * 10) slots) []
+      go : (b : Bool) → pick b (part statement-words (i * statement-words) slots ++ []) [] ≡ [] ++ pick b (part statement-words (i * statement-words) slots) []
       go true = append-nil _
       go false = refl
   held-snoc (suc k) i =
       let e : i + suc k ≡ suc i + k = omega arith in
       rw e (go (bit h i) (held-snoc k (suc i)))
     where
-      go : (b : Bool) → held-words h slots (suc i) (suc k) ≡ held-words h slots (suc i) k ++ pick (bit h (suc i + k)) (part 10 ((suc i + k) * 10) slots) []
-          → pick b (part 10 (i * 10) slots ++ held-words h slots (suc i) (suc k)) (held-words h slots (suc i) (suc k))
-          ≡ pick b (part 10 (i * 10) slots ++ held-words h slots (suc i) k) (held-words h slots (suc i) k) ++ pick (bit h (suc i + k)) (part 10 ((suc i + k) * 10) slots) []
+      go : (b : Bool) → held-words h slots (suc i) (suc k) ≡ held-words h slots (suc i) k ++ pick (bit h (suc i + k)) (part statement-words ((suc i + k) * statement-words) slots) []
+          → pick b (part statement-words (i * statement-words) slots ++ held-words h slots (suc i) (suc k)) (held-words h slots (suc i) (suc k))
+          ≡ pick b (part statement-words (i * statement-words) slots ++ held-words h slots (suc i) k) (held-words h slots (suc i) k) ++ pick (bit h (suc i + k)) (part statement-words ((suc i + k) * statement-words) slots) []
       go true ih = rw ih (sym (append-assoc (part 10 (i * 10) slots) (held-words h slots (suc i) k) _))
       go false ih = ih
 
-  pub held-in-turn : (k : ℕ) → bit h k ≡ true → held-words h slots 0 (k + 1) ≡ held-words h slots 0 k ++ part 10 (k * 10) slots
+  pub held-in-turn : (k : ℕ) → bit h k ≡ true → held-words h slots 0 (k + 1) ≡ held-words h slots 0 k ++ part statement-words (k * statement-words) slots
   held-in-turn k e =
       let z : 0 + k ≡ k = omega arith in
       rw (add-one k) ((rw z at (held-snoc k 0)) ∙ ap (λ (x : List ℕ). held-words h slots 0 k ++ x) (sym (here (bit h k) _ _ e)))
@@ -98,7 +100,7 @@ module _ (h : ℕ) (slots : List ℕ) where
       rw (add-one k)
       ((rw z at (held-snoc k 0)) ∙ ap (λ (x : List ℕ). held-words h slots 0 k ++ x) (sym (skip (bit h k) _ [] [] e refl)) ∙ append-nil (held-words h slots 0 k))
 
-  pub held-longer : (k at : ℕ) → bit h k ≡ true → at ≡ length (held-words h slots 0 k) → at + 10 ≡ length (held-words h slots 0 (k + 1))
+  pub held-longer : (k at : ℕ) → bit h k ≡ true → at ≡ length (held-words h slots 0 k) → at + statement-words ≡ length (held-words h slots 0 (k + 1))
   held-longer k at e l =
       sym (ap length (held-in-turn k e) ∙ length-append (held-words h slots 0 k) (part 10 (k * 10) slots) ∙ omega (arith, length-part 10 (k * 10) slots))
 
@@ -113,7 +115,7 @@ digit-more h k =
     let e : h % 2 ^ suc k ≡ (h / 2 ^ k % 2) * 2 ^ k + h % 2 ^ k = rw (one-add k) at m in
     ap ones e ∙ ones-cat k (h / 2 ^ k % 2) (h % 2 ^ k) (mod-lt h (pow-pos k))
 
-slot-ones : (h k : ℕ) (l : List ℕ) (b : Bool) → bit h k ≡ b → length (pick (bit h k) (part 10 (k * 10) l) []) ≡ ones (h / 2 ^ k % 2) * 10
+slot-ones : (h k : ℕ) (l : List ℕ) (b : Bool) → bit h k ≡ b → length (pick (bit h k) (part statement-words (k * statement-words) l) []) ≡ ones (h / 2 ^ k % 2) * statement-words
 slot-ones h k l true e =
     let d : h / 2 ^ k % 2 ≡ 1 = eqb-true (h / 2 ^ k % 2) 1 e in
     ap length (sym (here (bit h k) (part 10 (k * 10) l) [] e)) ∙ length-part 10 (k * 10) l ∙ rw d (omega (arith, ones-ones 1))
@@ -121,7 +123,7 @@ slot-ones h k l false e =
     let d : h / 2 ^ k % 2 ≡ 0 = omega (arith, eqb-false (h / 2 ^ k % 2) 1 e) in
     ap length (sym (skip (bit h k) (part 10 (k * 10) l) [] [] e refl)) ∙ rw d (omega (arith, ones-ones 0))
 
-held-ones : (h : ℕ) (l : List ℕ) (k : ℕ) → length (held-words h l 0 k) ≡ ones (h % 2 ^ k) * 10
+held-ones : (h : ℕ) (l : List ℕ) (k : ℕ) → length (held-words h l 0 k) ≡ ones (h % 2 ^ k) * statement-words
 unfolding held-words
 held-ones h l zero =
     let z : h % 2 ^ 0 ≡ 0 = omega (arith, mod-lt h (pow-pos 0)) in
@@ -132,36 +134,36 @@ held-ones h l (suc k) =
     ∙ length-append (held-words h l 0 k) (pick (bit h k) (part 10 (k * 10) l) [])
     ∙ omega (arith, held-ones h l k, slot-ones h k l (bit h k) refl, digit-more h k)
 
-pub held-length : (h : ℕ) (l : List ℕ) → h < 2 ^ sites → length (held-words h l 0 sites) ≡ ones h * 10
+pub held-length : (h : ℕ) (l : List ℕ) → h < 2 ^ sites → length (held-words h l 0 sites) ≡ ones h * statement-words
 held-length h l low = held-ones h l sites ∙ ap (λ (x : ℕ). ones x * 10) (mod-eq-of-lt low)
 
 -- ---- the main statement
-pub main-begin : (count w0 question : ℕ) (out : List ℕ) → 11 ≤ length out
-    → set (set (set out 0 (3 * 2 ^ 30 + count)) 1 w0) 2 question ≡ laid ((3 * 2 ^ 30 + count) ∷ w0 ∷ question ∷ []) out
+pub main-begin : (count w0 question : ℕ) (out : List ℕ) → place-of 1 ≤ length out
+    → set (set (set out 0 (head-mark * 2 ^ mark-bit + count)) 1 w0) 2 question ≡ laid ((head-mark * 2 ^ mark-bit + count) ∷ w0 ∷ question ∷ []) out
 main-begin count w0 question out h =
     let head : ℕ = 3 * 2 ^ 30 + count in
     ap (λ (x : List ℕ). set (set x 1 w0) 2 question) (ap (λ (x : List ℕ). set x 0 head) (laid-none out) ∙ laid-snoc [] head out 0 refl (omega arith))
     ∙ ap (λ (x : List ℕ). set x 2 question) (laid-snoc (head ∷ []) w0 out 1 refl (omega arith))
     ∙ laid-snoc (head ∷ w0 ∷ []) question out 2 refl (omega arith)
 
-pub main-done : (count w0 question : ℕ) (code out ys : List ℕ) (k : ℕ) → 11 ≤ length out
-    → k ≡ length (set (set (set out 0 (3 * 2 ^ 30 + count)) 1 w0) 2 question) - 3
-    → ys ≡ laid (part 8 0 code) (take k (drop 3 (set (set (set out 0 (3 * 2 ^ 30 + count)) 1 w0) 2 question)))
-    → putMid 3 k (set (set (set out 0 (3 * 2 ^ 30 + count)) 1 w0) 2 question) ys ≡ laid (main-words count w0 question code) out
+pub main-done : (count w0 question : ℕ) (code out ys : List ℕ) (k : ℕ) → place-of 1 ≤ length out
+    → k ≡ length (set (set (set out 0 (head-mark * 2 ^ mark-bit + count)) 1 w0) 2 question) - 3
+    → ys ≡ laid (part code-words 0 code) (take k (drop 3 (set (set (set out 0 (head-mark * 2 ^ mark-bit + count)) 1 w0) 2 question)))
+    → putMid 3 k (set (set (set out 0 (head-mark * 2 ^ mark-bit + count)) 1 w0) 2 question) ys ≡ laid (main-words count w0 question code) out
 unfolding main-words
 main-done count w0 question code out ys k h kk y =
     put-behind ((3 * 2 ^ 30 + count) ∷ w0 ∷ question ∷ []) (part 8 0 code) out (set (set (set out 0 (3 * 2 ^ 30 + count)) 1 w0) 2 question) ys 3 k
     (main-begin count w0 question out h) refl (omega arith) kk y
 
-pub length-main : (count w0 question : ℕ) (code : List ℕ) → length (main-words count w0 question code) ≡ 11
+pub length-main : (count w0 question : ℕ) (code : List ℕ) → length (main-words count w0 question code) ≡ place-of 1
 unfolding main-words
 length-main count w0 question code = ap (λ (x : ℕ). suc (suc (suc x))) (length-part 8 0 code)
 
 -- ---- three parts, each behind the one before
-pub parts-done : (p h g out xs ys zs : List ℕ) (at n m : ℕ) → xs ≡ laid p out → length p ≡ 11 → 11 + length h ≡ at → at ≤ length out
-    → n ≡ length xs - 11 → ys ≡ laid h (take n (drop 11 xs))
-    → m ≡ length (putMid 11 n xs ys) - at → zs ≡ laid g (take m (drop at (putMid 11 n xs ys)))
-    → putMid at m (putMid 11 n xs ys) zs ≡ laid (p ++ h ++ g) out
+pub parts-done : (p h g out xs ys zs : List ℕ) (at n m : ℕ) → xs ≡ laid p out → length p ≡ place-of 1 → place-of 1 + length h ≡ at → at ≤ length out
+    → n ≡ length xs - place-of 1 → ys ≡ laid h (take n (drop (place-of 1) xs))
+    → m ≡ length (putMid (place-of 1) n xs ys) - at → zs ≡ laid g (take m (drop at (putMid (place-of 1) n xs ys)))
+    → putMid at m (putMid (place-of 1) n xs ys) zs ≡ laid (p ++ h ++ g) out
 parts-done p h g out xs ys zs at n m x lp lh room nn y mm z =
     put-behind (p ++ h) g out (putMid 11 n xs ys) zs at m
     (put-behind p h out xs ys 11 n x lp (omega arith) nn y)
@@ -177,7 +179,7 @@ not-is-false true b e n = sym e
 not-is-false false b e n = never true n refl
 
 -- ---- whether a bundle can be written, and what the call then leaves
-pub writable-out : (lent h count k : ℕ) → writable lent h count k ≡ true → (331 ≤ lent) × (h < 2 ^ sites) × (k ≤ 16) × (count + k ≤ 32)
+pub writable-out : (lent h count k : ℕ) → writable lent h count k ≡ true → (output-words ≤ lent) × (h < 2 ^ sites) × (k ≤ quorum sites) × (count + k ≤ most-statements)
 unfolding writable
 writable-out lent h count k e =
     let a = both (leb 331 lent && ltb h (2 ^ sites) && leb k 16) _ e in
