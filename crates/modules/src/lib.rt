@@ -52,13 +52,13 @@ pub fn make(key: [u8; 32], n: u32, number: u32) -> Made
         question: 0,
         step: Step(0),
     };
-    if ((LEAST_STATIONS <= n) & (n <= MOST_STATIONS)) & ((1 <= number) & (number <= n)) {
-        let m = Module {
-            key,
-            n,
-            station: number,
-            last,
-        };
+    let m = Module {
+        key,
+        n,
+        station: number,
+        last,
+    };
+    if fits(m) {
         Made { number: 0, made: m }
     } else {
         let none = Module {
