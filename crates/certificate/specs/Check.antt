@@ -4,7 +4,7 @@ use mathlib.Core.Bool.{Bool, true, _&&_}
 use mathlib.Core.List.{List, [], _∷_}
 use lib.Dec.{eqb}
 use Rattle.laws.specs.Refusals.{Test, test, first-failed}
-use Rattle.format.specs.Numbers.{out-of-range, malformed, other-question, wrong-code, no-certificate}
+use Rattle.format.specs.Numbers.{out-of-range, malformed, other-question, wrong-code, no-certificate, place-of}
 use Rattle.format.specs.Group.{size-fits}
 use Rattle.format.specs.Statement.{Statement, statements, verifies}
 use Rattle.hmac.specs.Code.{hmac-code}
@@ -34,7 +34,7 @@ abbrev pub bundle-tests : (List ℕ → List ℕ) → ℕ → Which → List ℕ
 bundle-tests code n asked ws =
     test (bundle-fits n ws) malformed
     ∷ test (question-fits asked (main-of ws) (certificate-of ws)) other-question
-    ∷ test (all-verify code (statements ws 1 (suc (count-in ws)))) wrong-code
+    ∷ test (all-verify code (statements ws (place-of 0) (suc (count-in ws)))) wrong-code
     ∷ test (rule n (main-of ws) (certificate-of ws)) no-certificate
     ∷ []
 

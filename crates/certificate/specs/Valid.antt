@@ -8,14 +8,14 @@ use Rattle.laws.specs.All.{All}
 use Rattle.format.specs.Numbers.{most-statements, bundle-words, least-stations, most-stations, place-of}
 use Rattle.format.specs.Statement.{statements, verifies}
 use Rattle.hmac.specs.Code.{hmac-code}
-use Rattle.format.specs.Bundle.{count-in, main-of, certificate-of, all-formed, count-bits, zero-bits}
+use Rattle.format.specs.Bundle.{count-in, main-of, certificate-of, all-formed, head-mark, mark-bit, count-bits, zero-bits}
 use Rattle.rules.specs.Rules.{Backed}
 use Rattle.certificate.specs.Check.{checked}
 
 -- "A bundle is a head word (bits 31..30 are 3, bits 29..16 zero, bits 15..0 the count of certificate statements, 0 to 32), one main statement, then
 -- the certificate. It has 1 + 10 × (1 + count) words", and each statement's word 0 has its fields in place
 pub record Bundle (n : ℕ) (ws : List ℕ) : Type 0 where
-  pub head-kind : getD ws 0 0 / 2 ^ 30 ≡ 3
+  pub head-kind : getD ws 0 0 / 2 ^ mark-bit ≡ head-mark
   pub head-zeros : getD ws 0 0 / 2 ^ count-bits % 2 ^ zero-bits ≡ 0
   pub few : count-in ws ≤ most-statements
   pub size : length ws ≡ bundle-words (count-in ws)
@@ -26,7 +26,7 @@ pub record Valid (code : List ℕ → List ℕ) (n : ℕ) (ws : List ℕ) : Type
   pub at-most-31 : n ≤ most-stations
   pub bundle : Bundle n ws
   pub question : All (λ s. s .question ≡ main-of ws .question) (certificate-of ws)
-  pub codes : All (λ s. verifies code s ≡ true) (statements ws 1 (suc (count-in ws)))
+  pub codes : All (λ s. verifies code s ≡ true) (statements ws (place-of 0) (suc (count-in ws)))
   pub backed : Backed n (main-of ws) (certificate-of ws)
 
 -- the public check answers 0 exactly for a well-formed bundle of one question in a group of a fitting size, all of whose codes verify and whose main

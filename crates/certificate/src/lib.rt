@@ -25,7 +25,7 @@ ghost use Rattle.hmac.specs.Code.{hmac-code};
 ghost use Rattle.format.specs.Bundle.{laid-out, all-formed, main-of};
 ghost use Rattle.rules.specs.Rules.{which, some, holds, rest-holds, spread as Spread, groups-hold, rule};
 ghost use Rattle.laws.specs.Least.{least};
-ghost use Rattle.certificate.specs.Check.{one-question, all-verify, question-fits, judged, checked};
+ghost use Rattle.certificate.specs.Check.{all-verify, question-fits, judged, checked};
 
 // The most statements that a head counts.
 const MOST: u32 = MOST_STATEMENTS as u32;
@@ -168,10 +168,10 @@ fn all_well_formed(ws: &[u32], n: u32, k: usize) -> bool
     true
 }
 
-// Whether the certificate's statements are of the main statement's question.
-fn same_question(ws: &[u32], count: usize) -> bool
+// Whether the certificate's statements are of the main statement's question, and that is the one asked for.
+fn question_fits(ws: &[u32], count: usize, asked: Which) -> bool
     requires { ⌜ place-of 1 + count * statement-words ≤ length (now ws) ⌝ }
-    ensures { λ r. ⌜ r ≡ one-question (main-of (now (ws .entry))) (statements (now (ws .entry)) (place-of 1) count) ⌝ }
+    ensures { λ r. ⌜ r ≡ question-fits asked (main-of (now (ws .entry))) (statements (now (ws .entry)) (place-of 1) count) ⌝ }
 {
     let question = ws[2];
     let mut i: usize = 0;
@@ -181,7 +181,7 @@ fn same_question(ws: &[u32], count: usize) -> bool
         }
         i += 1;
     }
-    true
+    rules::allows(asked, question)
 }
 
 // Whether the statement at word `at` has this code. All eight words are compared before the answer, so that its time says nothing of where
@@ -211,21 +211,6 @@ fn verifies_at(key: Prepared, ws: &[u32], at: usize) -> bool
     code_matches(ws, at, words)
 }
 
-// Whether the codes of the first k statements verify under a prepared key.
-fn codes_verify(key: Prepared, ws: &[u32], k: usize) -> bool
-    requires { ⌜ (place-of k ≤ length (now ws)) × ((i : ℕ) → i < k → spare-of (getD (now ws) (place-of i) 0) ≡ 0) ⌝ }
-    ensures { λ r. ⌜ r ≡ all-verify (code-from key) (statements (now (ws .entry)) (place-of 0) k) ⌝ }
-{
-    let mut i: usize = 0;
-    while i < k {
-        if !verifies_at(key, ws, 1 + i * STATEMENT_WORDS) {
-            return false;
-        }
-        i += 1;
-    }
-    true
-}
-
 // Whether the codes of the first k statements verify under the group's key, which is prepared once for all of them.
 fn all_codes_verify(key: [u8; 32], ws: &[u32], k: usize) -> bool
     requires { ⌜ (place-of k ≤ length (now ws)) × ((i : ℕ) → i < k → spare-of (getD (now ws) (place-of i) 0) ≡ 0) ⌝ }
@@ -233,15 +218,14 @@ fn all_codes_verify(key: [u8; 32], ws: &[u32], k: usize) -> bool
 {
     let keyed = hmac::prepare(&key);
     let states = keyed.key;
-    codes_verify(states, ws, k)
-}
-
-// Whether they are, and that question is the one asked for.
-fn question_fits(ws: &[u32], count: usize, asked: Which) -> bool
-    requires { ⌜ place-of 1 + count * statement-words ≤ length (now ws) ⌝ }
-    ensures { λ r. ⌜ r ≡ question-fits asked (main-of (now (ws .entry))) (statements (now (ws .entry)) (place-of 1) count) ⌝ }
-{
-    same_question(ws, count) & rules::allows(asked, ws[2])
+    let mut i: usize = 0;
+    while i < k {
+        if !verifies_at(states, ws, 1 + i * STATEMENT_WORDS) {
+            return false;
+        }
+        i += 1;
+    }
+    true
 }
 
 // The answer for the words given, under the group's key and n, where the question is to be one or may be any.

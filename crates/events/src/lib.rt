@@ -8,7 +8,7 @@ use world::World;
 ghost use mathlib.Core.Path.{_≡_};
 ghost use Prim.Native.Nat.{_-_, _<_};
 ghost use Rattle.lines.specs.declared.Line.the-variants.{Group, Give};
-ghost use Rattle.world.specs.Valley.{opens, after as After, after-opening, bad as Bad, told as Told, event as Event, first-turn, later-turn, turn as Turn};
+ghost use Rattle.world.specs.Valley.{most-bundles, opens, after as After, after-opening, bad as Bad, told as Told, event as Event, first-turn, later-turn, turn as Turn};
 ghost use Rattle.world.specs.Group.{returned-by};
 ghost use Rattle.events.specs.Turns.{Turned, with-bundle};
 
@@ -21,7 +21,7 @@ pub struct Done {
 
 // The group with one more bundle.
 fn with_bundle(w: World, count: usize, words: [u32; OUTPUT_WORDS]) -> World
-    requires { ⌜ w .written < 40 ⌝ }
+    requires { ⌜ w .written < most-bundles ⌝ }
     ensures { λ r. ⌜ r ≡ with-bundle w count words ⌝ }
 {
     let modules = w.modules;

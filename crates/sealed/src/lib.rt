@@ -1,4 +1,5 @@
 // The sealed module's coding: plain, and with the coin (document 01, "The sealed module"). The contracts cite specs/.
+use format::CODE_WORDS;
 use format::Fields;
 use modules::Last;
 use modules::Module;
@@ -19,7 +20,7 @@ pub struct Coded {
 }
 
 // The code of two words under a key.
-fn code_of(key: [u8; 32], w0: u32, w1: u32) -> [u32; 8]
+fn code_of(key: [u8; 32], w0: u32, w1: u32) -> [u32; CODE_WORDS]
     ensures { λ r. ⌜ r ≡ hmac-code key (w0 ∷ w1 ∷ []) ⌝ }
 {
     let k = hmac::prepare(&key);
@@ -61,12 +62,12 @@ fn refusal(m: Module, ws: &[u32], range: bool, way: bool) -> u32
 }
 
 // The code's words, stored behind words 0 and 1.
-fn put_code(ws: &mut [u32], code: [u32; 8])
+fn put_code(ws: &mut [u32], code: [u32; CODE_WORDS])
     requires { ⌜ length (now ws) ≡ statement-words ⌝ }
     ensures { λ r. ⌜ now (ws .exit) ≡ getD (now (ws .entry)) 0 0 ∷ getD (now (ws .entry)) 1 0 ∷ code ⌝ }
 {
     let mut i = 0;
-    while i < 8 {
+    while i < CODE_WORDS {
         ws[2 + i] = code[i];
         i += 1;
     }
