@@ -106,7 +106,7 @@ unfoldable pub below : (ℕ → Bool) → ℕ → Bool
 below f zero = true
 below f (suc k) = f k && below f k
 
-below-out : (f : ℕ → Bool) (b k : ℕ) → below f b ≡ true → k < b → f k ≡ true
+pub below-out : (f : ℕ → Bool) (b k : ℕ) → below f b ≡ true → k < b → f k ≡ true
 unfolding below
 below-out f zero k e h = absurd (omega arith)
 below-out f (suc b) k e h = go (eqb k b) refl (below-out f b k (both (f b) (below f b) e .1))

@@ -3,3 +3,4 @@ pub mod Line
 pub mod Giving
 pub mod Invariant
 pub mod Run
+pub mod Lists

@@ -3,6 +3,7 @@ pub mod Votes
 pub mod Counting
 pub mod Log
 pub mod Safe
+pub mod Settles
 pub mod Just
 pub mod Took
 pub mod Standing

@@ -107,17 +107,17 @@ without-more i x (j ∷ l) h = go (eqb j i) (eqb x j) refl h (without-more i x l
     go true false e h ih = ih h
     go false false e h ih = rw e (ih h)
 
-every-one : (k : ℕ) → count (λ i. true) k ≡ k
+pub every-one : (k : ℕ) → count (λ i. true) k ≡ k
 unfolding count
 every-one zero = refl
 every-one (suc k) = let z = every-one k in omega arith
 
 module _ (mac : List ℕ → List ℕ → List ℕ) (eight : (key ws : List ℕ) → length (mac key ws) ≡ code-words) (key : List ℕ) (n : ℕ) (low : least-stations ≤ n) (top : n ≤ most-stations) where
   -- ---- the invariant of a list, for a list of sites outside which all are sound
-  abbrev AllSound : List ℕ → List Call → Type 0
+  abbrev pub AllSound : List ℕ → List Call → Type 0
   AllSound faulty cs = (i : ℕ) → 1 ≤ i → i ≤ n → member i faulty ≡ false → Sound mac key n i cs
 
-  inv : (faulty : List ℕ) (cs : List Call) → Given mac key n cs → AllSound faulty cs → Inv mac eight key n low top faulty cs
+  pub inv : (faulty : List ℕ) (cs : List Call) → Given mac key n cs → AllSound faulty cs → Inv mac eight key n low top faulty cs
   unfolding Given Sound log lineage modules
   inv faulty [] g s = record { logs = start key n faulty low top; lines = λ i k line a b h e. absurd (let z : _≡_ {A = ℕ} 0 1 = cc in omega arith) }
   inv faulty (call j (opens q v out) ∷ cs) g s = open-step mac eight key n low top faulty j q v out cs (g .0 .0) (g .0 .1) (inv faulty cs (g .1 .1) (λ i a b h. s i a b h .1))
@@ -148,7 +148,7 @@ module _ (mac : List ℕ → List ℕ → List ℕ) (eight : (key ws : List ℕ)
   by-view (going-on h t ws) j i x r o k f line range ih e = by-site j i x (eqb h k) (gave r ws f) f line range ih e
   by-view apart j i x r o k f line range ih e = ih e
 
-  in-group : (cs : List Call) → Given mac key n cs → (i k : ℕ) (line : Lineage) → lineage mac key n cs i k ≡ found line → (1 ≤ i) × (i ≤ n)
+  pub in-group : (cs : List Call) → Given mac key n cs → (i k : ℕ) (line : Lineage) → lineage mac key n cs i k ≡ found line → (1 ≤ i) × (i ≤ n)
   unfolding Given lineage
   in-group [] g i k line e = absurd (let z : _≡_ {A = ℕ} 0 1 = cc in omega arith)
   in-group (c ∷ cs) g i k line e =
@@ -160,14 +160,14 @@ module _ (mac : List ℕ → List ℕ → List ℕ) (eight : (key ws : List ℕ)
     abbrev l : List Statement
     l = reads (log mac key n cs)
 
-    abbrev sound : ℕ → Bool
+    abbrev pub sound : ℕ → Bool
     sound i = not (member i faulty)
 
     not-sound : (b : Bool) → not b ≡ true → b ≡ false
     not-sound true e = never false refl e
     not-sound false e = refl
 
-    bad-few : count (λ i. not (sound i)) n ≤ (n - 1) / 2
+    pub bad-few : count (λ i. not (sound i)) n ≤ (n - 1) / 2
     bad-few = omega (arith, member-few faulty n, count-mono (λ i. not (sound i)) (λ i. member i faulty) (λ i e. twice (member i faulty) e) n)
       where
         twice : (b : Bool) → not (not b) ≡ true → b ≡ true
@@ -245,7 +245,7 @@ module _ (mac : List ℕ → List ℕ → List ℕ) (eight : (key ws : List ℕ)
             left here _
             (join (is-statement e && eqb (e .at) i && eqb (s .kind) kind-INIT && eqb (s .value) v) _
             (join (is-statement e && eqb (e .at) i && eqb (s .kind) kind-INIT) _
-            (join (is-statement e && eqb (e .at) i) _ (join (is-statement e) _ w (eq-eqb _ _ (a .0 w ∙ eqb-true _ _ (c .0)))) (d .0)) (g .1)) (f .0))
+            (join (is-statement e && eqb (e .at) i) _ (join (is-statement e) _ w (eq-eqb _ _ (a .0 w .0 ∙ eqb-true _ _ (c .0)))) (d .0)) (g .1)) (f .0))
         go w false x y ih = right here _ (ih y)
 
         by-kind : (b : Bool) → is-statement e ≡ b → has (pick b (statement (e .words) 0 ∷ reads es) (reads es)) kind-INIT q 0 v i ≡ true
@@ -371,14 +371,14 @@ module _ (mac : List ℕ → List ℕ → List ℕ) (eight : (key ws : List ℕ)
   -- ---- the claims of every sound site, also of one that the list of faulty sites happens to name
   module _ (cs : List Call) (g : Given mac key n cs) (F : FewFaulty mac key n cs) where
     -- without the two sites that a claim speaks of
-    rest : ℕ → ℕ → List ℕ
+    pub rest : ℕ → ℕ → List ℕ
     rest i j = without i (without j (F .faulty))
 
-    rest-few : (i j : ℕ) → length (rest i j) ≤ most-faulty n
+    pub rest-few : (i j : ℕ) → length (rest i j) ≤ most-faulty n
     unfolding rest
     rest-few i j = omega (arith, without-few i (without j (F .faulty)), without-few j (F .faulty), F .few)
 
-    rest-i : (i j : ℕ) → member i (rest i j) ≡ false
+    pub rest-i : (i j : ℕ) → member i (rest i j) ≡ false
     unfolding rest
     rest-i i j = without-self i (without j (F .faulty))
 
@@ -386,7 +386,7 @@ module _ (mac : List ℕ → List ℕ → List ℕ) (eight : (key ws : List ℕ)
     unfolding rest
     rest-j i j = without-more i j (without j (F .faulty)) (without-self j (F .faulty))
 
-    rest-sound : (i j : ℕ) → Sound mac key n i cs → Sound mac key n j cs → AllSound (rest i j) cs
+    pub rest-sound : (i j : ℕ) → Sound mac key n i cs → Sound mac key n j cs → AllSound (rest i j) cs
     unfolding rest
     rest-sound i j si sj x a b h = go (eqb x i) refl (eqb x j) refl
       where
@@ -395,7 +395,7 @@ module _ (mac : List ℕ → List ℕ → List ℕ) (eight : (key ws : List ℕ)
         go false e true f = subst (λ (z : ℕ). Sound mac key n z cs) (sym (eqb-true x j f)) sj
         go false e false f = F .others x a b (without-other j x (F .faulty) (eqb-false x j f) (without-other i x (without j (F .faulty)) (eqb-false x i e) h))
 
-    at : (i j : ℕ) → Sound mac key n i cs → Sound mac key n j cs → Inv mac eight key n low top (rest i j) cs
+    pub at : (i j : ℕ) → Sound mac key n i cs → Sound mac key n j cs → Inv mac eight key n low top (rest i j) cs
     at i j si sj = inv (rest i j) cs g (rest-sound i j si sj)
 
     -- the five claims on what a station took, of which those on the named decision follow
@@ -405,7 +405,7 @@ module _ (mac : List ℕ → List ℕ → List ℕ) (eight : (key ws : List ℕ)
     enough-proposed : (i k q v : ℕ) → Sound mac key n i cs → Decides mac key n cs i k q v → backing n v ≤ count (proposed (log mac key n cs) q v) n
     enough-proposed i k q v si d = back (rest i i) (rest-few i i) cs (at i i si si) g i k q v (rest-i i i) d
 
-    here : (i k : ℕ) (line : Lineage) → Sound mac key n i cs → lineage mac key n cs i k ≡ found line
+    pub here : (i k : ℕ) (line : Lineage) → Sound mac key n i cs → lineage mac key n cs i k ≡ found line
         → Line n (reads (log mac key n cs)) i (line .present) (line .took)
     here i k line si e = known (rest i i) (rest-few i i) cs (at i i si si) i k line g (rest-i i i) e
 

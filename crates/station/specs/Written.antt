@@ -67,7 +67,7 @@ unfolding W.as-station W.slots-of W.slot-of all-written
 shut-lengths n number t a b c = record { slots = rw a; for-value = rw b; for-none = rw c }
 
 -- ---- what is held and kept verifies
-same-self : (l : List ℕ) → same-words l l ≡ true
+pub same-self : (l : List ℕ) → same-words l l ≡ true
 unfolding same-words
 same-self [] = refl
 same-self (x ∷ l) = join (eqb x x) _ (eq-eqb x x refl) (same-self l)
@@ -255,7 +255,7 @@ module _ (mac : List ℕ → List ℕ → List ℕ) (key : List ℕ) (n : ℕ) w
     reached-good number _ (by-giving {t} r m ws coin out G u) = good-giving number t (reached-good number t r) m ws coin out G u
 
     -- the written words are the bundle's, and no more
-    bundle-front : (i : ℕ) (s : Statement) (c : List Statement) (out : List ℕ) → i ≤ most-stations → Proper i s → All (Proper i) c → length c ≤ most-statements
+    pub bundle-front : (i : ℕ) (s : Statement) (c : List Statement) (out : List ℕ) → i ≤ most-stations → Proper i s → All (Proper i) c → length c ≤ most-statements
         → take (bundle-words (length c)) (over (bundle-of s c) out) ≡ bundle-of s c
     unfolding bundle-of
     bundle-front i s c out top p a few =

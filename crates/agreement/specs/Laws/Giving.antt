@@ -12,7 +12,6 @@ use Rattle.format.specs.Statement.{Statement, statements}
 use Rattle.format.specs.Bundle.{count-in, main-of, certificate-of}
 use Rattle.format.specs.Laws.Layout.{all-well}
 use Rattle.modules.specs.declared.Module.{Module}
-use Rattle.modules.specs.Counter.{last-for}
 use Rattle.station.specs.declared.Station.{Station}
 use Rattle.station.specs.Machine.{State, closes, follows, Next, began, shut}
 use Rattle.station.specs.Words as W
@@ -42,6 +41,11 @@ module _ (mac : List ℕ → List ℕ → List ℕ) (eight : (key ws : List ℕ)
   is-open : state-of t .closed ≡ false
   unfolding state-of
   is-open = A .still-open
+
+  -- the certificate of what follows was coded
+  pub parts-coded : All (Coded n (reads l)) (follows n (t .stage) k coin .first) × All (Coded n (reads l)) (follows n (t .stage) k coin .second)
+  parts-coded =
+      T.parts-coded n (m .station) (reads l) (state-of t) took (L .standing) is-open (main-of ws) (certificate-of ws) (A .fitting) (A .new) (A .calm) (all-coded .0) (all-coded .1) coin (t .stage)
 
   pub kept-line : length (k .held) < quorum n → Line n (reads l) (m .station) (W.as-station n (m .station) k) (main-of ws ∷ took)
   kept-line few =

@@ -39,7 +39,7 @@ unfolding reads pick
 entry-read n i s top p = ap (λ (x : Statement). x ∷ []) (covered-back n s top p)
 
 pub entry-at : (n i : ℕ) (s : Statement) → n ≤ most-stations → Proper n s → s .station ≡ i → All AtSite (entry i s ∷ [])
-entry-at n i s top p mine = ((λ e. sym (ap (λ (x : Statement). x .station) (covered-back n s top p) ∙ mine)), tt)
+entry-at n i s top p mine = ((λ e. (sym (ap (λ (x : Statement). x .station) (covered-back n s top p) ∙ mine), ap covered (covered-back n s top p))), tt)
 
 bare-formed : (n : ℕ) (s : Statement) → Formed n s → Formed n (bare s)
 bare-formed n s f = record { low = f .low; high = f .high; shape = same (f .shape) }

@@ -15,7 +15,7 @@ use Rattle.format.specs.Group.{quorum}
 use Rattle.format.specs.Words.{fields-of, formed, station-of}
 use Rattle.format.specs.Statement.{Statement, statement, statements, covered-at, covered, same-words, verifies, well-formed}
 use Rattle.format.specs.Bundle.{all-formed}
-use Rattle.format.specs.Laws.Layout.{covered-read, same-out}
+use Rattle.format.specs.Laws.Layout.{covered-read, formed-well, same-out}
 use Rattle.format.specs.Laws.Shape.{formed-out, small}
 use Rattle.certificate.specs.Laws.Codes.{two-words}
 use Rattle.station.specs.declared.Station.{Station}
@@ -45,9 +45,9 @@ reads-append (e ∷ a) b = go (is-statement e) (reads-append a b)
     go true h = ap (λ (l : List Statement). statement (e .words) 0 ∷ l) h
     go false h = h
 
--- a statement's entry is of the site that it names
+-- a statement's entry is of the site that it names, and its words are those that the statement's code covers
 abbrev pub AtSite : Entry → Type 0
-AtSite e = is-statement e ≡ true → e .at ≡ statement (e .words) 0 .station
+AtSite e = is-statement e ≡ true → (e .at ≡ statement (e .words) 0 .station) × (covered (statement (e .words) 0) ≡ e .words)
 
 -- ---- words whose codes came from the log
 in-reads : (l : List Entry) (i : ℕ) (w q : ℕ) → logged l i (w ∷ q ∷ []) ≡ true → In (statement (w ∷ q ∷ []) 0) (reads l)
@@ -73,6 +73,11 @@ low-word n ws at f = let k = small (statement ws at) (formed-out n (statement ws
 
 gap : (at : ℕ) → at + 2 - at ≡ 2
 gap at = omega arith
+
+-- the words that the code of the statement at a place covers stand there
+pub covered-there : (n : ℕ) (ws : List ℕ) (at : ℕ) → at + 2 ≤ length ws → formed n (fields-of (getD ws at 0)) ≡ true → covered (statement ws at) ≡ covered-at ws at
+covered-there n ws at room f =
+    covered-read n ws at (low-word n ws at (formed-well n ws at f)) f ∙ sym (ap (λ (z : ℕ). take z (drop at ws)) (sym (gap at)) ∙ two-words ws at room)
 
 module _ (mac : List ℕ → List ℕ → List ℕ) (key : List ℕ) (n : ℕ) (l : List Entry) (ws : List ℕ) (came : CodesCame mac key n l ws) where
   one-came : (k : ℕ) → place-of k + statement-words ≤ length ws → formed n (fields-of (getD ws (place-of k) 0)) ≡ true → well-formed n (statement ws (place-of k)) ≡ true

@@ -6,7 +6,7 @@ use Prim.Native.Nat.{ℕ, _≤_, _<_}
 use native.Mathlib.Omega.{arith}
 use lib.Dec.{eqb, ltb}
 use lib.ListN.{length, drop}
-use borrow.Author.Tests.{eqb-true, eq-eqb, ne-eqb}
+use borrow.Author.Tests.{eqb-true, eq-eqb}
 use Rattle.laws.specs.Pick.{pick}
 use Rattle.laws.specs.Bools.{never, both, join, left}
 use Rattle.laws.specs.All.{All}
@@ -34,6 +34,7 @@ use Rattle.agreement.specs.Maths.Safe.{Just, Split}
 use Rattle.agreement.specs.Maths.Just.{bare, backed-just}
 use Rattle.agreement.specs.Maths.Standing.{Standing}
 use Rattle.agreement.specs.Maths.Took.{none-there, enough-before}
+use Rattle.agreement.specs.Laws.Lists.{same-line, module-now, module-other, module-same}
 use Rattle.agreement.specs.Laws.Effect.{entry, coded-at, Effect, silent, speaks, log-of, after-of, open-coded, open-after, give-coded, give-after}
 use Rattle.agreement.specs.Laws.Line.{reads, reads-append, AtSite, Line, line-more, open-line}
 use Rattle.agreement.specs.Laws.Giving.{kept-line, shut-line, sent-line, sent-just, sent-split}
@@ -119,9 +120,6 @@ module _ (mac : List ℕ → List ℕ → List ℕ) (eight : (key ws : List ℕ)
   lines-more : (u : Statement) (l : List Statement) (f : ℕ → ℕ → Found) → Lines l f → Lines (u ∷ l) f
   lines-more u l f h i k line a b c e = line-more n u l i (line .present) (line .took) (h i k line a b c e)
 
-  same-line : (a b : Lineage) → found a ≡ found b → a ≡ b
-  same-line a b e = cc
-
   -- ---- the modules behind a call
   module _ (c : Call) (cs : List Call) where
     abbrev m : Module
@@ -130,22 +128,6 @@ module _ (mac : List ℕ → List ℕ → List ℕ) (eight : (key ws : List ℕ)
     -- what the call coded
     abbrev new : List Entry
     new = coded-at mac eight key n m (site c) (action c)
-
-    module-same : act mac key n m (action c) .after ≡ m → (i : ℕ) → modules mac key n cs i ≡ modules mac key n (c ∷ cs) i
-    unfolding modules pick
-    module-same e i = go (eqb (site c) i) refl
-      where
-        go : (b : Bool) → eqb (site c) i ≡ b → modules mac key n cs i ≡ pick b (act mac key n m (action c) .after) (modules mac key n cs i)
-        go true x = ap (modules mac key n cs) (sym (eqb-true (site c) i x)) ∙ sym e
-        go false x = refl
-
-    module-now : modules mac key n (c ∷ cs) (site c) ≡ act mac key n m (action c) .after
-    unfolding modules pick
-    module-now = rw (eq-eqb (site c) (site c) refl)
-
-    module-other : (i : ℕ) → (i ≡ site c → ⊥) → modules mac key n (c ∷ cs) i ≡ modules mac key n cs i
-    unfolding modules pick
-    module-other i ne = rw (ne-eqb (site c) i (λ e. ne (sym e)))
 
     log-is : log mac key n (c ∷ cs) ≡ new ++ log mac key n cs
     unfolding log
@@ -156,7 +138,7 @@ module _ (mac : List ℕ → List ℕ → List ℕ) (eight : (key ws : List ℕ)
       quiet : reads new ≡ [] → All AtSite new → act mac key n m (action c) .after ≡ m → LogInv key n faulty (modules mac key n (c ∷ cs)) (log mac key n (c ∷ cs))
       quiet e at a =
           subst (λ (l : List Entry). LogInv key n faulty (modules mac key n (c ∷ cs)) l) (sym log-is)
-          (unchanged key n faulty (modules mac key n cs) (modules mac key n (c ∷ cs)) new (log mac key n cs) e at (module-same a) I)
+          (unchanged key n faulty (modules mac key n cs) (modules mac key n (c ∷ cs)) new (log mac key n cs) e at (module-same mac key n c cs a) I)
 
       reads-quiet : reads new ≡ [] → reads (log mac key n (c ∷ cs)) ≡ reads (log mac key n cs)
       reads-quiet e = ap reads log-is ∙ reads-append new (log mac key n cs) ∙ ap (λ (x : List Statement). x ++ reads (log mac key n cs)) e
@@ -171,7 +153,7 @@ module _ (mac : List ℕ → List ℕ → List ℕ) (eight : (key ws : List ℕ)
           let M = I .mods (site c) lo hi in
           subst (λ (l : List Entry). LogInv key n faulty (modules mac key n (c ∷ cs)) l) (sym log-is)
           (log-add key n faulty (modules mac key n cs) (modules mac key n (c ∷ cs)) new (log mac key n cs) (site c) s e at top lo hi I
-          (subst (λ (x : ℕ). Proper x s) (M .same-n) p) (mine ∙ M .same-number) high (module-now ∙ a) module-other sj ss)
+          (subst (λ (x : ℕ). Proper x s) (M .same-n) p) (mine ∙ M .same-number) high (module-now mac key n c cs ∙ a) (module-other mac key n c cs) sj ss)
 
       reads-spoke : (s : Statement) → reads new ≡ bare s ∷ [] → reads (log mac key n (c ∷ cs)) ≡ bare s ∷ reads (log mac key n cs)
       reads-spoke s e = ap reads log-is ∙ reads-append new (log mac key n cs) ∙ ap (λ (x : List Statement). x ++ reads (log mac key n cs)) e

@@ -134,7 +134,7 @@ module _ (n : ℕ) (sound : ℕ → Bool) (l : List Statement) (few : count (λ 
       let s = w .it .one in
       rw (w .it .question≡, w .it .round≡, w .it .value≡) at (L .just s (w .it .mem) (rw (w .it .station≡) (w .ok)) .voted (w .it .kind≡) (rw (w .it .value≡) h))
 
-  decided-no-none : (q v : ℕ) (d : Decided n l q v) → NoNone q (d .round)
+  pub decided-no-none : (q v : ℕ) (d : Decided n l q v) → NoNone q (d .round)
   decided-no-none q v d a = let e : v ≡ 2 = same 2 q (d .round) v 2 (d .votes) a in omega (arith, d .small)
 
   pub decided-locks : (q v : ℕ) (d : Decided n l q v) → Locked q (suc (d .round)) v
@@ -158,14 +158,15 @@ module _ (n : ℕ) (sound : ℕ → Bool) (l : List Statement) (few : count (λ 
           let t : e .round ≡ d .round = omega (arith, ltb-false (d .round) (e .round) a, ltb-false (e .round) (d .round) b) in
           same 2 q (d .round) v w (d .votes) (rw t at (e .votes))
 
-  -- where all proposals of round 1 have one value there are not q none votes of it: a sound site's is split
-  no-none-1 : (q v : ℕ) → AllFor q 1 v → NoNone q 1
-  no-none-1 q v k a =
-      let h = a-sound 2 q 1 2 a in
+  -- where all proposals of a round have one value and the sound sites' none votes of it are split, there are not q none votes of it
+  pub no-none : (q r v : ℕ) → ((s : Statement) → In s l → sound (s .station) ≡ true → s .kind ≡ 2 → s .value ≡ 2 → s .round ≡ r → Split n l (s .question) (s .round))
+      → AllFor q r v → NoNone q r
+  no-none q r v splits k a =
+      let h = a-sound 2 q r 2 a in
       let s = h .it .one in
-      go (L .split s (h .it .mem) (rw (h .it .station≡) (h .ok)) (h .it .kind≡) (h .it .value≡) (h .it .round≡)) (h .it .question≡) (h .it .round≡)
+      go (splits s (h .it .mem) (rw (h .it .station≡) (h .ok)) (h .it .kind≡) (h .it .value≡) (h .it .round≡)) (h .it .question≡) (h .it .round≡)
     where
-      go : {q′ r′ : ℕ} → Split n l q′ r′ → q′ ≡ q → r′ ≡ 1 → ⊥
+      go : {q′ r′ : ℕ} → Split n l q′ r′ → q′ ≡ q → r′ ≡ r → ⊥
       go p x y = p .apart (k (p .a) (p .a-in) (p .a-kind) (p .a-qn ∙ x) (p .a-rnd ∙ y) (p .a-just) ∙ sym (k (p .b) (p .b-in) (p .b-kind) (p .b-qn ∙ x) (p .b-rnd ∙ y) (p .b-just)))
 
   -- a value that too few proposed is never decided
@@ -182,7 +183,7 @@ module _ (n : ℕ) (sound : ℕ → Bool) (l : List Statement) (few : count (λ 
       go : (b : Bool) → ltb (count (has l 0 q 0 v) n) (backing n v) ≡ b → Supp n l 0 q 0 v (backing n v)
       go true e =
           let k : AllFor q 1 (1 - v) = other (ltb-true _ _ e) in
-          let locked : Locked q (d .round) (1 - v) = lock-to q 1 (d .round) (1 - v) (omega arith) (d .from1) (k, no-none-1 q (1 - v) k) in
+          let locked : Locked q (d .round) (1 - v) = lock-to q 1 (d .round) (1 - v) (omega arith) (d .from1) (k, no-none q 1 (1 - v) (L .split) k) in
           let t : v ≡ 1 - v = all-for-value q (d .round) (1 - v) v (locked .0) (voted-for q (d .round) v (d .small) (d .votes)) in
           absurd (omega (arith, d .small))
       go false e = ltb-false _ _ e

@@ -108,6 +108,10 @@ module _ (n number : ℕ) (l : List Statement) (u : State) (took : List Statemen
   second1 : All (Coded n l) (k .for-none)
   second1 = group-coded (takes (supplies-for-none (u .stage)) (u .held) m) (u .for-none) (O .for-none-coded)
 
+  -- the certificate of what follows was coded
+  pub parts-coded : (coin : ℕ) (g : Stage) → All (Coded n l) (follows n g k coin .first) × All (Coded n l) (follows n g k coin .second)
+  parts-coded coin g = next-all (Coded n l) n k coin (all-map (λ s p. p .0) (k .held) held-facts) first1 second1 g
+
   main-step : step m ≡ stage-step (u .stage)
   main-step = B .in-step
 
@@ -264,13 +268,10 @@ module _ (n number : ℕ) (l : List Statement) (u : State) (took : List Statemen
       s-backed : Backed n s (x .first ++ x .second)
       s-backed = backed n k F coin bit given1 (u .stage) refl more s kind≡ value≡ flag≡ round≡
 
-      parts-coded : All (Coded n l) (x .first) × All (Coded n l) (x .second)
-      parts-coded = next-all (Coded n l) n k coin (all-map (λ s p. p .0) (k .held) held-facts) first1 second1 (u .stage)
-
       -- the statement sent is justified by what was coded before
       pub sent-just : Just n l s
       sent-just =
-          backed-just n l s (x .first ++ x .second) (all-append (Coded n l) (x .first) (x .second) (parts-coded .0) (parts-coded .1))
+          backed-just n l s (x .first ++ x .second) (all-append (Coded n l) (x .first) (x .second) (parts-coded coin (u .stage) .0) (parts-coded coin (u .stage) .1))
           (all-map (λ y e. e ∙ sym on) (x .first ++ x .second) (all-append (λ y. y .question ≡ u .question) (x .first) (x .second) (R .alike) (R .more-alike)))
           s-backed
 
@@ -360,7 +361,7 @@ module _ (n number : ℕ) (l : List Statement) (u : State) (took : List Statemen
 
       kept2 : (b : Bool) → All (Coded n l2) (pick b (x .first) [])
       unfolding pick
-      kept2 true = all-map (coded-more n (bare s) l) (x .first) (parts-coded .0)
+      kept2 true = all-map (coded-more n (bare s) l) (x .first) (parts-coded coin (u .stage) .0)
       kept2 false = tt
 
       sent-sane : Sane n number (began (u .question) (x .stage) decided-then s (x .first))

@@ -42,7 +42,7 @@ module _ (n : ℕ) (s : Statement) (c : List Statement) (top : n ≤ most-statio
   pub ws-length : length ws ≡ bundle-words (length c)
   ws-length = ap suc (length-append (written s) (all-written c)) ∙ omega (arith, length-written n s p, length-all n c a)
 
-  all-in : statements ws 1 (suc (count-in ws)) ≡ s ∷ c
+  pub all-in : statements ws 1 (suc (count-in ws)) ≡ s ∷ c
   unfolding statements
   all-in = λ i. main-is i ∷ certificate-is i
 
