@@ -1,0 +1,13 @@
+pub mod Came
+pub mod Spoken
+pub mod Steps
+pub mod Walk
+pub mod Walked
+pub mod Heard
+pub mod Moves
+pub mod Advance
+pub mod Sweep
+pub mod Phase
+pub mod Level
+pub mod Lucky
+pub mod Calm

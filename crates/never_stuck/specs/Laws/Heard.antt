@@ -1,0 +1,195 @@
+-- A bundle of a waiting station's step is heard: what a site wrote for that step, and is not held yet, is kept or ends the step; no refusal is left over.
+use mathlib.Core.Path.{_≡_, refl, sym, _∙_, subst}
+use mathlib.Core.Bool.{Bool, true, false, not, _&&_, _||_}
+use mathlib.Core.List.{List, [], _∷_, _++_}
+use Prim.Native.Nat.{ℕ, suc, _≤_, _<_}
+use native.Mathlib.Omega.{arith}
+use lib.Dec.{eqb, ltb, leb}
+use lib.ListN.{length, length-replicate}
+use borrow.Author.Tests.{eq-eqb, ne-eqb, lt-ltb, le-leb}
+use Rattle.laws.specs.Pick.{pick, not-t}
+use Rattle.laws.specs.Bools.{never, both, join}
+use Rattle.laws.specs.All.{All, all-append}
+use Rattle.laws.specs.Refusals.{Test, test, first-failed, all-passed, none-failed, passed-front}
+use Rattle.format.specs.Numbers.{none, kept, sent, sent-decided, closed-now, output-words, conflicting, not-above, last-round, code-words, least-stations, most-stations}
+use Rattle.format.specs.Group.{quorum, size-fits}
+use Rattle.format.specs.Words.{of-group}
+use Rattle.format.specs.Statement.{Statement, statements, step, statement-code}
+use Rattle.format.specs.Bundle.{count-in, main-of, certificate-of, bundle-fits}
+use Rattle.rules.specs.declared.Which.the-variants.{Any}
+use Rattle.rules.specs.Rules.{rule}
+use Rattle.certificate.specs.Check.{one-question, all-verify, check-by, check-tests}
+use Rattle.modules.specs.declared.Last.{Last}
+use Rattle.modules.specs.declared.Module.{Module}
+use Rattle.modules.specs.Counter.{above, pair, last-for, module-fits}
+use Rattle.modules.specs.Above.{above-in, later-step}
+use Rattle.station.specs.declared.Station.{Station}
+use Rattle.station.specs.Machine.{Next, refused, keeps, sends, began, shut, moved, ended, taken, follows, closes, decision-at, held-of, conflict, stage-step}
+use Rattle.station.specs.Words.{state-of, Lengths}
+use Rattle.station.specs.Fit.{fits}
+use Rattle.station.specs.Calls.{returned, opening, giving, give-tests}
+use Rattle.station.specs.Returns.{unrefused}
+use Rattle.station.specs.Demand.{Reached, by-opening, by-giving}
+use Rattle.station.specs.Written.{reached-good}
+use Rattle.station.specs.Laws.Fits.{opening-fits, giving-fits}
+use Rattle.station.specs.Laws.Sane.{Sane}
+use Rattle.station.specs.Laws.FitSane.{fits-sane}
+use Rattle.station.specs.Laws.Views.{after, sent-statement, ten-tests}
+use Rattle.agreement.specs.Maths.Taking.{steps-up}
+use Rattle.agreement.specs.Laws.Invariant.{Mine}
+use Rattle.agreement.specs.Theorem.{claim, at, in-group, rest, rest-i, rest-sound}
+use Rattle.agreement.specs.Demand.{Call, call, gives, act, modules, answer, Presents, Sound}
+use Rattle.never_stuck.specs.Claim.{room, Waits}
+use Rattle.never_stuck.specs.Laws.Spoken.{Premises, Spoke}
+use Rattle.never_stuck.specs.Laws.Steps.{next-step}
+use Rattle.never_stuck.specs.Laws.Walk.{Up}
+use Rattle.never_stuck.specs.Laws.Walked.{walk}
+
+module _ (mac : List ℕ → List ℕ → List ℕ) (m : Module) (t : Station) (ws : List ℕ) (coin : ℕ) (out : List ℕ) (L : Lengths t) where
+  -- where ten tests have passed and the next is refused, that is by 10
+  clash-ten : All (λ x. x .ok ≡ true) (ten-tests mac m t ws coin out L) → conflict (state-of t .stage) (main-of ws ∷ state-of t .held) ≡ true
+      → giving mac m t ws coin out .number ≡ conflicting
+  unfolding giving returned pick first-failed
+  clash-ten p c =
+      let f : first-failed (give-tests mac m t ws coin out) ≡ conflicting
+      = passed-front (ten-tests mac m t ws coin out L) (test (not (conflict (state-of t .stage) (main-of ws ∷ state-of t .held))) conflicting ∷ []) p ∙ rw c in
+      rw (ne-eqb (first-failed (give-tests mac m t ws coin out)) 0 (λ z. omega arith)) f
+
+  -- where all tests have passed and the module stands at the station's step, nothing is refused
+  taken-heard : first-failed (give-tests mac m t ws coin out) ≡ 0 → last-for m (t .identity .question) ≡ pair (t .identity .question) (stage-step (t .stage))
+      → unrefused (giving mac m t ws coin out .number) ≡ true
+  unfolding giving returned pick taken ended state-of step
+  taken-heard pass stands = rw (eq-eqb (first-failed (give-tests mac m t ws coin out)) 0 pass) (by (ltb (length (after mac m t ws coin out .held)) (quorum (m .n))))
+    where
+      x : Next
+      x = follows (m .n) (t .stage) (after mac m t ws coin out) coin
+
+      s : Statement
+      s = sent-statement mac m t ws coin out
+
+      d : ℕ
+      d = decision-at (t .stage) (t .decision) (after mac m t ws coin out .held)
+
+      up : above (last-for m (t .identity .question)) (t .identity .question) (step s) ≡ true
+      up =
+          let higher : stage-step (t .stage) < step s
+          = subst (λ (z : ℕ). stage-step (t .stage) < z) (sym (next-step (m .n) (t .stage) (after mac m t ws coin out) coin)) (steps-up (m .n) (t .stage) (after mac m t ws coin out) coin) in
+          subst (λ (l : Last). above l (t .identity .question) (step s) ≡ true) (sym stands) (above-in (pair (t .identity .question) (stage-step (t .stage))) (t .identity .question) (step s) (later-step refl higher))
+
+      sent-by : (a b : Bool) → a ≡ true
+          → unrefused (returned m t out (pick a (sends (pick b sent sent-decided) s (x .first ++ x .second) (began (t .identity .question) (x .stage) d s (x .first))) (refused not-above)) .number) ≡ true
+      sent-by true true e = refl
+      sent-by true false e = refl
+      sent-by false b e = never false refl e
+
+      ended-by : (c : Bool) → unrefused (returned m t out (pick c (keeps closed-now (shut (after mac m t ws coin out) d))
+          (moved (statement-code (mac (m .key))) last-round (m .n) (m .station) (last-for m (t .identity .question)) (after mac m t ws coin out) x d)) .number) ≡ true
+      ended-by true = refl
+      ended-by false = sent-by (above (last-for m (t .identity .question)) (t .identity .question) (step s)) (ltb (t .decision) none || eqb d none) up
+
+      by : (b : Bool) → unrefused (returned m t out (pick b (keeps kept (after mac m t ws coin out))
+          (ended (statement-code (mac (m .key))) last-round (m .n) (m .station) (last-for m (t .identity .question)) (after mac m t ws coin out) coin)) .number) ≡ true
+      by true = refl
+      by false = ended-by (closes last-round (t .stage))
+
+module _ (mac : List ℕ → List ℕ → List ℕ) (eight : (key ws : List ℕ) → length (mac key ws) ≡ code-words) (key : List ℕ) (n : ℕ) (low : least-stations ≤ n) (top : n ≤ most-stations) where
+  -- a station made by opening and changed only by these calls fits
+  reached-fits : (i : ℕ) (t : Station) → Reached mac key n i t → fits n i t ≡ true
+  reached-fits i _ (by-opening m question v out G u) =
+      subst (λ (z : ℕ). fits n z (opening mac m question v out .station) ≡ true) (G .same-number)
+      (subst (λ (z : ℕ). fits z (m .station) (opening mac m question v out .station) ≡ true) (G .same-n) (opening-fits mac eight m question v out u))
+  reached-fits i _ (by-giving {t} r m ws coin out G u) =
+      subst (λ (z : ℕ). fits n z (giving mac m t ws coin out .station) ≡ true) (G .same-number)
+      (subst (λ (z : ℕ). fits z (m .station) (giving mac m t ws coin out .station) ≡ true) (G .same-n) (giving-fits mac eight m t ws coin out (reached-good mac key n eight i t r .lengths) u))
+
+  module _ (cs : List Call) (P : Premises mac key n cs) where
+    -- what is known of a sound site's station
+    pub up-of : (x k : ℕ) (t : Station) → Sound mac key n x cs → Presents mac key n cs x k t → Up mac eight key n low top cs x t
+    up-of x k t s p =
+        let r = in-group mac eight key n low top cs (P .given) x k (p .line) (p .is) in
+        subst (λ (z : Station). Up mac eight key n low top cs x z) (p .now)
+        (walk mac eight key n low top (rest mac eight key n low top cs (P .given) (P .few) x x) cs (P .given) (rest-sound mac eight key n low top cs (P .given) (P .few) x x s s) x (r .0) (r .1)
+        (rest-i mac eight key n low top cs (P .given) (P .few) x x) .up k (p .line) (p .is))
+
+    -- a waiting station is sane
+    pub sane-of : (q x k : ℕ) (t : Station) → Waits mac key n cs q x k t → Sane n x (state-of t)
+    sane-of q x k t w =
+        let p = w .presents in
+        let r = in-group mac eight key n low top cs (P .given) x k (p .line) (p .is) in
+        let u = up-of x k t (w .sound) p in
+        fits-sane n x t top (r .0) (r .1) (reached-good mac key n eight x t (u .reached) .lengths) (reached-fits x t (u .reached)) (w .still-open)
+
+    module _ (q x k : ℕ) (t : Station) (W : Waits mac key n cs q x k t) (y : ℕ) (ws : List ℕ) (sp : Spoke mac key n cs y q (stage-step (t .stage)) ws) (new : held-of y (state-of t .held) ≡ false)
+        (coin : ℕ) (bit : coin < 2) where
+      abbrev m : Module
+      m = modules mac key n cs x
+
+      range-x : (1 ≤ x) × (x ≤ n)
+      range-x = in-group mac eight key n low top cs (P .given) x k (W .presents .line) (W .presents .is)
+
+      mine : Mine key n (rest mac eight key n low top cs (P .given) (P .few) x x) x m
+      mine = at mac eight key n low top cs (P .given) (P .few) x x (W .sound) (W .sound) .logs .mods x (range-x .0) (range-x .1)
+
+      up-t : Up mac eight key n low top cs x t
+      up-t = up-of x k t (W .sound) (W .presents)
+
+      len : Lengths t
+      len = reached-good mac key n eight x t (up-t .reached) .lengths
+
+      -- the module stands at the station's step
+      stands : last-for m (t .identity .question) ≡ pair (t .identity .question) (stage-step (t .stage))
+      stands = up-t .in-time (W .still-open) (W .not-gone-on ∙ sym (W .asked))
+
+      ranged : (module-fits m && ltb coin 2 && fits (m .n) (m .station) t) ≡ true
+      ranged =
+          subst (λ (z : ℕ). ((size-fits z && of-group z (m .station)) && ltb coin 2 && fits z (m .station) t) ≡ true) (sym (mine .same-n))
+          (subst (λ (y : ℕ). ((size-fits n && of-group n y) && ltb coin 2 && fits n y t) ≡ true) (sym (mine .same-number))
+          (join ((size-fits n && of-group n x) && ltb coin 2) _
+          (join (size-fits n && of-group n x) _
+          (join (size-fits n) _ (join (leb 2 n) _ (le-leb 2 n low) (le-leb n 31 top)) (join (leb 1 x) _ (le-leb 1 x (range-x .0)) (le-leb x n (range-x .1))))
+          (lt-ltb coin 2 bit)) (reached-fits x t (up-t .reached))))
+
+      ten : All (λ z. z .ok ≡ true) (ten-tests mac m t ws coin room len)
+      unfolding check-by state-of
+      ten =
+          let ok = all-passed (check-tests (mac key) n Any ws) (omega arith, (omega arith, (omega arith, (omega arith, (omega arith, tt))))) (sp .valid) in (
+            le-leb output-words (length room) (omega (arith, length-replicate {A = ℕ} output-words 0)),
+            (
+              ranged,
+              (
+                not-t (t .closed) (W .still-open),
+                (
+                  subst (λ (z : ℕ). bundle-fits z ws ≡ true) (sym (mine .same-n)) (ok .1 .0),
+                  (
+                    join (one-question (main-of ws) (certificate-of ws)) _ (both (one-question (main-of ws) (certificate-of ws)) true (ok .1 .1 .0) .0)
+                        (eq-eqb (main-of ws .question) (t .identity .question) (sp .asked ∙ sym (W .asked))),
+                    (
+                      subst (λ (z : List ℕ). all-verify (mac z) (statements ws 1 (suc (count-in ws))) ≡ true) (sym (mine .same-key)) (ok .1 .1 .1 .0),
+                      (
+                        subst (λ (z : ℕ). rule z (main-of ws) (certificate-of ws) ≡ true) (sym (mine .same-n)) (ok .1 .1 .1 .1 .0),
+                        (
+                          le-leb (stage-step (t .stage)) (step (main-of ws)) (omega (arith, sp .in-step)),
+                          (
+                            le-leb (step (main-of ws)) (stage-step (t .stage)) (omega (arith, sp .in-step)),
+                            (not-t (held-of (main-of ws .station) (state-of t .held)) (subst (λ (z : ℕ). held-of z (state-of t .held) ≡ false) (sym (sp .station)) new), tt),
+                          ),
+                        ),
+                      ),
+                    ),
+                  ),
+                ),
+              ),
+            ),
+          )
+
+      pub heard : unrefused (answer mac key n cs (call x (gives k t ws coin room)) .number) ≡ true
+      unfolding act state-of
+      heard = go (conflict (t .stage) (main-of ws ∷ state-of t .held)) refl
+        where
+          go : (b : Bool) → conflict (t .stage) (main-of ws ∷ state-of t .held) ≡ b → unrefused (giving mac m t ws coin room .number) ≡ true
+          go true e =
+              absurd (claim mac eight key n low top cs (P .given) (P .few) .no-conflict x k t ws coin room (W .sound) (W .presents) (sp .came) (clash-ten mac m t ws coin room len ten e))
+          go false e =
+              taken-heard mac m t ws coin room len
+              (none-failed (give-tests mac m t ws coin room)
+              (all-append (λ (z : Test). z .ok ≡ true) (ten-tests mac m t ws coin room len) (test (not (conflict (t .stage) (main-of ws ∷ state-of t .held))) conflicting ∷ []) ten (not-t _ e, tt))) stands

@@ -1,0 +1,144 @@
+-- One giving that is heard: the station keeps the bundle, or ends its step with it and goes on, or is closed behind the last votes.
+use mathlib.Core.Path.{_≡_, refl, sym, _∙_, ap, subst}
+use mathlib.Core.Bool.{true, false}
+use mathlib.Core.List.{List, _∷_, _++_}
+use Prim.Native.Nat.{ℕ, _≤_, _<_}
+use lib.ListN.{length}
+use Rattle.laws.specs.Bools.{never}
+use Rattle.format.specs.Numbers.{kept, closed-now, last-round, code-words, least-stations, most-stations}
+use Rattle.format.specs.Group.{quorum}
+use Rattle.format.specs.Statement.{Statement, statement-code}
+use Rattle.format.specs.Bundle.{main-of, certificate-of}
+use Rattle.modules.specs.declared.Module.{Module}
+use Rattle.modules.specs.Counter.{last-for}
+use Rattle.station.specs.declared.Stage.{Stage}
+use Rattle.station.specs.declared.Station.{Station}
+use Rattle.station.specs.Machine as Mach
+use Rattle.station.specs.Machine.{State, Next, Outcome, keeps, sends, own, began, follows, closes, decision-at, keeping, stage-step, held-of}
+use Rattle.station.specs.Words as W
+use Rattle.station.specs.Words.{state-of, Lengths}
+use Rattle.station.specs.Calls.{Returned, returned, giving, giving-outcome}
+use Rattle.station.specs.Returns.{unrefused}
+use Rattle.station.specs.Written.{reached-good}
+use Rattle.station.specs.Laws.Sane.{state-back}
+use Rattle.station.specs.Laws.Fits.{sent-sane, kept-sane}
+use Rattle.station.specs.Laws.Views.{Accepted, sent-statement, Gives, refuses, holds-on, shuts, goes-on, gives-view}
+use Rattle.agreement.specs.Laws.Invariant.{Mine}
+use Rattle.agreement.specs.Laws.Lists.{module-now}
+use Rattle.agreement.specs.Theorem.{at, in-group, rest}
+use Rattle.agreement.specs.Demand.{Call, call, gives, act, modules, answer, Presents, Sound}
+use Rattle.never_stuck.specs.Claim.{room, Waits}
+use Rattle.never_stuck.specs.Laws.Spoken.{Premises, Spoke, presents-now, sound-next, premises-next}
+use Rattle.never_stuck.specs.Laws.Heard.{up-of, heard}
+
+module _ (mac : List ℕ → List ℕ → List ℕ) (eight : (key ws : List ℕ) → length (mac key ws) ≡ code-words) (key : List ℕ) (n : ℕ) (low : least-stations ≤ n) (top : n ≤ most-stations) (q : ℕ) where
+  -- the statement that follows a step of site x with what is held in u
+  abbrev pub saying : ℕ → Stage → State → ℕ → Statement
+  saying x g u coin = own (statement-code (mac key)) x q (follows n g u coin .kind) (follows n g u coin .value) (follows n g u coin .flag) (follows n g u coin .round)
+
+  abbrev pub with-bundle : Station → List ℕ → State
+  with-bundle t ws = keeping n (state-of t) (main-of ws) (certificate-of ws)
+
+  -- the step of stage g has ended with what is held in u, and with the decision d before it: station t has gone on, or is closed
+  pub data Ended (cs : List Call) (x k : ℕ) (g : Stage) (d : ℕ) (u : State) (coin : ℕ) (t : Station) : Type 0 where
+    went : closes last-round g ≡ false → Waits mac key n cs q x k t
+        → state-of t ≡ began q (follows n g u coin .stage) (decision-at g d (u .held)) (saying x g u coin) (follows n g u coin .first) → Ended cs x k g d u coin t
+    shut : closes last-round g ≡ true → t .closed ≡ true → t .identity .question ≡ q → t .decision ≡ decision-at g d (u .held) → Ended cs x k g d u coin t
+
+  module _ (cs : List Call) (P : Premises mac key n cs) (x k : ℕ) (t : Station) (waits : Waits mac key n cs q x k t) (y : ℕ) (ws : List ℕ) (sp : Spoke mac key n cs y q (stage-step (t .stage)) ws)
+      (new : held-of y (state-of t .held) ≡ false) (coin : ℕ) (bit : coin < 2) where
+    abbrev g : Call
+    g = call x (gives k t ws coin room)
+
+    abbrev then : Station
+    then = answer mac key n cs g .station
+
+    pub data Moved : Type 0 where
+      stays : Waits mac key n (g ∷ cs) q x k then → length (with-bundle t ws .held) < quorum n → state-of then ≡ with-bundle t ws → Moved
+      ends : length (with-bundle t ws .held) ≡ quorum n → Ended (g ∷ cs) x k (t .stage) (t .decision) (with-bundle t ws) coin then → Moved
+
+    p : Presents mac key n cs x k t
+    p = waits .presents
+
+    range-x : (1 ≤ x) × (x ≤ n)
+    range-x = in-group mac eight key n low top cs (P .given) x k (p .line) (p .is)
+
+    len : Lengths t
+    len = reached-good mac key n eight x t (up-of mac eight key n low top cs P x k t (waits .sound) p .reached) .lengths
+
+    pub not-refused : unrefused (answer mac key n cs g .number) ≡ true
+    not-refused = heard mac eight key n low top cs P q x k t waits y ws sp new coin bit
+
+    pub premises-then : Premises mac key n (g ∷ cs)
+    premises-then = premises-next mac key n cs x k t ws coin room p (range-x .0) (range-x .1) len (sp .came) P
+
+    pub sound-then : Sound mac key n x (g ∷ cs)
+    sound-then = sound-next mac key n cs x k t ws coin room p x (waits .sound)
+
+    pub presents-then : Presents mac key n (g ∷ cs) x k then
+    presents-then = presents-now mac key n cs x k t ws coin room p not-refused
+
+    mine : Mine key n (rest mac eight key n low top cs (P .given) (P .few) x x) x (modules mac key n cs x)
+    mine = at mac eight key n low top cs (P .given) (P .few) x x (waits .sound) (waits .sound) .logs .mods x (range-x .0) (range-x .1)
+
+    abbrev mm : Module
+    mm = record { key = key; n = n; station = x; last = modules mac key n cs x .last }
+
+    m-is : modules mac key n cs x ≡ mm
+    m-is = λ i. record { key = mine .same-key i; n = mine .same-n i; station = mine .same-number i; last = modules mac key n cs x .last }
+
+    a-is : answer mac key n cs g ≡ returned mm t room (giving-outcome mac mm t ws coin room)
+    unfolding act giving
+    a-is = ap (λ (z : Module). giving mac z t ws coin room) m-is
+
+    -- what is returned waits on, where it is open, on the question, and the module's last question is that
+    abbrev Onto : Returned → Type 0
+    Onto r = (r .station .closed ≡ false) × ((r .station .identity .question ≡ q) × (last-for (r .after) q .question ≡ q))
+
+    waits-then : Onto (answer mac key n cs g) → Waits mac key n (g ∷ cs) q x k then
+    waits-then h =
+        record {
+          sound = sound-then;
+          presents = presents-then;
+          still-open = h .0;
+          asked = h .1 .0;
+          not-gone-on = ap (λ (m : Module). last-for m q .question) (module-now mac key n g cs) ∙ h .1 .1;
+        }
+
+    kept-so : (A : Accepted mac mm t ws coin room) → length (with-bundle t ws .held) < quorum n → answer mac key n cs g ≡ returned mm t room (keeps kept (with-bundle t ws)) → Moved
+    unfolding returned W.as-station state-of
+    kept-so A few e =
+        stays (waits-then (subst Onto (sym e) (waits .still-open, (waits .asked, waits .not-gone-on)))) few
+        (ap (λ (r : Returned). state-of (r .station)) e ∙ state-back n x (with-bundle t ws) top (range-x .0) (range-x .1) (kept-sane mac eight mm t ws coin room len A few))
+
+    shut-so : length (with-bundle t ws .held) ≡ quorum n → closes last-round (t .stage) ≡ true
+        → answer mac key n cs g ≡ returned mm t room (keeps closed-now (Mach.shut (with-bundle t ws) (decision-at (t .stage) (t .decision) (with-bundle t ws .held)))) → Moved
+    unfolding returned W.as-station state-of
+    shut-so size c e =
+        ends size (shut c (ap (λ (r : Returned). r .station .closed) e) (ap (λ (r : Returned). r .station .identity .question) e ∙ waits .asked) (ap (λ (r : Returned). r .station .decision) e))
+
+    abbrev f : Next
+    f = follows n (t .stage) (with-bundle t ws) coin
+
+    abbrev u : State
+    u = began (t .identity .question) (f .stage) (decision-at (t .stage) (t .decision) (with-bundle t ws .held)) (sent-statement mac mm t ws coin room) (f .first)
+
+    sent-so : (j : ℕ) (A : Accepted mac mm t ws coin room) (size : length (with-bundle t ws .held) ≡ quorum n) (more : closes last-round (t .stage) ≡ false)
+        → answer mac key n cs g ≡ returned mm t room (sends j (sent-statement mac mm t ws coin room) (f .first ++ f .second) u) → Moved
+    unfolding returned W.as-station
+    sent-so j A size more e =
+        ends size
+        (went more (waits-then (subst Onto (sym e) (refl, (waits .asked, waits .asked))))
+        (subst (λ (z : ℕ). state-of then ≡ began z (f .stage) (decision-at (t .stage) (t .decision) (with-bundle t ws .held))
+        (own (statement-code (mac key)) x z (f .kind) (f .value) (f .flag) (f .round)) (f .first)) (waits .asked)
+        (ap (λ (r : Returned). state-of (r .station)) e ∙ state-back n x u top (range-x .0) (range-x .1) (sent-sane mac eight mm t ws coin room len A size more))))
+
+    pub moved : Moved
+    unfolding returned
+    moved = go (giving-outcome mac mm t ws coin room) refl (gives-view mac mm t ws coin room len)
+      where
+        go : (o : Outcome) → giving-outcome mac mm t ws coin room ≡ o → Gives mac mm t ws coin room o → Moved
+        go _ e (refuses {k} w) = never (unrefused k) w (sym (ap (λ (r : Returned). unrefused (r .number)) (a-is ∙ ap (returned mm t room) e)) ∙ not-refused)
+        go _ e (holds-on A few) = kept-so A few (a-is ∙ ap (returned mm t room) e)
+        go _ e (shuts A size c) = shut-so size c (a-is ∙ ap (returned mm t room) e)
+        go _ e (goes-on {k} A size c a w) = sent-so k A size c (a-is ∙ ap (returned mm t room) e)

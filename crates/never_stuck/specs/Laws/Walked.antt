@@ -1,0 +1,455 @@
+-- Every list of calls: what is known of a sound site's stations is kept by each kind of call.
+use mathlib.Core.Path.{_≡_, refl, sym, _∙_, ap, subst}
+use mathlib.Core.Bool.{Bool, true, false, _&&_, _||_}
+use mathlib.Core.Logic.{_⊎_, inl, inr}
+use mathlib.Core.List.{List, [], _∷_, _++_}
+use Prim.Native.Nat.{ℕ, _≤_, _<_}
+use native.Mathlib.Omega.{arith}
+use lib.Dec.{eqb, ltb}
+use lib.ListN.{length}
+use borrow.Author.Tests.{eqb-true, eqb-false, eq-eqb}
+use Rattle.laws.specs.Pick.{pick}
+use Rattle.laws.specs.Bools.{never, both, join}
+use Rattle.laws.specs.All.{All, all-append}
+use Rattle.format.specs.Numbers.{kind-INIT, none, D-GET, kept, sent, closed-now, most-statements, last-round, code-words, least-stations, most-stations}
+use Rattle.format.specs.Group.{quorum}
+use Rattle.format.specs.Statement.{Statement, step}
+use Rattle.format.specs.Bundle.{main-of}
+use Rattle.format.specs.Laws.Shape.{init}
+use Rattle.format.specs.Laws.ReadBack.{Proper}
+use Rattle.rules.specs.declared.Which.the-variants.{Any}
+use Rattle.certificate.specs.Check.{every, check-by}
+use Rattle.modules.specs.declared.Last.{Last}
+use Rattle.modules.specs.declared.Module.{Module}
+use Rattle.modules.specs.Counter.{above, pair, last-for}
+use Rattle.modules.specs.Above.{Above, first, later-question, later-step, above-out}
+use Rattle.sealed.specs.Sealed as Sealed
+use Rattle.sealed.specs.Rises.{Did, coded, refused, plain-rises, coin-rises}
+use Rattle.station.specs.declared.Stage.{Stage}
+use Rattle.station.specs.declared.Stage.the-variants.{Gathering}
+use Rattle.station.specs.declared.Station.{Station}
+use Rattle.station.specs.Machine as Mach
+use Rattle.station.specs.Machine.{State, Next, Outcome, keeps, sends, began, shut, follows, closes, stage-step}
+use Rattle.station.specs.Words as W
+use Rattle.station.specs.Words.{state-of, Lengths}
+use Rattle.station.specs.Calls.{Returned, returned, opening, giving, opening-outcome, giving-outcome, no-station}
+use Rattle.station.specs.Returns.{unrefused, wrote, wrote-unrefused, sent-wrote}
+use Rattle.station.specs.Demand.{message, OfGroup, Reached, by-opening, by-giving}
+use Rattle.station.specs.Written.{opening-written, giving-written, reached-good, sent-backed}
+use Rattle.station.specs.Laws.Insert.{every-insert}
+use Rattle.station.specs.Laws.Sane.{state-back}
+use Rattle.station.specs.Laws.Keep.{steps-0}
+use Rattle.station.specs.Laws.Bundles.{backed-few}
+use Rattle.station.specs.Laws.Fits.{own-proper, init-sane, next-ready, sent-proper, sent-sane, kept-sane}
+use Rattle.station.specs.Laws.Views.{InRange, init-statement, Opens, no-opening, begins, opens-view, Accepted, after, decision-then, sent-statement, Gives, refuses, holds-on, shuts, goes-on, gives-view}
+use Rattle.agreement.specs.Maths.Just.{Coded}
+use Rattle.agreement.specs.Laws.Line.{Line, reads}
+use Rattle.agreement.specs.Laws.Giving.{parts-coded}
+use Rattle.agreement.specs.Laws.Invariant.{Mine}
+use Rattle.agreement.specs.Laws.Lists.{module-now, module-other, module-same, lineage-other, lineage-refused}
+use Rattle.agreement.specs.Laws.Run.{Inv}
+use Rattle.agreement.specs.Theorem.{inv, AllSound}
+use Rattle.agreement.specs.Demand.{Action, opens, gives, codes, tosses, Call, call, site, Lineage, found, opened, gave, member, act, modules, answer, log, openings, lineage, Presents, Sound, CodesCame, Given}
+use Rattle.never_stuck.specs.Laws.Spoken.{Spoke, Said, said-later, presents-now}
+use Rattle.never_stuck.specs.Laws.Steps.{any, next-step, next-is, up-to}
+use Rattle.never_stuck.specs.Laws.Walk.{Up, Walk, up-later, up-past, still, whose, renewed, written-main, written-spoke, held-coded, held-single}
+
+module _ (mac : List ℕ → List ℕ → List ℕ) (eight : (key ws : List ℕ) → length (mac key ws) ≡ code-words) (key : List ℕ) (n : ℕ) (low : least-stations ≤ n) (top : n ≤ most-stations) where
+  -- ---- a call at the site itself
+  module _ (faulty : List ℕ) (cs : List Call) (I : Inv mac eight key n low top faulty cs) (i : ℕ) (lo : 1 ≤ i) (hi : i ≤ n) (h : member i faulty ≡ false) (w : Walk mac eight key n low top cs i) where
+    mine : Mine key n faulty i (modules mac key n cs i)
+    mine = I .logs .mods i lo hi
+
+    abbrev mm : Module
+    mm = record { key = key; n = n; station = i; last = modules mac key n cs i .last }
+
+    m-is : modules mac key n cs i ≡ mm
+    m-is = λ z. record { key = mine .same-key z; n = mine .same-n z; station = mine .same-number z; last = modules mac key n cs i .last }
+
+    group : OfGroup mac key n i mm
+    group = record { same-key = refl; same-n = refl; same-number = refl }
+
+    -- a call that is refused changes nothing
+    refused-walk : (a : Action) (t : Station) (out : List ℕ) (k : ℕ) → unrefused k ≡ false → answer mac key n cs (call i a) ≡ returned mm t out (Mach.refused k)
+        → Walk mac eight key n low top (call i a ∷ cs) i
+    unfolding returned
+    refused-walk a t out k z e =
+        still mac eight key n low top (call i a) cs i (λ o. lineage-refused mac key n (call i a) cs i o (ap (λ (r : Returned). unrefused (r .number)) e ∙ z))
+        (module-now mac key n (call i a) cs ∙ ap (λ (r : Returned). r .after) e ∙ sym m-is) w
+
+    -- ---- opening
+    module _ (q v : ℕ) (out : List ℕ) (J : Inv mac eight key n low top faulty (call i (opens q v out) ∷ cs)) where
+      abbrev c : Call
+      c = call i (opens q v out)
+
+      o-is : answer mac key n cs c ≡ opening mac mm q v out
+      unfolding act
+      o-is = ap (λ (z : Module). opening mac z q v out) m-is
+
+      a-is : answer mac key n cs c ≡ returned mm no-station out (opening-outcome mac mm q v out)
+      unfolding opening
+      a-is = o-is
+
+      module _ (r : InRange mm) (p : v < 2) (a : above (last-for mm q) q (step (init-statement mac mm q v out)) ≡ true) where
+        abbrev S : Statement
+        S = init-statement mac mm q v out
+
+        abbrev U : State
+        U = began q Gathering none S []
+
+        abbrev T : Station
+        T = W.as-station n i U
+
+        step-S : step S ≡ 0
+        unfolding step
+        step-S = steps-0 kind-INIT 0 refl
+
+        -- the questions of the stations before are lower
+        lower : (k : ℕ) (line : Lineage) → lineage mac key n cs i k ≡ found line → line .present .identity .question < q
+        lower k line e = by (w .up k line e) (above-out (last-for mm q) q (step S) a)
+          where
+            by : Up mac eight key n low top cs i (line .present) → Above (last-for mm q) q (step S) → line .present .identity .question < q
+            by u (first x) = never (modules mac key n cs i .last .coded) x (u .has-coded)
+            by u (later-question x) = omega (arith, u .behind)
+            by u (later-step x y) = absurd (omega (arith, step-S))
+
+        module _ (e : answer mac key n cs c ≡ returned mm no-station out (sends sent S [] U)) where
+          un : unrefused (answer mac key n cs c .number) ≡ true
+          unfolding returned
+          un = ap (λ (r : Returned). unrefused (r .number)) e
+
+          wr : wrote (answer mac key n cs c .number) ≡ true
+          unfolding returned
+          wr = ap (λ (r : Returned). wrote (r .number)) e
+
+          last-is : last-for (modules mac key n (c ∷ cs) i) q ≡ pair q 0
+          unfolding returned
+          last-is = ap (λ (z : Module). last-for z q) (module-now mac key n c cs ∙ ap (λ (r : Returned). r .after) e) ∙ ap (λ (z : ℕ). pair q z) step-S
+
+          station-is : answer mac key n cs c .station ≡ T
+          unfolding returned
+          station-is = ap (λ (r : Returned). r .station) e
+
+          there : (k : ℕ) → lineage mac key n (c ∷ cs) i k ≡ pick (eqb (openings mac key n cs i) k) (opened (answer mac key n cs c)) (lineage mac key n cs i k)
+          unfolding lineage
+          there k = ap (λ (b : Bool). pick (b && eqb (openings mac key n cs i) k) (opened (answer mac key n cs c)) (lineage mac key n cs i k)) (join (eqb i i) _ (eq-eqb i i refl) un)
+
+          new-line : Lineage
+          new-line = record { present = answer mac key n cs c .station; took = Rattle.agreement.specs.Demand.written-main (answer mac key n cs c) }
+
+          is-new : lineage mac key n (c ∷ cs) i (openings mac key n cs i) ≡ found new-line
+          unfolding pick new-line
+          is-new = there (openings mac key n cs i) ∙ ap (λ (b : Bool). pick b (opened (answer mac key n cs c)) (lineage mac key n cs i (openings mac key n cs i))) (eq-eqb (openings mac key n cs i) (openings mac key n cs i) refl)
+
+          reached-T : Reached mac key n i T
+          reached-T = subst (λ (z : Station). Reached mac key n i z) (sym (ap (λ (r : Returned). r .station) o-is) ∙ station-is)
+              (by-opening mm q v out group (sym (ap (λ (r : Returned). unrefused (r .number)) o-is) ∙ un))
+
+          state-T : state-of T ≡ U
+          state-T = state-back n i U top lo hi (init-sane mac eight mm q v r p)
+
+          valid : check-by (mac key) n Any (message (answer mac key n cs c)) ≡ 0
+          valid = ap (λ (z : Returned). check-by (mac key) n Any (message z)) o-is
+              ∙ opening-written mac key n eight i mm q v out group (sym (ap (λ (z : Returned). wrote (z .number)) o-is) ∙ wr)
+
+          coded-S : Coded n (reads (log mac key n (c ∷ cs))) S
+          unfolding W.as-station new-line
+          coded-S =
+              held-coded mac eight key n low top (reads (log mac key n (c ∷ cs))) i T (new-line .took) U S
+              (subst (λ (z : Station). Line n (reads (log mac key n (c ∷ cs))) i z (new-line .took)) station-is (J .lines i (openings mac key n cs i) new-line lo hi h is-new)) refl state-T refl
+
+          proper : Proper n S
+          proper = own-proper mac eight mm q kind-INIT v D-GET 0 r (init refl refl p refl)
+
+          spoke-0 : (s : ℕ) → s ≡ 0 → Spoke mac key n (c ∷ cs) i q s (message (answer mac key n cs c))
+          spoke-0 s z = written-spoke mac eight key n low top faulty c cs J mm no-station out sent S [] U e refl proper tt (omega arith) valid coded-S tt i q s refl refl refl (step-S ∙ sym z)
+
+          up-new : Up mac eight key n low top (c ∷ cs) i T
+          unfolding W.as-station
+          up-new =
+              record {
+                reached = reached-T;
+                told = λ s x y. record { words = message (answer mac key n cs c); spoke = spoke-0 s (omega (arith, steps-0 kind-INIT 0 refl)); passes = refl };
+                latest = λ x. record {
+                  words = message (answer mac key n cs c);
+                  spoke = spoke-0 (stage-step Gathering) (steps-0 kind-INIT 0 refl);
+                  held = λ ok all. ap ok (written-main mac eight key n low top faulty c cs J mm no-station out sent S [] U e refl proper tt (omega arith) valid coded-S tt)
+                      ∙ held-single mac eight key n low top T U S state-T refl ok all;
+                };
+                has-coded = ap (λ (z : Last). z .coded) last-is;
+                behind = omega (arith, ap (λ (z : Last). z .question) last-is);
+                in-time = λ x y. last-is ∙ ap (λ (z : ℕ). pair q z) (sym (steps-0 kind-INIT 0 refl));
+              }
+
+          question-T : T .identity .question ≡ q
+          unfolding W.as-station
+          question-T = refl
+
+          opened-walk : Walk mac eight key n low top (c ∷ cs) i
+          unfolding new-line
+          opened-walk =
+              renewed mac eight key n low top c cs i (openings mac key n cs i) T w
+              (λ o l f. whose mac eight key n low top c cs i (openings mac key n cs i) T (λ z. opened (answer mac key n cs c)) new-line refl station-is o l (sym (there o) ∙ f)) up-new
+              (λ o l x f. up-past mac eight key n low top c cs i (l .present) q 0 last-is (omega (arith, lower o l f)) (λ z. omega (arith, lower o l f)) (w .up o l f))
+              (λ o l x f z. omega (arith, lower o l f, question-T))
+
+      pub open-walk : Walk mac eight key n low top (c ∷ cs) i
+      open-walk = go (opening-outcome mac mm q v out) refl (opens-view mac mm q v out)
+        where
+          go : (o : Outcome) → opening-outcome mac mm q v out ≡ o → Opens mac mm q v out o → Walk mac eight key n low top (c ∷ cs) i
+          go _ e (no-opening {k} z) = refused-walk (opens q v out) no-station out k z (a-is ∙ ap (returned mm no-station out) e)
+          go _ e (begins room r p a) = opened-walk r p a (a-is ∙ ap (returned mm no-station out) e)
+
+    -- ---- giving
+    module _ (o : ℕ) (t : Station) (ws : List ℕ) (coin : ℕ) (out : List ℕ) (len : Lengths t) (came : CodesCame mac key n (log mac key n cs) ws)
+        (sound : unrefused (answer mac key n cs (call i (gives o t ws coin out)) .number) ≡ true → Presents mac key n cs i o t)
+        (J : Inv mac eight key n low top faulty (call i (gives o t ws coin out) ∷ cs)) where
+      abbrev g : Call
+      g = call i (gives o t ws coin out)
+
+      abbrev Q : ℕ
+      Q = t .identity .question
+
+      g-is : answer mac key n cs g ≡ giving mac mm t ws coin out
+      unfolding act
+      g-is = ap (λ (z : Module). giving mac z t ws coin out) m-is
+
+      b-is : answer mac key n cs g ≡ returned mm t out (giving-outcome mac mm t ws coin out)
+      unfolding giving
+      b-is = g-is
+
+      module _ (ung : unrefused (answer mac key n cs g .number) ≡ true) where
+        p : Presents mac key n cs i o t
+        p = sound ung
+
+        up-t : Up mac eight key n low top cs i t
+        up-t = subst (λ (z : Station). Up mac eight key n low top cs i z) (p .now) (w .up o (p .line) (p .is))
+
+        p' : Presents mac key n (g ∷ cs) i o (answer mac key n cs g .station)
+        p' = presents-now mac key n cs i o t ws coin out p ung
+
+        touched : (k : ℕ) → lineage mac key n (g ∷ cs) i k ≡ pick (eqb o k) (gave (answer mac key n cs g) ws (lineage mac key n cs i k)) (lineage mac key n cs i k)
+        unfolding lineage
+        touched k = ap (λ (b : Bool). pick (b && eqb o k) (gave (answer mac key n cs g) ws (lineage mac key n cs i k)) (lineage mac key n cs i k)) (join (eqb i i) _ (eq-eqb i i refl) ung)
+
+        -- another station of the site has another question
+        apart : (k : ℕ) (line : Lineage) → (o ≡ k → ⊥) → lineage mac key n cs i k ≡ found line → line .present .identity .question ≡ Q → ⊥
+        apart k line ne f z = ne (w .unique o k (p .line) line (p .is) f (ap (λ (v : Station). v .identity .question) (p .now) ∙ sym z))
+
+        reached-then : Reached mac key n i (answer mac key n cs g .station)
+        reached-then = subst (λ (z : Station). Reached mac key n i z) (sym (ap (λ (r : Returned). r .station) g-is))
+            (by-giving (up-t .reached) mm ws coin out group (sym (ap (λ (r : Returned). unrefused (r .number)) g-is) ∙ ung))
+
+        given-walk : (st : Station) → answer mac key n cs g .station ≡ st → st .identity .question ≡ Q → Up mac eight key n low top (g ∷ cs) i st
+            → ((k : ℕ) (line : Lineage) → (o ≡ k → ⊥) → lineage mac key n cs i k ≡ found line → Up mac eight key n low top (g ∷ cs) i (line .present)) → Walk mac eight key n low top (g ∷ cs) i
+        given-walk st is asked up others =
+            renewed mac eight key n low top g cs i o st w
+            (λ k l f. whose mac eight key n low top g cs i o st (λ k. gave (answer mac key n cs g) ws (lineage mac key n cs i k))
+            (record { present = answer mac key n cs g .station; took = Rattle.agreement.specs.Demand.written-main (answer mac key n cs g) ++ (Rattle.agreement.specs.Demand.given-main (answer mac key n cs g) ws ++ p .line .took) })
+            (ap (gave (answer mac key n cs g) ws) (p .is)) is k l (sym (touched k) ∙ f)) up others (λ k l ne f z. apart k l ne f (z ∙ asked))
+
+        -- nothing was written: the module is as it was
+        quiet-walk : (u : State) → answer mac key n cs g .station ≡ W.as-station n i u → answer mac key n cs g .after ≡ mm → u .question ≡ Q → u .stage ≡ t .stage
+            → (u .closed ≡ false → (t .closed ≡ false) × ((ok : Statement → Bool) → every ok (state-of (W.as-station n i u) .held) ≡ true → every ok (state-of t .held) ≡ true))
+            → Walk mac eight key n low top (g ∷ cs) i
+        unfolding W.as-station
+        quiet-walk u is m asked stage op =
+            let me : modules mac key n (g ∷ cs) i ≡ modules mac key n cs i = module-now mac key n g cs ∙ m ∙ sym m-is in
+            let U : Up mac eight key n low top (g ∷ cs) i t = up-later mac eight key n low top g cs i t me up-t in
+            given-walk (W.as-station n i u) is asked
+            (record {
+              reached = subst (λ (z : Station). Reached mac key n i z) is reached-then;
+              told = λ s a b. subst (λ (z : ℕ). Said mac key n (g ∷ cs) i z s any) (sym asked) (U .told s (subst (λ (z : Stage). s ≤ stage-step z) stage a) b);
+              latest = λ a. let L = U .latest (op a .0) in
+                  record {
+                    words = L .words;
+                    spoke = subst (λ (z : ℕ). Spoke mac key n (g ∷ cs) i z (stage-step (u .stage)) (L .words)) (sym asked)
+                        (subst (λ (z : Stage). Spoke mac key n (g ∷ cs) i Q (stage-step z) (L .words)) (sym stage) (L .spoke));
+                    held = λ ok all. L .held ok (op a .1 ok all);
+                  };
+              has-coded = U .has-coded;
+              behind = omega (arith, asked, U .behind);
+              in-time = λ a b. U .in-time (op a .0) (b ∙ asked) ∙ sym (λ z. pair (asked z) (stage-step (stage z)));
+            })
+            (λ k line ne f. up-later mac eight key n low top g cs i (line .present) me (w .up k line f))
+
+        -- a bundle of the next step was written
+        module _ (k : ℕ) (A : Accepted mac mm t ws coin out) (size : length (after mac mm t ws coin out .held) ≡ quorum n) (more : closes last-round (t .stage) ≡ false)
+            (ab : above (last-for mm Q) Q (step (sent-statement mac mm t ws coin out)) ≡ true) (wk : wrote k ≡ true) where
+          abbrev X : Next
+          X = follows n (t .stage) (after mac mm t ws coin out) coin
+
+          abbrev S2 : Statement
+          S2 = sent-statement mac mm t ws coin out
+
+          abbrev U2 : State
+          U2 = began Q (X .stage) (decision-then mac mm t ws coin out) S2 (X .first)
+
+          abbrev T2 : Station
+          T2 = W.as-station n i U2
+
+          step-2 : step S2 ≡ stage-step (X .stage)
+          unfolding step
+          step-2 = next-step n (t .stage) (after mac mm t ws coin out) coin
+
+          known : Line n (reads (log mac key n cs)) i t (p .line .took)
+          known = subst (λ (z : Station). Line n (reads (log mac key n cs)) i z (p .line .took)) (p .now) (I .lines i o (p .line) lo hi h (p .is))
+
+          proper-2 : Proper n S2
+          proper-2 = sent-proper mac eight mm t ws coin out len A size more
+
+          proper-c : All (Proper n) (X .first ++ X .second)
+          proper-c = let R = next-ready mac eight mm t ws coin out len A size more in all-append (Proper n) (X .first) (X .second) (R .proper) (R .more-proper)
+
+          few-c : length (X .first ++ X .second) ≤ most-statements
+          few-c = backed-few n S2 (X .first ++ X .second) top (sent-backed mac mm t ws coin out A eight len (reached-good mac key n eight i t (up-t .reached) .certain (A .still-open)) size more)
+
+          coded-c : All (Coded n (reads (log mac key n cs))) (X .first ++ X .second)
+          coded-c =
+              let a = parts-coded mac eight mm t ws coin out (log mac key n cs) (p .line .took) known A came in
+              all-append (Coded n (reads (log mac key n cs))) (X .first) (X .second) (a .0) (a .1)
+
+          state-2 : state-of T2 ≡ U2
+          state-2 = state-back n i U2 top lo hi (sent-sane mac eight mm t ws coin out len A size more)
+
+          -- the module had the station's question
+          same-question : modules mac key n cs i .last .question ≡ Q
+          same-question = by (above-out (last-for mm Q) Q (step S2) ab)
+            where
+              by : Above (last-for mm Q) Q (step S2) → modules mac key n cs i .last .question ≡ Q
+              by (first x) = never (modules mac key n cs i .last .coded) x (up-t .has-coded)
+              by (later-question x) = absurd (omega (arith, up-t .behind))
+              by (later-step x y) = x
+
+          module _ (e : answer mac key n cs g ≡ returned mm t out (sends k S2 (X .first ++ X .second) U2)) where
+            last-2 : last-for (modules mac key n (g ∷ cs) i) Q ≡ pair Q (stage-step (X .stage))
+            unfolding returned
+            last-2 = ap (λ (z : Module). last-for z Q) (module-now mac key n g cs ∙ ap (λ (r : Returned). r .after) e) ∙ ap (λ (z : ℕ). pair Q z) step-2
+
+            station-2 : answer mac key n cs g .station ≡ T2
+            unfolding returned
+            station-2 = ap (λ (r : Returned). r .station) e
+
+            wrg : wrote (answer mac key n cs g .number) ≡ true
+            unfolding returned
+            wrg = ap (λ (r : Returned). wrote (r .number)) e ∙ wk
+
+            valid-2 : check-by (mac key) n Any (message (answer mac key n cs g)) ≡ 0
+            valid-2 = ap (λ (z : Returned). check-by (mac key) n Any (message z)) g-is
+                ∙ giving-written mac key n eight i t (up-t .reached) mm ws coin out group (sym (ap (λ (z : Returned). wrote (z .number)) g-is) ∙ wrg)
+
+            coded-2 : Coded n (reads (log mac key n (g ∷ cs))) S2
+            unfolding W.as-station
+            coded-2 =
+                held-coded mac eight key n low top (reads (log mac key n (g ∷ cs))) i T2 (p' .line .took) U2 S2
+                (subst (λ (z : Station). Line n (reads (log mac key n (g ∷ cs))) i z (p' .line .took)) (p' .now ∙ station-2) (J .lines i o (p' .line) lo hi h (p' .is))) refl state-2 refl
+
+            spoke-2 : Spoke mac key n (g ∷ cs) i Q (stage-step (X .stage)) (message (answer mac key n cs g))
+            spoke-2 =
+                written-spoke mac eight key n low top faulty g cs J mm t out k S2 (X .first ++ X .second) U2 e wk proper-2 proper-c few-c valid-2 coded-2 coded-c i Q (stage-step (X .stage)) refl refl refl step-2
+
+            up-2 : Up mac eight key n low top (g ∷ cs) i T2
+            unfolding W.as-station
+            up-2 =
+                record {
+                  reached = subst (λ (z : Station). Reached mac key n i z) station-2 reached-then;
+                  told = λ s a b. tell s (up-to (next-is n (t .stage) (after mac mm t ws coin out) coin) s a b) b;
+                  latest = λ a. record {
+                    words = message (answer mac key n cs g);
+                    spoke = spoke-2;
+                    held = λ ok all. ap ok (written-main mac eight key n low top faulty g cs J mm t out k S2 (X .first ++ X .second) U2 e wk proper-2 proper-c few-c valid-2 coded-2 coded-c)
+                        ∙ held-single mac eight key n low top T2 U2 S2 state-2 refl ok all;
+                  };
+                  has-coded = ap (λ (z : Last). z .coded) last-2;
+                  behind = omega (arith, ap (λ (z : Last). z .question) last-2);
+                  in-time = λ a b. last-2;
+                }
+              where
+                tell : (s : ℕ) → (s ≤ stage-step (t .stage)) ⊎ (s ≡ stage-step (X .stage)) → (s ≡ 1 → ⊥) → Said mac key n (g ∷ cs) i Q s any
+                tell s (inl a) b = said-later mac key n g cs i Q s any (up-t .told s a b)
+                tell s (inr a) b = record { words = message (answer mac key n cs g); spoke = subst (λ (z : ℕ). Spoke mac key n (g ∷ cs) i Q z (message (answer mac key n cs g))) (sym a) spoke-2; passes = refl }
+
+            asked-2 : T2 .identity .question ≡ Q
+            unfolding W.as-station
+            asked-2 = refl
+
+            sent-walk : Walk mac eight key n low top (g ∷ cs) i
+            sent-walk =
+                given-walk T2 station-2 asked-2 up-2
+                (λ l line ne f. up-past mac eight key n low top g cs i (line .present) Q (stage-step (X .stage)) last-2 (omega (arith, w .up l line f .behind, same-question)) (apart l line ne f) (w .up l line f))
+
+      kept-walk : (A : Accepted mac mm t ws coin out) → length (after mac mm t ws coin out .held) < quorum n → answer mac key n cs g ≡ returned mm t out (keeps kept (after mac mm t ws coin out))
+          → Walk mac eight key n low top (g ∷ cs) i
+      unfolding returned state-of
+      kept-walk A few e =
+          quiet-walk (ap (λ (r : Returned). unrefused (r .number)) e) (after mac mm t ws coin out) (ap (λ (r : Returned). r .station) e) (ap (λ (r : Returned). r .after) e) refl refl
+          (λ a. (
+            a,
+            λ ok all. both (ok (main-of ws)) (every ok (state-of t .held)) (sym (every-insert ok (main-of ws) (state-of t .held))
+                ∙ subst (λ (z : State). every ok (z .held) ≡ true) (state-back n i (after mac mm t ws coin out) top lo hi (kept-sane mac eight mm t ws coin out len A few)) all) .1,
+          ))
+
+      shut-walk : (A : Accepted mac mm t ws coin out) (d : ℕ) → answer mac key n cs g ≡ returned mm t out (keeps closed-now (shut (after mac mm t ws coin out) d)) → Walk mac eight key n low top (g ∷ cs) i
+      unfolding returned state-of
+      shut-walk A d e =
+          quiet-walk (ap (λ (r : Returned). unrefused (r .number)) e) (shut (after mac mm t ws coin out) d) (ap (λ (r : Returned). r .station) e) (ap (λ (r : Returned). r .after) e) refl refl (λ a. never true a refl)
+
+      pub give-walk : Walk mac eight key n low top (g ∷ cs) i
+      unfolding returned
+      give-walk = go (giving-outcome mac mm t ws coin out) refl (gives-view mac mm t ws coin out len)
+        where
+          go : (x : Outcome) → giving-outcome mac mm t ws coin out ≡ x → Gives mac mm t ws coin out x → Walk mac eight key n low top (g ∷ cs) i
+          go _ e (refuses {k} z) = refused-walk (gives o t ws coin out) t out k z (b-is ∙ ap (returned mm t out) e)
+          go _ e (holds-on A few) = kept-walk A few (b-is ∙ ap (returned mm t out) e)
+          go _ e (shuts A size c) = shut-walk A (decision-then mac mm t ws coin out) (b-is ∙ ap (returned mm t out) e)
+          go _ e (goes-on {k} A size c a z) =
+              let wk : wrote k ≡ true = ap wrote z ∙ sent-wrote (ltb (t .decision) none || eqb (decision-then mac mm t ws coin out) none) in
+              sent-walk (ap (λ (r : Returned). unrefused (r .number)) (b-is ∙ ap (returned mm t out) e) ∙ wrote-unrefused k wk) k A size c a wk (b-is ∙ ap (returned mm t out) e)
+
+  -- ---- every list
+  -- a coding that is refused leaves the module
+  not-coded : (m : Module) (ws : List ℕ) (s : Statement) (x : Sealed.Coded) → Did m ws s x → (x .number ≡ 0 → ⊥) → x .after ≡ m
+  not-coded m ws s x (coded a b c) d = absurd (d a)
+  not-coded m ws s x (refused a b c) d = b
+
+  -- a coding at the site is refused, one elsewhere changes nothing there
+  apart-walk : (c : Call) (cs : List Call) (i : ℕ) → ((k : ℕ) → lineage mac key n (c ∷ cs) i k ≡ lineage mac key n cs i k) → (site c ≡ i → answer mac key n cs c .after ≡ modules mac key n cs (site c))
+      → Walk mac eight key n low top cs i → Walk mac eight key n low top (c ∷ cs) i
+  apart-walk c cs i same f w = still mac eight key n low top c cs i same (by (eqb i (site c)) refl) w
+    where
+      by : (b : Bool) → eqb i (site c) ≡ b → modules mac key n (c ∷ cs) i ≡ modules mac key n cs i
+      by true e = sym (module-same mac key n c cs (f (sym (eqb-true i (site c) e))) i)
+      by false e = module-other mac key n c cs i (eqb-false i (site c) e)
+
+  elsewhere : (c : Call) (cs : List Call) (i : ℕ) → (i ≡ site c → ⊥) → Walk mac eight key n low top cs i → Walk mac eight key n low top (c ∷ cs) i
+  elsewhere c cs i ne w = still mac eight key n low top c cs i (λ k. lineage-other mac key n c cs i k ne) (module-other mac key n c cs i ne) w
+
+  pub walk : (faulty : List ℕ) (cs : List Call) → Given mac key n cs → AllSound mac eight key n low top faulty cs → (i : ℕ) → 1 ≤ i → i ≤ n → member i faulty ≡ false
+      → Walk mac eight key n low top cs i
+  unfolding Given Sound lineage act
+  walk faulty [] g s i lo hi h = record { up = λ k line e. absurd (let z : _≡_ {A = ℕ} 0 1 = cc in omega arith); unique = λ k o a b e f z. absurd (let z : _≡_ {A = ℕ} 0 1 = cc in omega arith) }
+  walk faulty (call j (opens q v out) ∷ cs) g s i lo hi h = by (eqb i j) refl (walk faulty cs (g .1 .1) (λ x a b c. s x a b c .1) i lo hi h)
+    where
+      by : (b : Bool) → eqb i j ≡ b → Walk mac eight key n low top cs i → Walk mac eight key n low top (call j (opens q v out) ∷ cs) i
+      by true e w =
+          let z : i ≡ j = eqb-true i j e in
+          subst (λ (y : ℕ). Walk mac eight key n low top (call y (opens q v out) ∷ cs) i) z
+          (open-walk faulty cs (inv mac eight key n low top faulty cs (g .1 .1) (λ x a b c. s x a b c .1)) i lo hi h w q v out
+          (inv mac eight key n low top faulty (call i (opens q v out) ∷ cs) ((lo, hi), g .1) (subst (λ (y : ℕ). AllSound mac eight key n low top faulty (call y (opens q v out) ∷ cs)) (sym z) s)))
+      by false e w = elsewhere (call j (opens q v out)) cs i (eqb-false i j e) w
+  walk faulty (call j (gives o t ws coin out) ∷ cs) g s i lo hi h = by (eqb i j) refl (walk faulty cs (g .1 .1) (λ x a b c. s x a b c .1) i lo hi h)
+    where
+      by : (b : Bool) → eqb i j ≡ b → Walk mac eight key n low top cs i → Walk mac eight key n low top (call j (gives o t ws coin out) ∷ cs) i
+      by true e w =
+          let z : i ≡ j = eqb-true i j e in
+          let s' : AllSound mac eight key n low top faulty (call i (gives o t ws coin out) ∷ cs) = subst (λ (y : ℕ). AllSound mac eight key n low top faulty (call y (gives o t ws coin out) ∷ cs)) (sym z) s in
+          subst (λ (y : ℕ). Walk mac eight key n low top (call y (gives o t ws coin out) ∷ cs) i) z
+          (give-walk faulty cs (inv mac eight key n low top faulty cs (g .1 .1) (λ x a b c. s x a b c .1)) i lo hi h w o t ws coin out (g .1 .0 .0) (g .1 .0 .1) (λ u. s' i lo hi h .0 refl u)
+          (inv mac eight key n low top faulty (call i (gives o t ws coin out) ∷ cs) ((lo, hi), g .1) s'))
+      by false e w = elsewhere (call j (gives o t ws coin out)) cs i (eqb-false i j e) w
+  walk faulty (call j (codes ws) ∷ cs) g s i lo hi h =
+      apart-walk (call j (codes ws)) cs i (λ k. refl) (λ z. not-coded (modules mac key n cs j) ws _ _ (plain-rises mac (modules mac key n cs j) ws) (λ y. s i lo hi h .0 z y))
+      (walk faulty cs (g .1 .1) (λ x a b c. s x a b c .1) i lo hi h)
+  walk faulty (call j (tosses ws coin) ∷ cs) g s i lo hi h =
+      apart-walk (call j (tosses ws coin)) cs i (λ k. refl) (λ z. not-coded (modules mac key n cs j) ws _ _ (coin-rises mac (modules mac key n cs j) ws coin) (λ y. s i lo hi h .0 z y))
+      (walk faulty cs (g .1 .1) (λ x a b c. s x a b c .1) i lo hi h)

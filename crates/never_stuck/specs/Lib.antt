@@ -1,0 +1,4 @@
+pub mod Claim
+pub mod Theorem
+pub mod Example
+pub mod Laws
