@@ -4,7 +4,7 @@
 use std::io::Write;
 use std::process::{Command, Stdio};
 
-use second::group_simulation::{votes, Given};
+use second::group_simulation::{votes, Counts, BEST};
 
 const ROUNDS: usize = 7;
 
@@ -43,26 +43,26 @@ fn main() {
     let program = std::env::args().nth(1).expect("the path of the proved program");
     println!("| n | questions | bundles given | ours, us a bundle | Rust, us a bundle | ours, us a decision | Rust, us a decision | Rust's time / ours |");
     println!("|---|---|---|---|---|---|---|---|");
-    for (byte, n, questions) in [(b'4', 4, 4000), (b'7', 7, 2500), (b'3', 31, 120)] {
+    for (byte, n, questions) in [(b'4', 4, 1200), (b'7', 7, 700), (b'3', 31, 30)] {
         let kinds: Vec<u8> = (0..questions).map(|i| b"01m"[i % 3]).collect();
-        let mut input = vec![byte];
+        let mut input = vec![byte, b'.'];
         input.extend(&kinds);
         let (mut ours, mut rust) = (f64::MAX, f64::MAX);
-        let mut given = Given::default();
+        let mut counts = Counts::default();
         for _ in 0..ROUNDS {
             let before = used(-1);
             let printed = proved(&program, &input);
             ours = ours.min(used(-1) - before);
-            given = Given::default();
+            counts = Counts::default();
             let before = used(0);
-            let expected = votes(n, &kinds, &mut given);
+            let expected = votes(n, &kinds, BEST, &mut counts);
             rust = rust.min(used(0) - before);
             assert_eq!(printed, expected);
         }
-        let (all, decisions) = (given.all as f64, questions as f64 * f64::from(n));
+        let (all, decisions) = (counts.given as f64, questions as f64 * f64::from(n));
         println!(
             "| {n} | {questions} | {} | {:.2} | {:.2} | {:.1} | {:.1} | {:.2} |",
-            given.all,
+            counts.given,
             ours / all * 1e6,
             rust / all * 1e6,
             ours / decisions * 1e6,

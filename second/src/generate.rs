@@ -12,8 +12,9 @@ use crate::sha256::sha256;
 use crate::small_host;
 use crate::valley_cases::valleys;
 
-/// What the group simulation is run on in the gate: all three groups, and questions of each kind.
-const GROUP_SIMULATION: &[u8] = b"a01mmm0m1m";
+/// What the group simulation is run on in the gate: all three groups, both radios, and questions of
+/// each kind.
+const GROUP_SIMULATION: &[u8] = b"aa01mmm0m1m";
 
 /// The script of calls, and what it prints: the checks, then all other calls on the same registers.
 pub fn script() -> (String, String) {

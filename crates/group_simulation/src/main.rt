@@ -1,10 +1,18 @@
-// A simulation of a group: whole votes of all its sites in one program, with a radio that loses nothing. `small_host` is the program to read first; this
-// one runs groups of 4, 7 and 31 sites through many questions, and is what `bench/` times.
+// A simulation of a group: whole votes of all its sites in one program, over a radio that loses nothing or, by a fixed table, 28 of 64 packets. `small_host`
+// is the program to read first; this one runs groups of 4, 7 and 31 sites through many questions by the rules of README, "Resending", and is what
+// `bench/` times.
 //
-// The first byte of its input, of at most 4,096, says which groups vote: `4` one of 4 sites, `7` one of 7, `3` one of 31, `a` all three. Each byte behind it is a
-// question: at `0` all sites propose 0, at `1` all propose 1, at any other byte sites of even number propose 1 and the others 0; a zero byte ends the
-// input. A line is printed for each question: n, the question, the sites' decisions, how many bundles were given in all so far, and how many calls were
-// refused, openings included.
+// The first byte of its input, of at most 4,096, says which groups vote: `4` one of 4 sites, `7` one of 7, `3` one of 31, `a` all three. The second says over
+// which radio: `.` loses nothing, `x` the packets of the table, `a` is first one and then the other. Each byte behind them is a question: at `0` all
+// sites propose 0, at `1` all propose 1, at any other byte sites of even number propose 1 and the others 0; a zero byte ends the input.
+//
+// The sites take turns. In its turn a site opens a station on the question if it has none there and may; then it sends its last bundle to each other
+// site in a packet of its own. What is answered 7 or 4 there, of an old step or an old question, is a request: that site sends back its own bundle of that
+// question and step, if it has one. Such an answer is not answered. All else that is refused is dropped; it will be sent again. Tosses of one
+// round come out the same at all sites, the round's lowest bit: sites that toss on their own need many more rounds, and the more the larger the group.
+//
+// A line is printed for each question: n, the question, the sites' decisions, and in all so far: bundles given; refused calls, openings included; packets
+// lost; bundles sent on request; and bundles that took the place of one of the same question.
 use format::OUTPUT_WORDS;
 use libc::STDIN_FILENO;
 use libc::STDOUT_FILENO;
@@ -13,41 +21,88 @@ use station::Station;
 ghost use mathlib.Core.Path.{_≡_};
 ghost use Prim.Native.Nat.{_+_, _*_, _≤_, _<_};
 ghost use lib.ListN.{length};
-ghost use Rattle.format.specs.Numbers.{most-stations};
+ghost use Rattle.format.specs.Numbers.{most-stations, output-words};
 
 // The sites of the largest group.
 const SITES: usize = format::MOST_STATIONS as usize;
 
-// What a host keeps of its site: what making the module returned, the module and the station as the last call returned them, the last bundle that was
-// written, and how many were written on this question, one for each step.
+// What is kept of a bundle: its word count, and its words.
+const SLOT: usize = 1 + OUTPUT_WORDS;
+
+// Own bundles of all sites: a ring of 16 steps for each of two questions. A real host keeps all steps; no run of the gate gets past the ring, as the last
+// number of each line says.
+const KEPT: usize = SITES * 32 * SLOT;
+
+// How many turns a site that has decided waits for its vote of the round behind. One that decided later than others may wait in vain, since those who
+// have gone on to the next question code nothing more for this one; and then nobody needs that vote.
+const PATIENCE: u32 = 16;
+
+// What a host keeps of its site: module and station as the last call returned them; question and step of its last bundle, the question 0 before the first;
+// whether it has decided, and in how many turns since; and whether its vote of the round behind the deciding one is written, or there was no question yet.
 struct Site {
-    made: u32,
     own: Module,
     station: Station,
-    bundle: [u32; OUTPUT_WORDS],
-    count: usize,
-    written: u32,
+    question: u32,
+    step: u64,
+    decided: bool,
+    waited: u32,
+    free: bool,
 }
 
-// What was given to a site in one turn, and how many calls were refused.
-struct Heard {
-    site: Site,
+// What is counted.
+struct Counts {
+    packets: u64,
+    lost: u64,
     given: u64,
     refused: u64,
+    again: u64,
+    past: u64,
 }
 
-// Before the first question: a module that has coded nothing, and no station.
+// A site after a call, the number that was answered, and the counts.
+struct Heard {
+    site: Site,
+    number: u32,
+    counts: Counts,
+}
+
+// Both sites after a packet and its answer.
+struct Passed {
+    from: Site,
+    to: Site,
+    counts: Counts,
+}
+
+fn no_counts() -> Counts {
+    Counts {
+        packets: 0,
+        lost: 0,
+        given: 0,
+        refused: 0,
+        again: 0,
+        past: 0,
+    }
+}
+
+// One more.
+fn more(count: u64) -> u64 {
+    std::num::wrapping_add_u64(count, 1)
+}
+
+// Before the first question: a module that has coded nothing, and no station. If the module was not made, no opening will be answered 20 and the site
+// takes no part.
 fn fresh(n: u32, number: u32) -> Site {
     let made = modules::make([7; 32], n, number);
     let own = made.made;
     let station = opening::none();
     Site {
-        made: made.number,
         own,
         station,
-        bundle: [0; OUTPUT_WORDS],
-        count: 0,
-        written: 0,
+        question: 0,
+        step: 0,
+        decided: false,
+        waited: 0,
+        free: true,
     }
 }
 
@@ -62,165 +117,324 @@ fn proposal(kind: u8, number: u32) -> u32 {
     0
 }
 
+// The step of a bundle, by the first word of its main statement.
+fn step_in(word: u32) -> u64 {
+    let step = format::step_of(format::read_fields(word));
+    step.0
+}
+
+// Where a site keeps its bundle of a question and step.
+fn spot(place: usize, question: u32, step: u64) -> usize
+    requires { ⌜ place < most-stations ⌝ }
+    ensures { λ r. ⌜ r < 992 ⌝ }
+{
+    place * 32 + (question % 2) as usize * 16 + (step % 16) as usize
+}
+
+// The word count that a slot begins with.
+fn count_in(word: u32) -> usize
+    ensures { λ r. ⌜ r ≤ output-words ⌝ }
+{
+    let count = word as usize;
+    if count <= OUTPUT_WORDS {
+        return count;
+    }
+    0
+}
+
+// Whether there is a bundle in a spot, and it is of the question and step of the one in another.
+fn alike(spot: usize, other: usize, kept: &[u32; KEPT]) -> bool
+    requires { ⌜ (spot < 992) × (other < 992) ⌝ }
+{
+    let a = spot * SLOT;
+    let b = other * SLOT;
+    (kept[a] != 0) & (kept[a + 3] == kept[b + 3]) & (step_in(kept[a + 2]) == step_in(kept[b + 2]))
+}
+
+// Keeps a bundle.
+fn keep(spot: usize, count: u32, bundle: [u32; OUTPUT_WORDS], kept: &mut [u32; KEPT])
+    requires { ⌜ spot < 992 ⌝ }
+{
+    let at = spot * SLOT;
+    kept[at] = count;
+    let mut i = 0;
+    while i < OUTPUT_WORDS {
+        kept[at + 1 + i] = bundle[i];
+        i += 1;
+    }
+}
+
+// Keeps a bundle that a site wrote, and counts it if it takes the place of one of the same question.
+fn written(
+    c: Counts,
+    place: usize,
+    question: u32,
+    count: usize,
+    bundle: [u32; OUTPUT_WORDS],
+    kept: &mut [u32; KEPT],
+) -> Counts
+    requires { ⌜ place < most-stations ⌝ }
+{
+    let mut next = c;
+    if count <= OUTPUT_WORDS {
+        let to = spot(place, question, step_in(bundle[1]));
+        let at = to * SLOT;
+        if (kept[at] != 0) & (kept[at + 3] == question) {
+            next.past = more(c.past);
+        }
+        keep(to, count as u32, bundle, kept);
+    }
+    next
+}
+
 // Opens a station on a question. The station before, decided or not, is discarded: the module codes nothing more for it. A refused opening leaves the
 // site as it was.
-fn open(s: Site, question: u32, value: u32) -> Heard {
+fn open(
+    s: Site,
+    c: Counts,
+    place: usize,
+    question: u32,
+    value: u32,
+    kept: &mut [u32; KEPT],
+) -> Heard
+    requires { ⌜ place < most-stations ⌝ }
+{
     let own = s.own;
     let mut bundle = [0u32; OUTPUT_WORDS];
     let o = opening::open(own, question, value, &mut bundle);
+    let mut counts = c;
     if o.number != 20 {
+        counts.refused = more(c.refused);
         return Heard {
             site: s,
-            given: 0,
-            refused: 1,
+            number: o.number,
+            counts,
         };
     }
     let after = o.after;
     let station = o.station;
     let site = Site {
-        made: s.made,
         own: after,
         station,
-        bundle,
-        count: o.count,
-        written: 1,
+        question,
+        step: 0,
+        decided: false,
+        waited: 0,
+        free: false,
     };
+    let next = written(c, place, question, o.count, bundle, kept);
     Heard {
         site,
-        given: 0,
-        refused: 0,
+        number: o.number,
+        counts: next,
     }
 }
 
-// Gives a bundle to the station. At 20 and 21 it wrote a bundle, which is sent from now on; at 0 and 22 it wrote none, and the one before is sent; any
-// other number is a refusal, and the call returned all as it was.
-fn hear(h: Heard, words: &[u32], coin: u32) -> Heard {
-    let s = h.site;
-    let own = s.own;
-    let station = s.station;
-    let mut bundle = [0u32; OUTPUT_WORDS];
-    let g = giving::give(own, station, words, coin, &mut bundle);
-    let after = g.after;
-    let next = g.station;
-    let given = std::num::wrapping_add_u64(h.given, 1);
-    if (g.number == 20) | (g.number == 21) {
-        let site = Site {
-            made: s.made,
-            own: after,
-            station: next,
-            bundle,
-            count: g.count,
-            written: std::num::wrapping_add_u32(s.written, 1),
-        };
-        return Heard {
-            site,
-            given,
-            refused: h.refused,
-        };
-    }
-    let last = s.bundle;
-    let site = Site {
-        made: s.made,
-        own: after,
-        station: next,
-        bundle: last,
-        count: s.count,
-        written: s.written,
-    };
-    let kept = (g.number == 0) | (g.number == 22);
-    let more = if kept { 0 } else { 1 };
-    Heard {
-        site,
-        given,
-        refused: std::num::wrapping_add_u64(h.refused, more),
-    }
-}
-
-// Where a site's bundle of a step is in the air. Sites resend their bundles of the question, since others may be a step behind; the last four are
-// enough here, 331 words for each site.
-fn spot(written: u32, place: usize) -> usize
-    requires { ⌜ place < most-stations ⌝ }
-    ensures { λ r. ⌜ r < 124 ⌝ }
-{
-    (written % 4) as usize * SITES + place
-}
-
-// Puts a bundle in the air.
-fn send(bundle: [u32; OUTPUT_WORDS], spot: usize, air: &mut [u32; 41044])
-    requires { ⌜ spot < 124 ⌝ }
-{
-    let at = spot * OUTPUT_WORDS;
-    let mut i = 0;
-    while i < OUTPUT_WORDS {
-        air[at + i] = bundle[i];
-        i += 1;
-    }
-}
-
-// Gives the bundle in one spot.
-fn hear_spot(h: Heard, spot: usize, air: &[u32; 41044], lengths: [usize; 124], coin: u32) -> Heard
-    requires { ⌜ spot < 124 ⌝ }
-{
-    let words = &air[..];
-    let at = spot * OUTPUT_WORDS;
-    let l = lengths[spot];
-    if l <= OUTPUT_WORDS {
-        let end = at + l;
-        return hear(h, &words[at..end], coin);
-    }
-    h
-}
-
-// Gives the site the other sites' bundles of its own step. One of another step would be refused, by 8 if it is early: the host gives it again after
-// the step. When the step has ended the station has written its next bundle.
-fn listen(s: Site, place: usize, n: usize, air: &[u32; 41044], lengths: [usize; 124]) -> Heard
-    requires { ⌜ n ≤ most-stations ⌝ }
-{
-    let mut h = Heard {
-        site: s,
-        given: 0,
-        refused: 0,
-    };
-    let mut i = 0;
-    while i < n {
-        let now_at = h.site;
-        if now_at.written != s.written {
-            return h;
-        }
-        if i != place {
-            let next = hear_spot(h, spot(s.written, i), air, lengths, (i % 2) as u32);
-            h = next;
-        }
-        i += 1;
-    }
-    h
-}
-
-// A site's turn: it opens a station on the question if it has none there, else it listens. A site whose module was not made takes no part.
-fn turn(
+// The beginning of a site's turn: it opens a station on the question if it has none there and may.
+fn begin(
     s: Site,
+    c: Counts,
     place: usize,
-    n: usize,
     question: u32,
     value: u32,
-    air: &[u32; 41044],
-    lengths: [usize; 124],
+    kept: &mut [u32; KEPT],
 ) -> Heard
-    requires { ⌜ n ≤ most-stations ⌝ }
+    requires { ⌜ place < most-stations ⌝ }
 {
-    if s.made != 0 {
-        return Heard {
-            site: s,
-            given: 0,
-            refused: 1,
+    if (s.question < question) & (s.free | (PATIENCE < s.waited)) {
+        return open(s, c, place, question, value, kept);
+    }
+    let mut site = s;
+    if s.decided {
+        site.waited = std::num::wrapping_add_u32(s.waited, 1);
+    }
+    Heard {
+        site,
+        number: 0,
+        counts: c,
+    }
+}
+
+// Gives a station the bundle in a spot.
+fn give(s: Site, spot: usize, kept: &[u32; KEPT], out: &mut [u32; OUTPUT_WORDS]) -> giving::Given
+    requires { ⌜ spot < 992 ⌝ }
+{
+    let own = s.own;
+    let station = s.station;
+    let coin = (s.step / 2 % 2) as u32;
+    let words = &kept[..];
+    let at = spot * SLOT;
+    let from = at + 1;
+    let end = from + count_in(kept[at]);
+    giving::give(own, station, &words[from..end], coin, out)
+}
+
+// A site after a giving that was answered `g`, with a bundle whose main statement has this first word if it was 20 or 21.
+fn after(s: Site, c: Counts, g: giving::Given, word: u32) -> Heard {
+    let own = g.after;
+    let station = g.station;
+    let sent = (g.number == 20) | (g.number == 21);
+    let mut site = s;
+    site.own = own;
+    site.station = station;
+    site.step = if sent { step_in(word) } else { s.step };
+    site.decided = s.decided | (g.number == 21);
+    site.free = s.free | (s.decided & sent) | (g.number == 22);
+    let mut counts = c;
+    counts.given = more(c.given);
+    if (g.number != 0) & (g.number < 20) {
+        counts.refused = more(c.refused);
+    }
+    Heard {
+        site,
+        number: g.number,
+        counts,
+    }
+}
+
+// A site hears the bundle in a spot. At 20 and 21 its station wrote one, which is kept and sent from now on; any number but these, 0 and 22 is a refusal, and
+// the call returned all as it was.
+fn hear(s: Site, c: Counts, place: usize, spot: usize, kept: &mut [u32; KEPT]) -> Heard
+    requires { ⌜ (place < most-stations) × (spot < 992) ⌝ }
+{
+    let mut bundle = [0u32; OUTPUT_WORDS];
+    let g = give(s, spot, kept, &mut bundle);
+    if (g.number == 20) | (g.number == 21) {
+        let counts = written(c, place, s.question, g.count, bundle, kept);
+        return after(s, counts, g, bundle[1]);
+    }
+    after(s, c, g, 0)
+}
+
+// Counts a packet. It is lost if the radio loses any and the table says `x`: the table is gone through once for 64 packets, each time from the next byte on.
+fn packet(c: Counts, lossy: bool) -> Counts {
+    let table = b"x.x.x...x.xx.x.x.xx.xx.xx..x..xxx.xx.x.x.xxx.x.....xx...........";
+    let at = (c.packets % 64 + c.packets / 64 % 64) % 64;
+    let mut next = c;
+    next.packets = more(c.packets);
+    if lossy & (table[at as usize] == b'x') {
+        next.lost = more(c.lost);
+    }
+    next
+}
+
+// The answer to a bundle that the other site refused: its own in a spot, which site `from` hears unless the packet is lost.
+fn answer(
+    from: Site,
+    h: Heard,
+    place: usize,
+    spot: usize,
+    lossy: bool,
+    kept: &mut [u32; KEPT],
+) -> Passed
+    requires { ⌜ (place < most-stations) × (spot < 992) ⌝ }
+{
+    let to = h.site;
+    let c = h.counts;
+    let mut sent = packet(c, lossy);
+    sent.again = more(c.again);
+    if sent.lost != c.lost {
+        return Passed {
+            from,
+            to,
+            counts: sent,
         };
     }
-    let station = s.station;
-    let identity = station.identity;
-    if identity.question < question {
-        return open(s, question, value);
+    let heard = hear(from, sent, place, spot, kept);
+    let site = heard.site;
+    let counts = heard.counts;
+    Passed {
+        from: site,
+        to,
+        counts,
     }
-    listen(s, place, n, air, lengths)
+}
+
+// Site `to` hears the bundle of site `from` in a spot, and answers it where it is of an old step or question of which `to` has its own, in the spot `old`.
+fn exchange(
+    from: Site,
+    to: Site,
+    c: Counts,
+    place: usize,
+    other: usize,
+    spot: usize,
+    old: usize,
+    lossy: bool,
+    kept: &mut [u32; KEPT],
+) -> Passed
+    requires { ⌜ (place < most-stations) × ((other < most-stations) × ((spot < 992) × (old < 992))) ⌝ }
+{
+    let h = hear(to, c, other, spot, kept);
+    if ((h.number == 7) | (h.number == 4)) & alike(old, spot, kept) {
+        return answer(from, h, place, old, lossy, kept);
+    }
+    let hearer = h.site;
+    let counts = h.counts;
+    Passed {
+        from,
+        to: hearer,
+        counts,
+    }
+}
+
+// A packet with the last bundle of site `from`, if there is one. Site `to` hears it if it has a station and the packet is not lost.
+fn pass(
+    from: Site,
+    to: Site,
+    c: Counts,
+    place: usize,
+    other: usize,
+    lossy: bool,
+    kept: &mut [u32; KEPT],
+) -> Passed
+    requires { ⌜ (place < most-stations) × (other < most-stations) ⌝ }
+{
+    let question = from.question;
+    if question == 0 {
+        return Passed {
+            from,
+            to,
+            counts: c,
+        };
+    }
+    let sent = packet(c, lossy);
+    if (to.question == 0) | (sent.lost != c.lost) {
+        return Passed {
+            from,
+            to,
+            counts: sent,
+        };
+    }
+    let bundle = spot(place, question, from.step);
+    let old = spot(other, question, from.step);
+    exchange(from, to, sent, place, other, bundle, old, lossy, kept)
+}
+
+// What is next in a turn: the site whose turn it is begins it, where `other` is itself; else it sends its last bundle to that site.
+fn act(
+    from: Site,
+    to: Site,
+    c: Counts,
+    place: usize,
+    other: usize,
+    question: u32,
+    value: u32,
+    lossy: bool,
+    kept: &mut [u32; KEPT],
+) -> Passed
+    requires { ⌜ (place < most-stations) × (other < most-stations) ⌝ }
+{
+    if place != other {
+        return pass(from, to, c, place, other, lossy, kept);
+    }
+    let h = begin(from, c, place, question, value, kept);
+    let site = h.site;
+    let counts = h.counts;
+    Passed {
+        from: site,
+        to: site,
+        counts,
+    }
 }
 
 // What the site has decided on a question, or 2: a decision of another question is never taken for it, nor one of a station that does not fit.
@@ -246,16 +460,22 @@ fn print_decisions(decisions: [u32; SITES], n: usize) {
     }
 }
 
-fn print_line(n: usize, question: u32, decisions: [u32; SITES], given: u64, refused: u64) {
-    io::print_decimal(STDOUT_FILENO, n as u64);
+// Prints a number behind a space.
+fn print_next(number: u64) {
     io::write_all(STDOUT_FILENO, b" ");
-    io::print_decimal(STDOUT_FILENO, question as u64);
+    io::print_decimal(STDOUT_FILENO, number);
+}
+
+fn print_line(n: usize, question: u32, decisions: [u32; SITES], c: Counts) {
+    io::print_decimal(STDOUT_FILENO, n as u64);
+    print_next(question as u64);
     io::write_all(STDOUT_FILENO, b" ");
     print_decisions(decisions, n);
-    io::write_all(STDOUT_FILENO, b" ");
-    io::print_decimal(STDOUT_FILENO, given);
-    io::write_all(STDOUT_FILENO, b" ");
-    io::print_decimal(STDOUT_FILENO, refused);
+    print_next(c.given);
+    print_next(c.refused);
+    print_next(c.lost);
+    print_next(c.again);
+    print_next(c.past);
     io::write_all(STDOUT_FILENO, b"\n");
 }
 
@@ -274,6 +494,19 @@ fn group(n: usize) -> [Site; SITES]
     sites
 }
 
+// What the sites have decided on a question.
+fn decisions_of(sites: [Site; SITES], n: usize, question: u32) -> [u32; SITES]
+    requires { ⌜ n ≤ most-stations ⌝ }
+{
+    let mut decisions = [2u32; SITES];
+    let mut i = 0;
+    while i < n {
+        decisions[i] = decision_of(sites[i], question);
+        i += 1;
+    }
+    decisions
+}
+
 // Whether all sites have decided.
 fn all_decided(decisions: [u32; SITES], n: usize) -> bool
     requires { ⌜ n ≤ most-stations ⌝ }
@@ -288,13 +521,35 @@ fn all_decided(decisions: [u32; SITES], n: usize) -> bool
     true
 }
 
-// The place of the site whose turn is next.
-fn next_place(k: usize, n: usize) -> usize
-    requires { ⌜ (k < n) × (n ≤ most-stations) ⌝ }
+// The question for the next round of turns: the next one, where all have decided on this one, whose line is then printed.
+fn next_question(sites: [Site; SITES], n: usize, question: u32, c: Counts) -> u32
+    requires { ⌜ n ≤ most-stations ⌝ }
+{
+    let decisions = decisions_of(sites, n, question);
+    if all_decided(decisions, n) {
+        print_line(n, question, decisions, c);
+        return std::num::wrapping_add_u32(question, 1);
+    }
+    question
+}
+
+// The place so many behind another, from the first again behind the last.
+fn place_behind(k: usize, j: usize, n: usize) -> usize
+    requires { ⌜ (k < n) × ((j ≤ n) × (n ≤ most-stations)) ⌝ }
     ensures { λ r. ⌜ r < n ⌝ }
 {
-    if k + 1 < n {
-        return k + 1;
+    if k + j < n {
+        return k + j;
+    }
+    k + j - n
+}
+
+// How many turns end where the site j behind the one whose turn it is comes next.
+fn turns_by(j: usize) -> usize
+    ensures { λ r. ⌜ r ≤ 1 ⌝ }
+{
+    if j == 0 {
+        return 1;
     }
     0
 }
@@ -312,73 +567,74 @@ fn kind_of(kinds: &[u8], question: u32) -> u8 {
     }
 }
 
-// Puts the questions to a group one after the other. The sites take turns, and behind each round of turns in which all have decided the next question
-// follows. A proved loop has to end, and that a vote does is not proved: so the turns are counted down, from a number that no run here uses up.
-fn votes(n: usize, kinds: &[u8])
+// Puts the questions to a group one after the other: behind each round of turns after which all have decided the next question follows. In the turn of
+// site k the site j behind it is next, at j 0 itself. A proved loop has to end, and that a vote does is not proved: so what is done is counted down, from a
+// number that no run here uses up.
+fn votes(n: usize, lossy: bool, kinds: &[u8])
     requires { ⌜ (1 ≤ n) × (n ≤ most-stations) ⌝ }
 {
     let mut sites = group(n);
-    let mut air = [0u32; 41044];
-    let mut lengths = [0usize; 124];
-    let mut decisions = [2u32; SITES];
-    let mut given: u64 = 0;
-    let mut refused: u64 = 0;
+    let mut kept = [0u32; KEPT];
+    let mut counts = no_counts();
     let mut question: u32 = 1;
     let mut k = 0;
-    let mut turns: u64 = 1000000;
-    while turns > 0 {
+    let mut j = 0;
+    let mut left: u64 = 100000000;
+    while left > 0 {
         let kind = kind_of(kinds, question);
         if kind == 0 {
             return;
         }
-        let s = sites[k];
-        let h = turn(
-            s,
-            k,
-            n,
-            question,
-            proposal(kind, k as u32 + 1),
-            &air,
-            lengths,
-        );
-        let site = h.site;
-        let bundle = site.bundle;
-        sites[k] = site;
-        let to = spot(site.written, k);
-        send(bundle, to, &mut air);
-        lengths[to] = site.count;
-        let decision = decision_of(site, question);
-        decisions[k] = decision;
-        given = std::num::wrapping_add_u64(given, h.given);
-        refused = std::num::wrapping_add_u64(refused, h.refused);
-        k = next_place(k, n);
-        if (k == 0) & all_decided(decisions, n) {
-            print_line(n, question, decisions, given, refused);
-            question = std::num::wrapping_add_u32(question, 1);
+        let i = place_behind(k, j, n);
+        let value = proposal(kind, k as u32 + 1);
+        let from = sites[k];
+        let to = sites[i];
+        let p = act(from, to, counts, k, i, question, value, lossy, &mut kept);
+        let hearer = p.to;
+        let sender = p.from;
+        let next = p.counts;
+        sites[i] = hearer;
+        sites[k] = sender;
+        counts = next;
+        j = place_behind(j, 1, n);
+        k = place_behind(k, turns_by(j), n);
+        if (j == 0) & (k == 0) {
+            question = next_question(sites, n, question, counts);
         }
-        turns -= 1;
+        left -= 1;
     }
 }
 
-// Whether the input asks for a group: by its own byte, or by `a` for all groups.
+// Whether a byte of the input asks for what has this byte, or by `a` for all.
 fn asked(which: u8, own: u8) -> bool {
     (which == own) | (which == b'a')
+}
+
+// The votes of the groups that are asked for.
+fn groups(which: u8, lossy: bool, kinds: &[u8]) {
+    if asked(which, b'4') {
+        votes(4, lossy, kinds);
+    }
+    if asked(which, b'7') {
+        votes(7, lossy, kinds);
+    }
+    if asked(which, b'3') {
+        votes(31, lossy, kinds);
+    }
 }
 
 fn main() {
     let mut space = io::buffer();
     let count = io::read_full(STDIN_FILENO, &mut space);
-    if count == 0 {
+    if count < 2 {
         return;
     }
     let which = space[0];
-    if asked(which, b'4') {
-        votes(4, &space[1..count]);
+    let radio = space[1];
+    if asked(radio, b'.') {
+        groups(which, false, &space[2..count]);
     }
-    if asked(which, b'7') {
-        votes(7, &space[1..count]);
-    }
-    if asked(which, b'3') {
-        votes(31, &space[1..count]);
+    if asked(radio, b'x') {
+        groups(which, true, &space[2..count]);
     }
 }

@@ -1,17 +1,22 @@
--- Every read and store is inside its array, and the loop ends.
+-- Every read and store is inside its array, and the loop ends. Where two sites and their successors are known, `omega` is handed the invariant: it reads only
+-- so many records by itself.
 use Prim.Native.Nat.{_≤_, _<_}
+use native.Mathlib.Omega.{arith}
 use borrow.Author.Needs.{needs}
 use Rattle.group_simulation.proofs.votes.Statement.{statement}
 use Rattle.group_simulation.proofs.votes.Tie as tie
 
 abbrev Inv-loop : tie.InvT-loop
-Inv-loop n kinds sites₀ air₀ lengths₀ decisions₀ given₀ refused₀ question₀ k₀ turns₀ sites air lengths decisions given refused question k turns = (k < n) × (n ≤ 31)
+Inv-loop n lossy kinds sites₀ kept₀ counts₀ question₀ k₀ j₀ left₀ sites kept counts question k j left = (k < n) × ((j < n) × (n ≤ 31))
 
 abbrev μ-loop : tie.MeasureT-loop
-μ-loop n kinds sites₀ air₀ lengths₀ decisions₀ given₀ refused₀ question₀ k₀ turns₀ sites air lengths decisions given refused question k turns = turns
+μ-loop n lossy kinds sites₀ kept₀ counts₀ question₀ k₀ j₀ left₀ sites kept counts question k j left = left
 
 group-requires : tie.Need-group-requires Inv-loop μ-loop
 group-requires c κs = search needs
+
+no-counts-requires : tie.Need-no-counts-requires Inv-loop μ-loop
+no-counts-requires c κs = search needs
 
 loop-holds : tie.Need-loop-holds Inv-loop μ-loop
 loop-holds c = search needs
@@ -22,11 +27,8 @@ kind-of-requires c κs = search needs
 returns : tie.Need-returns Inv-loop μ-loop
 returns c = search needs
 
-mul-s : tie.Need-mul-s Inv-loop μ-loop
-mul-s c = search needs
-
-array-copy-out-s : tie.Need-array-copy-out-s Inv-loop μ-loop
-array-copy-out-s c = search needs
+place-behind-requires : tie.Need-place-behind-requires Inv-loop μ-loop
+place-behind-requires c κs = search needs
 
 cast-proposal : tie.Need-cast-proposal Inv-loop μ-loop
 cast-proposal c = search needs
@@ -37,62 +39,53 @@ add-proposal c = search needs
 proposal-requires : tie.Need-proposal-requires Inv-loop μ-loop
 proposal-requires c κs = search needs
 
-turn-requires : tie.Need-turn-requires Inv-loop μ-loop
-turn-requires c κs = search needs
+mul-from : tie.Need-mul-from Inv-loop μ-loop
+mul-from c = search needs
+
+array-copy-out-from : tie.Need-array-copy-out-from Inv-loop μ-loop
+array-copy-out-from c = search needs
+
+mul-to : tie.Need-mul-to Inv-loop μ-loop
+mul-to c = search needs
+
+array-copy-out-to : tie.Need-array-copy-out-to Inv-loop μ-loop
+array-copy-out-to c = search needs
+
+act-requires : tie.Need-act-requires Inv-loop μ-loop
+act-requires c κs = search needs
 
 mul-sites : tie.Need-mul-sites Inv-loop μ-loop
-mul-sites c = search needs
+mul-sites c = omega (arith, c .before .before .before .before .before .before .before .before .before .before .before .before .loop .inv, c .before .before .before .before .before .before .before .before .place-behind .ensures)
 
 array-set-from-sites : tie.Need-array-set-from-sites Inv-loop μ-loop
-array-set-from-sites c = search needs
+array-set-from-sites c = omega (arith, c .before .before .before .before .before .before .before .before .before .before .before .before .loop .inv, c .before .before .before .before .before .before .before .before .place-behind .ensures)
 
-spot-requires : tie.Need-spot-requires Inv-loop μ-loop
-spot-requires c κs = search needs
+mul-sites-2 : tie.Need-mul-sites-2 Inv-loop μ-loop
+mul-sites-2 c = omega (arith, c .before .before .before .before .before .before .before .before .before .before .before .before .loop .inv)
 
-send-requires : tie.Need-send-requires Inv-loop μ-loop
-send-requires c κs = search needs
+array-set-from-sites-2 : tie.Need-array-set-from-sites-2 Inv-loop μ-loop
+array-set-from-sites-2 c = omega (arith, c .before .before .before .before .before .before .before .before .before .before .before .before .loop .inv)
 
-mul-lengths : tie.Need-mul-lengths Inv-loop μ-loop
-mul-lengths c = search needs
+place-behind-requires-2 : tie.Need-place-behind-requires-2 Inv-loop μ-loop
+place-behind-requires-2 c κs = omega (arith, c .before .before .before .before .before .before .before .before .before .before .before .before .loop .inv)
 
-array-write-lengths : tie.Need-array-write-lengths Inv-loop μ-loop
-array-write-lengths c = search needs
+turns-by-requires : tie.Need-turns-by-requires Inv-loop μ-loop
+turns-by-requires c κs = search needs
 
-decision-of-requires : tie.Need-decision-of-requires Inv-loop μ-loop
-decision-of-requires c κs = search needs
+place-behind-requires-3 : tie.Need-place-behind-requires-3 Inv-loop μ-loop
+place-behind-requires-3 c κs = omega (arith, c .before .before .before .before .before .before .before .before .before .before .before .before .before .before .loop .inv, c .turns-by .ensures)
 
-mul-decisions : tie.Need-mul-decisions Inv-loop μ-loop
-mul-decisions c = search needs
+next-question-requires : tie.Need-next-question-requires Inv-loop μ-loop
+next-question-requires c κs = omega (arith, c .before .before .before .before .before .before .before .before .before .before .before .before .before .before .before .before .loop .inv)
 
-array-write-decisions : tie.Need-array-write-decisions Inv-loop μ-loop
-array-write-decisions c = search needs
-
-wrapping-add-u64-requires : tie.Need-wrapping-add-u64-requires Inv-loop μ-loop
-wrapping-add-u64-requires c κs = search needs
-
-wrapping-add-u64-requires-2 : tie.Need-wrapping-add-u64-requires-2 Inv-loop μ-loop
-wrapping-add-u64-requires-2 c κs = search needs
-
-next-place-requires : tie.Need-next-place-requires Inv-loop μ-loop
-next-place-requires c κs = search needs
-
-all-decided-requires : tie.Need-all-decided-requires Inv-loop μ-loop
-all-decided-requires c κs = search needs
-
-print-line-requires : tie.Need-print-line-requires Inv-loop μ-loop
-print-line-requires c κs = search needs
-
-wrapping-add-u32-requires : tie.Need-wrapping-add-u32-requires Inv-loop μ-loop
-wrapping-add-u32-requires c κs = search needs
-
-sub-turns : tie.Need-sub-turns Inv-loop μ-loop
-sub-turns c = search needs
+sub-left : tie.Need-sub-left Inv-loop μ-loop
+sub-left c = search needs
 
 loop-less : tie.Need-loop-less Inv-loop μ-loop
 loop-less c = search needs
 
 loop-again : tie.Need-loop-again Inv-loop μ-loop
-loop-again c = search needs
+loop-again c = omega (arith, c .before .before .before .before .before .before .before .before .before .before .before .before .before .before .before .before .loop .inv, c .before .place-behind3 .ensures, c .before .before .before .place-behind2 .ensures)
 
 returns-2 : tie.Need-returns-2 Inv-loop μ-loop
 returns-2 c = search needs
@@ -104,31 +97,28 @@ votes-spec =
     Inv-loop
     μ-loop
     group-requires
+    no-counts-requires
     loop-holds
     kind-of-requires
     returns
-    mul-s
-    array-copy-out-s
+    place-behind-requires
     cast-proposal
     add-proposal
     proposal-requires
-    turn-requires
+    mul-from
+    array-copy-out-from
+    mul-to
+    array-copy-out-to
+    act-requires
     mul-sites
     array-set-from-sites
-    spot-requires
-    send-requires
-    mul-lengths
-    array-write-lengths
-    decision-of-requires
-    mul-decisions
-    array-write-decisions
-    wrapping-add-u64-requires
-    wrapping-add-u64-requires-2
-    next-place-requires
-    all-decided-requires
-    print-line-requires
-    wrapping-add-u32-requires
-    sub-turns
+    mul-sites-2
+    array-set-from-sites-2
+    place-behind-requires-2
+    turns-by-requires
+    place-behind-requires-3
+    next-question-requires
+    sub-left
     loop-less
     loop-again
     returns-2)
