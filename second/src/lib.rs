@@ -18,6 +18,7 @@ pub mod words;
 pub mod script;
 
 pub mod adversary;
+pub mod against;
 pub mod asides;
 pub mod random;
 pub mod rng;

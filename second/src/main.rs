@@ -4,11 +4,12 @@ use std::io::{Read, Write};
 use std::path::{Path, PathBuf};
 use std::process::ExitCode;
 
+use second::group::LAST_ROUND;
 use second::random::{many_lists, missing};
 use second::returns::TABLE;
 
 const USAGE: &str = "second run FILE | valley | random [--seed S] [--runs N] | generate [DIR] \
-                     | script --seed S --calls N DIR";
+                     | script --seed S --calls N DIR | script --against ROUNDS DIR";
 
 /// The fixed seed and number of lists of the random tester.
 const SEED: u64 = 20_181_217;
@@ -68,10 +69,24 @@ fn run_random(arguments: &[String]) -> Result<(), String> {
     }
 }
 
-fn write_script(seed: &str, calls: &str, directory: &str) -> Result<(), String> {
+fn write_seeded(seed: &str, calls: &str, directory: &str) -> Result<(), String> {
     let seed = seed.parse().map_err(|_| "--seed needs a number")?;
     let calls = calls.parse().map_err(|_| "--calls needs a number")?;
-    second::seeded::write(seed, calls, Path::new(directory))
+    let script = second::seeded::seeded_script(seed, calls)?;
+    second::seeded::write(script, Path::new(directory))
+}
+
+fn write_against(rounds: &str, directory: &str) -> Result<(), String> {
+    let rounds = match rounds.parse() {
+        Ok(rounds) if (1..LAST_ROUND).contains(&rounds) => rounds,
+        _ => {
+            return Err(format!(
+                "--against needs a number of 1 to {}",
+                LAST_ROUND - 1
+            ))
+        }
+    };
+    second::seeded::write(second::against::script(rounds), Path::new(directory))
 }
 
 fn main() -> ExitCode {
@@ -82,8 +97,9 @@ fn main() -> ExitCode {
         ["valley"] => run_valley(),
         ["random", ..] => run_random(&arguments[1..]),
         ["script", "--seed", seed, "--calls", calls, directory] => {
-            write_script(seed, calls, directory)
+            write_seeded(seed, calls, directory)
         }
+        ["script", "--against", rounds, directory] => write_against(rounds, directory),
         ["generate"] => second::generate::generate(&repository()),
         ["generate", directory] => second::generate::generate(Path::new(directory)),
         _ => Err(USAGE.to_string()),

@@ -62,9 +62,9 @@ fn first_calls(script: &str, printed: &str, calls: usize) -> (String, String) {
     (script, printed)
 }
 
-/// Writes such a script and what it prints as `stdin` and `stdout` of a directory.
-pub fn write(seed: u64, calls: usize, directory: &Path) -> Result<(), String> {
-    let (script, printed) = seeded_script(seed, calls)?;
+/// Writes a script and what it prints as `stdin` and `stdout` of a directory.
+pub fn write(script: (String, String), directory: &Path) -> Result<(), String> {
+    let (script, printed) = script;
     fs::create_dir_all(directory)
         .and_then(|()| fs::write(directory.join("stdin"), script))
         .and_then(|()| fs::write(directory.join("stdout"), printed))
