@@ -1,24 +1,38 @@
 //! What the small host prints (crates/small_host), from the description at its head: three sites
-//! vote on question 1, with n 3 and then with n 1, which refuses every call.
+//! vote on question 1 over a radio that loses packets, with n 3 and then with n 1, which refuses every
+//! call.
 
 use crate::group::BUNDLE_WORDS;
 use crate::hmac::Key;
-use crate::returns::{DECIDED, KEPT, SENT};
+use crate::returns::{DECIDED, KEPT, SENT, STEP_BELOW};
 use crate::sealed::{make, Module};
 use crate::station::{give, open, StationWords};
 use crate::status::status;
-use crate::words::NONE;
+use crate::words::{Bundle, Step, NONE};
 
 const KEY: Key = [0x0707_0707; 8];
 const QUESTION: u32 = 1;
+const COIN: u32 = 0;
 /// What sites 1, 2 and 3 propose.
 const PROPOSALS: [u32; 3] = [1, 1, 0];
-const EXCHANGES: usize = 5;
+/// From which site to which the packets of an exchange go, by their places.
+const PACKETS: [(usize, usize); 6] = [(0, 1), (0, 2), (1, 0), (1, 2), (2, 0), (2, 1)];
+/// The packets of each exchange, `x` where one is lost.
+const EXCHANGES: [&[u8; 6]; 5] = [b".x.xxx", b".x.xxx", b"......", b"......", b"......"];
 
 struct Site {
     own: Module,
     station: StationWords,
-    last: Vec<u32>,
+    /// The own bundles, one a step.
+    bundles: Vec<Vec<u32>>,
+}
+
+/// The step of a bundle that a station of this group wrote.
+fn step_of(words: &[u32]) -> Step {
+    Bundle::read(words, PROPOSALS.len() as u32)
+        .expect("a bundle")
+        .main
+        .step()
 }
 
 /// Makes a site's module and opens its station: the site, and what the two calls returned.
@@ -26,20 +40,49 @@ fn start(n: u32, number: u32, proposal: u32) -> (Site, u32, u32) {
     let (made, mut own) = make(&KEY, n, number);
     let mut lent = [0; BUNDLE_WORDS];
     let (answer, station) = open(&mut own, QUESTION, proposal, &mut lent);
-    let last = lent[..answer.count].to_vec();
-    (Site { own, station, last }, made, answer.number)
+    let bundles = vec![lent[..answer.count].to_vec()];
+    let site = Site {
+        own,
+        station,
+        bundles,
+    };
+    (site, made, answer.number)
 }
 
 impl Site {
+    fn last(&self) -> Vec<u32> {
+        self.bundles.last().expect("opened").clone()
+    }
+
     /// Gives the station a bundle: the number that this returned.
-    fn hear(&mut self, words: &[u32], coin: u32) -> u32 {
+    fn hear(&mut self, words: &[u32]) -> u32 {
         let mut lent = [0; BUNDLE_WORDS];
-        let answer = give(&mut self.own, &mut self.station, words, coin, &mut lent);
+        let answer = give(&mut self.own, &mut self.station, words, COIN, &mut lent);
         if [SENT, DECIDED].contains(&answer.number) {
-            self.last = lent[..answer.count].to_vec();
+            self.bundles.push(lent[..answer.count].to_vec());
         }
         answer.number
     }
+
+    /// The own bundle of a step.
+    fn of_step(&self, step: Step) -> Vec<u32> {
+        let found = self.bundles.iter().find(|words| step_of(words) == step);
+        found
+            .expect("a station writes a bundle in each step")
+            .clone()
+    }
+}
+
+/// A packet with a site's last bundle, and the answer to it: what is printed.
+fn packet(sites: &mut [Site], from: usize, to: usize) -> String {
+    let words = sites[from].last();
+    let number = sites[to].hear(&words);
+    if number != STEP_BELOW {
+        return format!(" {number}");
+    }
+    let own = sites[to].of_step(step_of(&words));
+    let back = sites[from].hear(&own);
+    format!(" {number} back {back}")
 }
 
 /// What the vote with this n prints.
@@ -51,14 +94,13 @@ fn vote(n: u32) -> String {
         text += &format!("site {number}: made {made}, opened {opened}\n");
         sites.push(site);
     }
-    for _ in 0..EXCHANGES {
-        let air: Vec<Vec<u32>> = sites.iter().map(|site| site.last.clone()).collect();
+    for exchange in EXCHANGES {
         text += "given";
-        for (place, site) in sites.iter_mut().enumerate() {
-            let others = air.iter().enumerate().filter(|(other, _)| *other != place);
-            for (coin, (_, words)) in (0..).zip(others) {
-                text += &format!(" {}", site.hear(words, coin));
-            }
+        for ((from, to), lost) in PACKETS.into_iter().zip(exchange) {
+            text += &match lost {
+                b'x' => " -".to_string(),
+                _ => packet(&mut sites, from, to),
+            };
         }
         text += "\n";
     }

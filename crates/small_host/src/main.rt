@@ -1,21 +1,33 @@
 // A small host: what a relay site's program does around the library (README, "How a host uses the library"). A real host runs one site and hears the
-// others by radio. This one runs three in one program, with a radio that loses nothing. They vote on question 1: sites 1 and 2 propose yes (1), site 3
-// no (0). Five times each site is given the last bundles of the two others, the lower-numbered one's first with coin 0, then the other's with coin 1.
-// They vote with n 3, and once more with n 1, which is set up wrongly: then nothing may be decided.
+// others by radio. This one runs three in one program. They vote on question 1: sites 1 and 2 propose yes (1), site 3 no (0). Five times each site sends its
+// last bundle to the two others, in six packets: 1 to 2, 1 to 3, 2 to 1, 2 to 3, 3 to 1, 3 to 2. The first two times the four packets to and from site 3 are
+// lost, so that it falls behind. What is answered 7 is of an old step, and its sender is behind: it is given the hearer's own bundle of that step. Every
+// coin is 0 here. They vote with n 3, and once more with n 1, which is set up wrongly: then nothing may be decided.
 //
-// Printed are n; for each site what making its module and opening its station returned; each time what the givings returned, site by site; and for
-// each site what reading its station returned, and its decision on question 1, if it has one.
+// Printed are n; for each site what making its module and opening its station returned; each time, packet by packet, a dash where it is lost, else what
+// giving the bundle returned, and at 7, behind the word back, what giving the sender the other one returned; and for each site what reading its station
+// returned, and its decision on question 1, if it has one.
 use format::OUTPUT_WORDS;
 use libc::STDOUT_FILENO;
 use modules::Module;
 use station::Station;
+ghost use Prim.Native.Nat.{_<_};
 
-// What a host keeps of its site: module and station as the last call returned them, and the last bundle that was written, with its word count.
+// The steps whose bundles a site keeps. A real host keeps all of the question; here nobody gets so far.
+const STEPS: usize = 16;
+
+struct Bundle {
+    words: [u32; OUTPUT_WORDS],
+    count: usize,
+}
+
+// What a host keeps of its site: module and station as the last call returned them, and its number; its own bundles by step, and the last one.
 struct Site {
     own: Module,
     station: Station,
-    bundle: [u32; OUTPUT_WORDS],
-    count: usize,
+    answered: u32,
+    bundles: [Bundle; STEPS],
+    last: Bundle,
 }
 
 fn print(text: &[u8], number: u32) {
@@ -23,57 +35,92 @@ fn print(text: &[u8], number: u32) {
     io::print_decimal(STDOUT_FILENO, number as u64);
 }
 
+// The step of a bundle, which its second word tells.
+fn step_of(bundle: Bundle) -> usize
+    ensures { λ r. ⌜ r < 16 ⌝ }
+{
+    let words = bundle.words;
+    let step = format::step_of(format::read_fields(words[1]));
+    (step.0 % 16) as usize
+}
+
 // Makes the site's module and opens a station on question 1. A site where one of the two is refused has no bundle to send.
 fn start(n: u32, number: u32, proposal: u32) -> Site {
     let made = modules::make([7; 32], n, number);
-    let mut bundle = [0u32; OUTPUT_WORDS];
-    let opened = opening::open(made.made, 1, proposal, &mut bundle);
+    let mut words = [0u32; OUTPUT_WORDS];
+    let opened = opening::open(made.made, 1, proposal, &mut words);
     print(b"\nsite ", number);
     print(b": made ", made.number);
     print(b", opened ", opened.number);
     let ready = (made.number == 0) & (opened.number == 20);
+    let count = if ready { opened.count } else { 0 };
     let after = opened.after;
     let station = opened.station;
+    let last = Bundle { words, count };
     Site {
         own: after,
         station,
-        bundle,
-        count: if ready { opened.count } else { 0 },
+        answered: opened.number,
+        bundles: [last; STEPS],
+        last,
     }
 }
 
-// Gives the site what another sends. Module and station that come back are kept, always: at a refusal they are what they were. At 20 and 21 there is a
-// new bundle to send (a real host stores the module durably before it does); else the last one is sent again.
-fn hear(s: Site, from: Site, coin: u32) -> Site {
-    let sent = from.bundle;
+// Gives the site a bundle. Module and station that come back are kept, always: at a refusal they are what they were. At 20 and 21 there is a new bundle, to be
+// kept and sent from now on (a real host stores the module durably before it sends); else the last one is sent again.
+fn hear(s: Site, bundle: Bundle) -> Site {
+    let sent = bundle.words;
     let words = &sent[..];
-    let count = from.count;
+    let count = bundle.count;
     if words.len() < count {
         return s;
     }
-    let mut bundle = [0u32; OUTPUT_WORDS];
-    let given = giving::give(s.own, s.station, &words[0..count], coin, &mut bundle);
+    let mut out = [0u32; OUTPUT_WORDS];
+    let given = giving::give(s.own, s.station, &words[0..count], 0, &mut out);
     print(b" ", given.number);
     let after = given.after;
     let then = given.station;
-    let mut next = s;
-    next.own = after;
-    next.station = then;
+    let mut site = s;
+    site.own = after;
+    site.station = then;
+    site.answered = given.number;
     if (given.number == 20) | (given.number == 21) {
-        next.bundle = bundle;
-        next.count = given.count;
+        let last = Bundle {
+            words: out,
+            count: given.count,
+        };
+        site.bundles[step_of(last)] = last;
+        site.last = last;
     }
-    next
+    site
 }
 
-// Each site hears the two others, whose bundles are those from before the exchange.
-fn exchange(sites: [Site; 3]) -> [Site; 3] {
+// A packet from one site to another with its last bundle, and the answer to one of an old step: both sites after it.
+fn send(from: Site, to: Site, lost: u8) -> [Site; 2] {
+    if lost == b'x' {
+        io::write_all(STDOUT_FILENO, b" -");
+        return [from, to];
+    }
+    let bundle = from.last;
+    let hearer = hear(to, bundle);
+    if hearer.answered != 7 {
+        return [from, hearer];
+    }
+    io::write_all(STDOUT_FILENO, b" back");
+    let sender = hear(from, hearer.bundles[step_of(bundle)]);
+    [sender, hearer]
+}
+
+// Each site sends its last bundle to the two others.
+fn exchange(sites: [Site; 3], lost: &[u8; 6]) -> [Site; 3] {
     io::write_all(STDOUT_FILENO, b"\ngiven");
-    [
-        hear(hear(sites[0], sites[1], 0), sites[2], 1),
-        hear(hear(sites[1], sites[0], 0), sites[2], 1),
-        hear(hear(sites[2], sites[0], 0), sites[1], 1),
-    ]
+    let a = send(sites[0], sites[1], lost[0]);
+    let b = send(a[0], sites[2], lost[1]);
+    let c = send(a[1], b[0], lost[2]);
+    let d = send(c[0], b[1], lost[3]);
+    let e = send(d[1], c[1], lost[4]);
+    let f = send(e[0], d[0], lost[5]);
+    [e[1], f[1], f[0]]
 }
 
 // Reads the decision on question 1. At any number but 0 there is none.
@@ -89,12 +136,9 @@ fn tell(number: u32, s: Site) {
 fn vote(n: u32) {
     print(b"n ", n);
     let begun = [start(n, 1, 1), start(n, 2, 1), start(n, 3, 0)];
-    let proposed = exchange(begun);
-    let voted = exchange(proposed);
-    // here sites 1 and 2 decide, and go on: site 3 needs their next bundles
-    let later = exchange(voted);
-    let again = exchange(later);
-    let ended = exchange(again);
+    let apart = exchange(exchange(begun, b".x.xxx"), b".x.xxx");
+    // here site 3 catches up step by step; who has decided goes on, since it needs their next bundles
+    let ended = exchange(exchange(exchange(apart, b"......"), b"......"), b"......");
     tell(1, ended[0]);
     tell(2, ended[1]);
     tell(3, ended[2]);
