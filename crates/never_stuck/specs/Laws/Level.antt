@@ -13,7 +13,7 @@ use Rattle.format.specs.Numbers.{last-round, code-words, least-stations, most-s
 use Rattle.format.specs.Group.{quorum}
 use Rattle.station.specs.declared.Stage.{Stage}
 use Rattle.station.specs.declared.Station.{Station}
-use Rattle.station.specs.Machine.{State, closes, stage-step}
+use Rattle.station.specs.Machine.{State, follows, closes, stage-step}
 use Rattle.station.specs.Words.{state-of}
 use Rattle.station.specs.Laws.Sane.{InRounds}
 use Rattle.agreement.specs.Demand.{Call}
@@ -65,7 +65,7 @@ module _ (mac : List ℕ → List ℕ → List ℕ) (eight : (key ws : List ℕ)
     onto : (cs : List Call) (x k : ℕ) (g : Stage) (d : ℕ) (u : State) (t : Station) → stage-step g ≡ σ → Ended mac eight key n low top q cs x k g d u 0 t → Within cs x (suc σ) m
     onto cs x k g d u t e (shut c closed asked de) = never (closes last-round g) (before-last g (omega arith)) c
     onto cs x k g d u t e (went c w se) =
-        let s : stage-step (t .stage) ≡ stage-step (Rattle.station.specs.Machine.follows n g u 0 .stage) = sym (ap stage-step (state-stage t)) ∙ ap (λ (z : State). stage-step (z .stage)) se in
+        let s : stage-step (t .stage) ≡ stage-step (follows n g u 0 .stage) = sym (ap stage-step (state-stage t)) ∙ ap (λ (z : State). stage-step (z .stage)) se in
         record { opening = k; station = t; waits = w; from = above (next-is n g u 0) s; upto = below (next-is n g u 0) s }
       where
         above : {σ' s : ℕ} → Follows (stage-step g) σ' → s ≡ σ' → suc σ ≤ s

@@ -36,7 +36,7 @@ use Rattle.agreement.specs.Laws.Line.{Line, line-open, reads, reads-append}
 use Rattle.agreement.specs.Laws.Lists.{same-line}
 use Rattle.agreement.specs.Laws.Run.{Inv}
 use Rattle.agreement.specs.Demand.{Call, site, action, view, coded-in, Lineage, Found, found, modules, answer, log, lineage}
-use Rattle.never_stuck.specs.Claim.{now}
+use Rattle.never_stuck.specs.Claim.{Wrote, now}
 use Rattle.never_stuck.specs.Laws.Came.{codes-came}
 use Rattle.never_stuck.specs.Laws.Spoken.{Spoke, spoke-later, Said, said-later}
 use Rattle.never_stuck.specs.Laws.Steps.{any}
@@ -159,21 +159,21 @@ module _ (mac : List ℕ → List ℕ → List ℕ) (eight : (key ws : List ℕ)
     unfolding bundle-of
     all-there = all-in n s C top ps pc few
 
-    pub written-main : main-of (message (answer mac key n cs c)) ≡ s
-    written-main = ap main-of message-is ∙ main-there
+    pub main-written : main-of (message (answer mac key n cs c)) ≡ s
+    main-written = ap main-of message-is ∙ main-there
 
     pub written-spoke : (i q σ : ℕ) → site c ≡ i → s .station ≡ i → s .question ≡ q → step s ≡ σ → Spoke mac key n (c ∷ cs) i q σ (message (answer mac key n cs c))
     unfolding returned
     written-spoke i q σ si a b d =
         record {
-          by-call = subst (λ (z : ℕ). Rattle.never_stuck.specs.Claim.Wrote mac key n (c ∷ cs) z (message (answer mac key n cs c))) si (now (ap (λ (r : Returned). wrote (r .number)) e ∙ w));
+          by-call = subst (λ (z : ℕ). Wrote mac key n (c ∷ cs) z (message (answer mac key n cs c))) si (now (ap (λ (r : Returned). wrote (r .number)) e ∙ w));
           valid = valid;
           came = codes-came mac key n (log mac key n (c ∷ cs)) (message (answer mac key n cs c)) (J .logs .sites) (found-valid (mac key) n (message (answer mac key n cs c)) valid .bundle)
               (subst (λ (z : List ℕ). All (Coded n (reads (log mac key n (c ∷ cs)))) (statements z (place-of 0) (suc (count-in z)))) (sym message-is)
               (subst (λ (z : List Statement). All (Coded n (reads (log mac key n (c ∷ cs)))) z) (sym all-there) (cs-s, coded-later c cs C cs-c)));
-          station = ap (λ (z : Statement). z .station) written-main ∙ a;
-          asked = ap (λ (z : Statement). z .question) written-main ∙ b;
-          in-step = ap step written-main ∙ d;
+          station = ap (λ (z : Statement). z .station) main-written ∙ a;
+          asked = ap (λ (z : Statement). z .question) main-written ∙ b;
+          in-step = ap step main-written ∙ d;
         }
 
   -- the only statement that a station holds when it has just written it was coded, and is what is held

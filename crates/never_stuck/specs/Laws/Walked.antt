@@ -49,10 +49,10 @@ use Rattle.agreement.specs.Laws.Invariant.{Mine}
 use Rattle.agreement.specs.Laws.Lists.{module-now, module-other, module-same, lineage-other, lineage-refused}
 use Rattle.agreement.specs.Laws.Run.{Inv}
 use Rattle.agreement.specs.Theorem.{inv, AllSound}
-use Rattle.agreement.specs.Demand.{Action, opens, gives, codes, tosses, Call, call, site, Lineage, found, opened, gave, member, act, modules, answer, log, openings, lineage, Presents, Sound, CodesCame, Given}
+use Rattle.agreement.specs.Demand.{Action, opens, gives, codes, tosses, Call, call, site, Lineage, found, written-main, given-main, opened, gave, member, act, modules, answer, log, openings, lineage, Presents, Sound, CodesCame, Given}
 use Rattle.never_stuck.specs.Laws.Spoken.{Spoke, Said, said-later, presents-now}
 use Rattle.never_stuck.specs.Laws.Steps.{any, next-step, next-is, up-to}
-use Rattle.never_stuck.specs.Laws.Walk.{Up, Walk, up-later, up-past, still, whose, renewed, written-main, written-spoke, held-coded, held-single}
+use Rattle.never_stuck.specs.Laws.Walk.{Up, Walk, up-later, up-past, still, whose, renewed, main-written, written-spoke, held-coded, held-single}
 
 module _ (mac : List ℕ → List ℕ → List ℕ) (eight : (key ws : List ℕ) → length (mac key ws) ≡ code-words) (key : List ℕ) (n : ℕ) (low : least-stations ≤ n) (top : n ≤ most-stations) where
   -- ---- a call at the site itself
@@ -135,7 +135,7 @@ module _ (mac : List ℕ → List ℕ → List ℕ) (eight : (key ws : List ℕ)
           there k = ap (λ (b : Bool). pick (b && eqb (openings mac key n cs i) k) (opened (answer mac key n cs c)) (lineage mac key n cs i k)) (join (eqb i i) _ (eq-eqb i i refl) un)
 
           new-line : Lineage
-          new-line = record { present = answer mac key n cs c .station; took = Rattle.agreement.specs.Demand.written-main (answer mac key n cs c) }
+          new-line = record { present = answer mac key n cs c .station; took = written-main (answer mac key n cs c) }
 
           is-new : lineage mac key n (c ∷ cs) i (openings mac key n cs i) ≡ found new-line
           unfolding pick new-line
@@ -173,7 +173,7 @@ module _ (mac : List ℕ → List ℕ → List ℕ) (eight : (key ws : List ℕ)
                 latest = λ x. record {
                   words = message (answer mac key n cs c);
                   spoke = spoke-0 (stage-step Gathering) (steps-0 kind-INIT 0 refl);
-                  held = λ ok all. ap ok (written-main mac eight key n low top faulty c cs J mm no-station out sent S [] U e refl proper tt (omega arith) valid coded-S tt)
+                  held = λ ok all. ap ok (main-written mac eight key n low top faulty c cs J mm no-station out sent S [] U e refl proper tt (omega arith) valid coded-S tt)
                       ∙ held-single mac eight key n low top T U S state-T refl ok all;
                 };
                 has-coded = ap (λ (z : Last). z .coded) last-is;
@@ -245,7 +245,7 @@ module _ (mac : List ℕ → List ℕ → List ℕ) (eight : (key ws : List ℕ)
         given-walk st is asked up others =
             renewed mac eight key n low top g cs i o st w
             (λ k l f. whose mac eight key n low top g cs i o st (λ k. gave (answer mac key n cs g) ws (lineage mac key n cs i k))
-            (record { present = answer mac key n cs g .station; took = Rattle.agreement.specs.Demand.written-main (answer mac key n cs g) ++ (Rattle.agreement.specs.Demand.given-main (answer mac key n cs g) ws ++ p .line .took) })
+            (record { present = answer mac key n cs g .station; took = written-main (answer mac key n cs g) ++ (given-main (answer mac key n cs g) ws ++ p .line .took) })
             (ap (gave (answer mac key n cs g) ws) (p .is)) is k l (sym (touched k) ∙ f)) up others (λ k l ne f z. apart k l ne f (z ∙ asked))
 
         -- nothing was written: the module is as it was
@@ -357,7 +357,7 @@ module _ (mac : List ℕ → List ℕ → List ℕ) (eight : (key ws : List ℕ)
                   latest = λ a. record {
                     words = message (answer mac key n cs g);
                     spoke = spoke-2;
-                    held = λ ok all. ap ok (written-main mac eight key n low top faulty g cs J mm t out k S2 (X .first ++ X .second) U2 e wk proper-2 proper-c few-c valid-2 coded-2 coded-c)
+                    held = λ ok all. ap ok (main-written mac eight key n low top faulty g cs J mm t out k S2 (X .first ++ X .second) U2 e wk proper-2 proper-c few-c valid-2 coded-2 coded-c)
                         ∙ held-single mac eight key n low top T2 U2 S2 state-2 refl ok all;
                   };
                   has-coded = ap (λ (z : Last). z .coded) last-2;
