@@ -15,13 +15,14 @@ use crate::script::Command;
 const SITES: usize = 3;
 const KEY: [u32; 8] = [0x0c01_0c01; 8];
 const QUESTION: u32 = 1;
-/// B and C open with 1, so that B can propose 1 in the first round: two INITs with 1 back it.
-const OPENED: [u32; SITES] = [0, 1, 1];
+/// A and C open with 0 and take each other's INIT, so that they can propose 0 in the first round: two
+/// INITs with 0 back it. B has one INIT for each value and proposes 1.
+const OPENED: [u32; SITES] = [0, 1, 0];
 pub const COIN: u32 = 1;
 
 /// Whose bundle A, B and C take: of the INITs, of the proposals and of the votes of a round against
 /// them, of the votes of the last such round, and where all are alike.
-const INITS: [usize; SITES] = [1, 2, 0];
+const INITS: [usize; SITES] = [2, 0, 0];
 const PROPOSALS: [usize; SITES] = [2, 0, 1];
 const VOTES: [usize; SITES] = [1, 2, 0];
 const LAST_VOTES: [usize; SITES] = [1, 0, 0];

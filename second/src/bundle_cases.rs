@@ -6,6 +6,7 @@ use crate::hmac::code;
 use crate::samples::{both_values, bundle, init, none_votes, p, proposals, some, v};
 use crate::samples::{D, KEY, QUESTION, R};
 use crate::script::Command;
+use crate::sealed::MODULE_WORDS;
 use crate::words::{head, Bundle, Flag, Kind, Statement, NONE};
 
 const SIZES: [u32; 5] = [2, 3, 4, 6, 31];
@@ -158,6 +159,14 @@ fn positions(n: u32, bundle: &Bundle) -> Vec<usize> {
     all.sort();
     all.dedup();
     all
+}
+
+/// A module with the key and this n, which are all that a check looks at.
+fn module_of(n: u32) -> [u32; MODULE_WORDS] {
+    let mut words = [0; MODULE_WORDS];
+    words[..8].copy_from_slice(&KEY);
+    words[8] = n;
+    words
 }
 
 impl Cases {
@@ -432,6 +441,23 @@ impl Cases {
         }
     }
 
+    /// Rule 2 at this n: the backing of each value, one INIT fewer and one more.
+    fn backings(&mut self) {
+        let n = self.n;
+        self.author.comment(&format!("n {n}: backings"));
+        self.author.set(Command::Raw(GROUP, module_of(n)));
+        for value in [0, 1] {
+            let size = backing(n, value);
+            // at n 2 a third INIT is of a station over n
+            let more = if size as u32 == n { 3 } else { 6 };
+            for (size, expected) in [(size - 1, 6), (size, 0), (size + 1, more)] {
+                let inits = (1..=size as u32).map(|s| init(s, value)).collect();
+                let words = bundle(p(1, 1, value, D), &[inits]).words();
+                self.check(&words, expected);
+            }
+        }
+    }
+
     /// The same words at other sizes of the group, in range and out of it, and another key.
     fn other_sizes(&mut self, words: &[u32]) {
         for module in 1..=4 {
@@ -450,9 +476,7 @@ impl Cases {
         let smaller = if n > 2 { n - 1 } else { 3 };
         let sizes = [n, 0, 1, 32, u32::MAX, smaller, n % 31 + 2, 2, 31, n];
         for (register, size) in sizes.into_iter().enumerate() {
-            let mut words = [0; 13];
-            words[..8].copy_from_slice(&KEY);
-            words[8] = size;
+            let mut words = module_of(size);
             if register == 9 {
                 words[7] ^= 1;
             }
@@ -470,6 +494,10 @@ pub fn bundles(author: Author) -> Author {
         for (name, bundle) in valid_bundles(n) {
             cases.faults_of(name, &bundle);
         }
+    }
+    for n in 2..=31 {
+        cases.n = n;
+        cases.backings();
     }
     cases.author
 }

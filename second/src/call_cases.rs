@@ -3,7 +3,7 @@
 
 use crate::author::Author;
 use crate::fit_cases::fit_cases;
-use crate::group::{quorum, BUNDLE_WORDS, LAST_ROUND, MOST_CERTIFICATE, STATEMENT_WORDS};
+use crate::group::{backing, quorum, BUNDLE_WORDS, LAST_ROUND, MOST_CERTIFICATE, STATEMENT_WORDS};
 use crate::random::{one_list, List};
 use crate::samples::{
     both_values, bundle, init, module, none_votes, p, proposals, station, v, D, KEY, QUESTION, R,
@@ -297,7 +297,7 @@ fn vote_bundle(n: u32, from: u32, round: u32, value: u32) -> Bundle {
 }
 
 fn first_proposal(n: u32, from: u32, value: u32) -> Bundle {
-    let size = crate::group::backing(n, value);
+    let size = backing(n, value);
     let inits = (1..=size as u32).map(|s| init(s, value)).collect();
     bundle(p(from, 1, value, D), &[inits])
 }
@@ -476,29 +476,29 @@ impl Calls {
     fn marked(&mut self) {
         self.author.comment("marked: n 3, INITs 0, 1");
         let words = station(3, init(1, 0), &[], [&[], &[]]);
-        let made = self.written(3, words, bundle(init(2, 1), &[]), 20);
-        assert_eq!((made.main.kind, made.main.value), (Kind::P, 0));
+        let made = self.written("marked", 3, words, bundle(init(2, 1), &[]), 20);
+        assert_eq!((made.main.kind, made.main.value), (Kind::P, 1));
         let words = station(4, init(1, 0), &[init(2, 1)], [&[], &[]]);
-        let made = self.written(4, words, bundle(init(3, 1), &[]), 20);
+        let made = self.written("marked", 4, words, bundle(init(3, 1), &[]), 20);
         assert_eq!((made.main.kind, made.main.value), (Kind::P, 1));
         let group = proposals(4, 1, 0, &[D], true);
         let words = station(4, v(1, 1, 0), &[v(2, 1, 0)], [&group, &[]]);
-        let made = self.written(4, words, vote_bundle(4, 3, 1, 0), 21);
+        let made = self.written("marked", 4, words, vote_bundle(4, 3, 1, 0), 21);
         assert_eq!((made.main.value, made.main.flag), (0, D));
         let group = proposals(4, 1, 1, &[D], true);
         let words = station(4, v(1, 1, NONE), &[v(2, 1, 1)], [&group, &[]]);
-        let made = self.written(4, words, vote_bundle(4, 3, 1, NONE), 20);
+        let made = self.written("marked", 4, words, vote_bundle(4, 3, 1, NONE), 20);
         assert_eq!((made.main.value, made.main.flag), (1, D));
         let words = station(4, v(1, 1, NONE), &[v(2, 1, NONE)], [&[], &[]]);
-        let made = self.written(4, words, vote_bundle(4, 3, 1, NONE), 20);
+        let made = self.written("marked", 4, words, vote_bundle(4, 3, 1, NONE), 20);
         assert_eq!((made.main.value, made.main.flag), (1, R));
         let first = proposals(4, 1, 0, &[D], true);
         let second = none_votes(4, 1, true);
         let words = station(4, p(1, 2, 0, R), &[p(2, 2, 0, D)], [&first, &second]);
-        let made = self.written(4, words, later_proposal(4, 3, 2, 0, R), 20);
+        let made = self.written("marked", 4, words, later_proposal(4, 3, 2, 0, R), 20);
         assert_eq!((made.main.value, &made.certificate[3..]), (0, &first[..]));
         let words = station(4, p(1, 2, 0, D), &[p(2, 2, 1, R)], [&first, &second]);
-        let made = self.written(4, words, later_proposal(4, 3, 2, 0, R), 20);
+        let made = self.written("marked", 4, words, later_proposal(4, 3, 2, 0, R), 20);
         assert_eq!(
             (made.main.value, &made.certificate[3..]),
             (NONE, &second[..])
@@ -509,10 +509,47 @@ impl Calls {
     }
 
     /// Gives by a setup, and reads the bundle written.
-    fn written(&mut self, n: u32, words: StationWords, given: Bundle, number: u32) -> Bundle {
+    fn written(
+        &mut self,
+        name: &str,
+        n: u32,
+        words: StationWords,
+        given: Bundle,
+        number: u32,
+    ) -> Bundle {
         let setup = Setup::new(n, words, given);
-        let report = self.try_once("marked", &setup, number);
+        let report = self.try_once(name, &setup, number);
         Bundle::read(&report.lent.1[..report.count], n).expect("a bundle is written")
+    }
+}
+
+// ---- the first proposal -------------------------------------------------------------------
+
+impl Calls {
+    /// "If at least half of the q INITs are 1 the proposal is 1, else 0": at every n, with as many
+    /// INITs for 1 as just make half of q, and with one fewer and one more. The ones are those of
+    /// the lowest stations, then those of the highest.
+    fn first_proposals(&mut self) {
+        for n in 2..=31 {
+            let q = quorum(n) as u32;
+            let half = q.div_ceil(2);
+            for (ones, value) in [(half - 1, 0), (half, 1), (half + 1, 1)] {
+                self.first_proposal_of(n, value, |s| u32::from(s <= ones));
+                self.first_proposal_of(n, value, |s| u32::from(s > q - ones));
+            }
+        }
+    }
+
+    /// Stations 1 to q open with these values, and the last is given to the first.
+    fn first_proposal_of(&mut self, n: u32, value: u32, opened: impl Fn(u32) -> u32) {
+        let q = quorum(n) as u32;
+        let held: Vec<Statement> = (2..q).map(|s| init(s, opened(s))).collect();
+        let words = station(n, init(1, opened(1)), &held, [&[], &[]]);
+        let given = bundle(init(q, opened(q)), &[]);
+        let made = self.written("the first proposal", n, words, given, 20);
+        assert_eq!((made.main.kind, made.main.value), (Kind::P, value));
+        assert_eq!(made.certificate.len(), backing(n, value));
+        assert!(made.certificate.iter().all(|s| s.value == value));
     }
 }
 
@@ -852,6 +889,7 @@ pub fn calls(author: Author) -> Author {
     calls.coding();
     calls.opening();
     calls.marked();
+    calls.first_proposals();
     calls.stages();
     fit_cases(&mut calls);
     calls.lowest_numbered();

@@ -43,11 +43,12 @@ pub fn quorum(n: u32) -> usize {
 }
 
 /// "The backing is the number of INITs that a first proposal needs: for value 0 it is n/4 rounded
-/// down, plus 1; for value 1 it is (n + 2)/4 rounded down, plus 1."
+/// down, plus 1; for value 1 it is (n + 2)/4 rounded down, plus 1." Job 1 of 02: "The two backings
+/// trade places between 0 and 1."
 pub fn backing(n: u32, value: u32) -> usize {
     if value == 0 {
-        (n / 4 + 1) as usize
-    } else {
         ((n + 2) / 4 + 1) as usize
+    } else {
+        (n / 4 + 1) as usize
     }
 }

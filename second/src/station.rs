@@ -444,10 +444,11 @@ impl Station {
         Statement::uncoded(kind, round, value, flag, (self.number, self.question))
     }
 
-    /// "INITs: 0 if at least half of the q are 0, else 1; P of round 1 follows, D-GET."
+    /// Job 1 of 02: "If at least half of the q INITs are 1 the proposal is 1, else 0." "P of round 1
+    /// follows, D-GET."
     fn end_of_gathering(&self) -> Ended {
-        let zeros = self.held.iter().filter(|s| s.value == 0).count();
-        let value = if 2 * zeros >= self.held.len() { 0 } else { 1 };
+        let ones = self.held.iter().filter(|s| s.value == 1).count();
+        let value = if 2 * ones >= self.held.len() { 1 } else { 0 };
         // "Of the INITs with that value, the lowest-numbered go into the certificate."
         let with_value = self.held.iter().filter(|s| s.value == value);
         Ended {

@@ -3,8 +3,9 @@
 use std::collections::BTreeMap;
 
 use second::generate::script;
+use second::group::backing;
 use second::script::{read_line, Command, Machine, Report};
-use second::words::NONE;
+use second::words::{Bundle, Kind, NONE};
 
 /// A call of the script: n of its module before the call, how many words it is given to judge, and
 /// what it left.
@@ -138,6 +139,24 @@ fn every_edge_is_called() {
     }
     for count in [11, 331] {
         assert!(has(&|call| call.report.count == count));
+    }
+}
+
+/// First proposals of both values at every n, each with its backing.
+#[test]
+fn every_first_proposal_is_made() {
+    let calls = all_calls();
+    for n in 2..=31 {
+        let of_n = calls.iter().filter(|call| call.n == n);
+        let written = of_n.filter_map(|c| Bundle::read(&c.report.lent.1[..c.report.count], n));
+        let first: Vec<Bundle> = written
+            .filter(|b| (b.main.kind, b.main.round) == (Kind::P, 1))
+            .collect();
+        for value in [0, 1] {
+            let mut sizes = first.iter().filter(|b| b.main.value == value).peekable();
+            assert!(sizes.peek().is_some(), "n {n}, value {value}");
+            assert!(sizes.all(|b| b.certificate.len() == backing(n, value)));
+        }
     }
 }
 

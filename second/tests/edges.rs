@@ -137,7 +137,8 @@ fn first_round_r_get() {
     assert_eq!(code_coin(&mut coder, &mut lent, 1), 0);
     assert_eq!(lent, p(1, 1, 1, R).words());
     assert_eq!(check(&KEY, 3, &bundle(p(1, 1, 0, R), &[])), 6);
-    assert_eq!(check(&KEY, 3, &bundle(p(1, 1, 0, R), &[&[init(1, 0)]])), 6);
+    assert_eq!(check(&KEY, 3, &bundle(p(1, 1, 1, R), &[&[init(1, 1)]])), 6);
+    assert_eq!(check(&KEY, 3, &bundle(p(1, 1, 1, D), &[&[init(1, 1)]])), 0);
     let group = [p(1, 1, 0, R), p(2, 1, 0, D)];
     assert_eq!(check(&KEY, 3, &bundle(v(1, 1, 0), &[&group])), 0);
     assert_eq!(check(&KEY, 3, &bundle(p(1, 2, 0, D), &[&group])), 0);
@@ -208,7 +209,7 @@ fn conflicts() {
     let given = bundle(v(2, 1, 1), &[&ps(&[4, 5, 6, 7], 1, 1, D)]);
     assert_eq!(give_words(&mut own, &mut words, &given, 0).0.number, 10);
     let mut words = station(7, p(1, 1, 0, D), &[], [&[], &[]]);
-    let given = bundle(p(2, 1, 1, D), &[&[init(1, 1), init(2, 1), init(3, 1)]]);
+    let given = bundle(p(2, 1, 1, D), &[&[init(1, 1), init(2, 1)]]);
     assert_eq!(give_words(&mut own, &mut words, &given, 0).0.number, 0);
     // held already: any further one is 10
     let group = ps(&[1, 2, 3, 4], 1, 1, D);

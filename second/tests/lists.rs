@@ -42,29 +42,30 @@ fn through_all_rounds(
     }
 }
 
-/// Opened at n 2: both decide in round 1, go on and close.
+/// Opened at n 2 with both values: both decide 1 in round 1, go on and close.
 #[test]
 fn all_rounds_with_a_decision() {
     let mut sites = [opened(2, 1, 0), opened(2, 2, 1)];
     let inits = [bundle(init(1, 0), &[]), bundle(init(2, 1), &[])];
-    assert_eq!(through_all_rounds(&mut sites, inits), [0, 0]);
+    assert_eq!(through_all_rounds(&mut sites, inits), [1, 1]);
     assert_eq!(sites[0].1[6], 1);
 }
 
-/// Opened at n 3 with both values, the coins differ in each round: they close undecided.
+/// Opened at n 3 with both values, the third site's INIT is 0: the first has two INITs for 0, the second
+/// one for each. They propose 0 and 1, the coins differ in each round, and they close undecided.
 #[test]
 fn all_rounds_without_a_decision() {
     let mut sites = [opened(3, 1, 0), opened(3, 2, 1)];
     let first = give_words(
         &mut sites[0].0,
         &mut sites[0].1,
-        &bundle(init(2, 1), &[]),
+        &bundle(init(3, 0), &[]),
         0,
     );
     let second = give_words(
         &mut sites[1].0,
         &mut sites[1].1,
-        &bundle(init(3, 1), &[]),
+        &bundle(init(3, 0), &[]),
         0,
     );
     let bundles = [first.1, second.1];

@@ -1,4 +1,5 @@
-//! The marked examples of the count, in the order of 01's table.
+//! The marked examples of the count, in the order of 01's table. Job 1 of 02: "The marked case of
+//! INITs 0 and 1 at n 3 becomes P 1, the backings at n 2, 6 and 31 change sides".
 
 mod common;
 use common::*;
@@ -9,9 +10,9 @@ use second::words::{Bundle, Flag, Kind, Statement, NONE};
 #[test]
 fn thresholds() {
     let row = |n| (quorum(n), backing(n, 0), backing(n, 1));
-    assert_eq!(row(2), (2, 1, 2));
-    assert_eq!(row(6), (4, 2, 3));
-    assert_eq!(row(31), (16, 8, 9));
+    assert_eq!(row(2), (2, 2, 1));
+    assert_eq!(row(6), (4, 3, 2));
+    assert_eq!(row(31), (16, 9, 8));
 }
 
 /// Opens station 1 with the first value and gives it INITs with the others; the proposal made.
@@ -29,13 +30,13 @@ fn after_inits(n: u32, values: &[u32]) -> (Statement, Vec<Statement>) {
 
 #[test]
 fn inits() {
-    // "n 3, INITs 0, 1 | P 0"
+    // "n 3, INITs 0, 1", with Job 1: P 1
     let (main, certificate) = after_inits(3, &[0, 1]);
     assert_eq!(
         (main.kind, main.round, main.value, main.flag),
-        (Kind::P, 1, 0, D)
+        (Kind::P, 1, 1, D)
     );
-    assert_eq!(certificate, [init(1, 0)]);
+    assert_eq!(certificate, [init(2, 1)]);
     // "n 4, INITs 0, 1, 1 | P 1"
     let (main, certificate) = after_inits(4, &[0, 1, 1]);
     assert_eq!(

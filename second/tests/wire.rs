@@ -18,7 +18,7 @@ fn the_documented_bundle() {
     let page = page();
     let shown = page
         .split("```\n")
-        .find(|block| block.starts_with("c0000001"));
+        .find(|block| block.starts_with("c0000002"));
     let word = |word| u32::from_str_radix(word, 16).unwrap();
     let words: Vec<u32> = shown.unwrap().split_whitespace().map(word).collect();
 

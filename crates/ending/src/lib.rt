@@ -32,16 +32,13 @@ pub struct Following {
     pub stage: Stage,
 }
 
-// "INITs: 0 if at least half of the q are 0, else 1."
+// "If at least half of the q INITs are 1 the proposal is 1, else 0." (Job 1 of document 02)
 fn first_value(slots: &[u32; SLOTS_WORDS], set: u32) -> u32
     ensures { λ r. ⌜ r ≡ FirstValue (held-in set (now (slots .entry)) 0 sites) ⌝ }
 {
     let all = held::number_of(held::scan(slots, set, Which::Any, Which::Any));
-    let zeros = held::number_of(held::scan(slots, set, Which::Only(0), Which::Any));
-    if all <= 2 * zeros {
-        return 0;
-    }
-    1
+    let ones = held::number_of(held::scan(slots, set, Which::Only(1), Which::Any));
+    if all <= 2 * ones { 1 } else { 0 }
 }
 
 // The value whose test holds, 0 first, or none.

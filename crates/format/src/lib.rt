@@ -126,9 +126,9 @@ pub fn backing(n: u32, v: u32) -> u32
     ensures { λ r. ⌜ r ≡ Backing n v ⌝ }
 {
     if v == 0 {
-        n / 4 + 1
-    } else {
         (((n as u64) + 2) / 4 + 1) as u32
+    } else {
+        n / 4 + 1
     }
 }
 

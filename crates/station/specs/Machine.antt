@@ -116,9 +116,9 @@ number-of p (s ∷ h) = pick (p s) (suc (number-of p h)) (number-of p h)
 abbrev pub has-value : ℕ → Statement → Bool
 has-value v s = eqb (s .value) v
 
--- "INITs: 0 if at least half of the q are 0, else 1"
+-- "If at least half of the q INITs are 1 the proposal is 1, else 0." (Job 1 of document 02)
 unfoldable pub first-value : List Statement → ℕ
-first-value h = pick (leb (length h) (2 * number-of (has-value 0) h)) 0 1
+first-value h = pick (leb (length h) (2 * number-of (has-value 1) h)) 1 0
 
 -- those that a test takes, in order
 unfoldable pub those : (Statement → Bool) → List Statement → List Statement

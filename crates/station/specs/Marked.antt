@@ -1,5 +1,6 @@
--- "Marked examples of the count": the whole table, and one theorem over it. A station that holds its own statement is given bundles, one after the other,
--- each tested by its rule and by the station's step tests, which is what giving comes to (`given-as-called` in AsCalled); a module codes ten words.
+-- "Marked examples of the count": the whole table, as Job 1 of document 02 changes it, and one theorem over it. A station that holds its own statement
+-- is given bundles, one after the other, each tested by its rule and by the station's step tests, which is what giving comes to (`given-as-called` in
+-- AsCalled); a module codes ten words.
 use Prim.Native.Nat.{ℕ}
 use mathlib.Core.List.{List, [], _∷_}
 use mathlib.Core.Path.{_≡_, refl}
@@ -96,15 +97,15 @@ Holds mac key (codes last s k) = coding-plain mac (module-at key last) (written 
 
 abbrev pub marked : List Row
 marked =
-    -- n 2: q 2, backings 1 and 2
-    counts 2 2 1 2
-    -- n 6: q 4, backings 2 and 3
-    ∷ counts 6 4 2 3
-    -- n 31: q 16, backings 8 and 9
-    ∷ counts 31 16 8 9
-    -- n 3, INITs 0, 1: P 0, with the one INIT of 0
-    ∷ gives 3 Gathering (init 1 0 by []) (init 2 1 by [] ∷ []) 1
-    (writes sent kind-P 0 D-GET 1 (init 1 0 ∷ []) none)
+    -- n 2: q 2, backings 2 and 1
+    counts 2 2 2 1
+    -- n 6: q 4, backings 3 and 2
+    ∷ counts 6 4 3 2
+    -- n 31: q 16, backings 9 and 8
+    ∷ counts 31 16 9 8
+    -- n 3, INITs 0, 1: P 1, with the one INIT of 1
+    ∷ gives 3 Gathering (init 1 0 by []) (init 2 1 by [] ∷ []) 0
+    (writes sent kind-P 1 D-GET 1 (init 2 1 ∷ []) none)
     -- n 4, INITs 0, 1, 1: P 1, with the two INITs of 1
     ∷ gives 4 Gathering (init 1 0 by []) (init 2 1 by [] ∷ init 3 1 by [] ∷ []) 0
     (writes sent kind-P 1 D-GET 1 (init 2 1 ∷ init 3 1 ∷ []) none)

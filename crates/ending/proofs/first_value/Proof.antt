@@ -25,25 +25,25 @@ number-of-requires-2 c κs = search needs
 mul-if1 : tie.Need-mul-if1
 mul-if1 c =
     let a = c .before .before .before .before .args in
-    record { fits = omega (arith, few (a .set) (a .slots .now) 0 (c .number-of2 .result) (c .number-of2 .ensures ∙ ap ones (c .before .scan2 .ensures))) }
+    record { fits = omega (arith, few (a .set) (a .slots .now) 1 (c .number-of2 .result) (c .number-of2 .ensures ∙ ap ones (c .before .scan2 .ensures))) }
 
 returns : tie.Need-returns
 returns c =
-    let z = c .before in
-    let n = z .before .before in
+    let o = c .before in
+    let n = o .before .before in
     let a = n .before .before .args in
-    here _ _ _ (le-leb (n .number-of .result) (2 * z .number-of2 .result) (c .if1 .taken))
-    ∙ first-by (a .set) (a .slots .now) (n .number-of .result) (z .number-of2 .result) (n .number-of .ensures ∙ ap ones (n .before .scan .ensures))
-    (z .number-of2 .ensures ∙ ap ones (z .before .scan2 .ensures))
+    here _ _ _ (le-leb (n .number-of .result) (2 * o .number-of2 .result) (omega (arith, c .if1 .taken)))
+    ∙ first-by (a .set) (a .slots .now) (n .number-of .result) (o .number-of2 .result) (n .number-of .ensures ∙ ap ones (n .before .scan .ensures))
+    (o .number-of2 .ensures ∙ ap ones (o .before .scan2 .ensures))
 
 returns-2 : tie.Need-returns-2
 returns-2 c =
-    let z = c .before in
-    let n = z .before .before in
+    let o = c .before in
+    let n = o .before .before in
     let a = n .before .before .args in
-    skip _ _ _ _ (lt-leb (n .number-of .result) (2 * z .number-of2 .result) (c .if1 .left)) refl
-    ∙ first-by (a .set) (a .slots .now) (n .number-of .result) (z .number-of2 .result) (n .number-of .ensures ∙ ap ones (n .before .scan .ensures))
-    (z .number-of2 .ensures ∙ ap ones (z .before .scan2 .ensures))
+    skip _ _ _ _ (lt-leb (n .number-of .result) (2 * o .number-of2 .result) (omega (arith, c .if1 .left))) refl
+    ∙ first-by (a .set) (a .slots .now) (n .number-of .result) (o .number-of2 .result) (n .number-of .ensures ∙ ap ones (n .before .scan .ensures))
+    (o .number-of2 .ensures ∙ ap ones (o .before .scan2 .ensures))
 
 pub first-value-spec : {M : Type 1} → statement M
 first-value-spec =

@@ -22,17 +22,17 @@ number-all (s ∷ h) = ap suc (number-all h)
 
 module _ (set : ℕ) (slots : List ℕ) where
   -- no more than there are stations
-  pub few : (v zeros : ℕ) → zeros ≡ ones (scan (such (Only v) Any) set slots) → zeros ≤ sites
-  few v zeros e = rw e (ones-le sites (scan (such (Only v) Any) set slots) (scan-low (such (Only v) Any) set slots))
+  pub few : (v found : ℕ) → found ≡ ones (scan (such (Only v) Any) set slots) → found ≤ sites
+  few v found e = rw e (ones-le sites (scan (such (Only v) Any) set slots) (scan-low (such (Only v) Any) set slots))
 
-  -- the count of INITs, and that of those with 0
-  pub first-by : (all zeros : ℕ) → all ≡ ones (scan (such Any Any) set slots) → zeros ≡ ones (scan (such (Only 0) Any) set slots)
-      → pick (leb all (2 * zeros)) 0 1 ≡ first-value (held-in set slots 0 sites)
+  -- the count of INITs, and that of those with 1
+  pub first-by : (all with-1 : ℕ) → all ≡ ones (scan (such Any Any) set slots) → with-1 ≡ ones (scan (such (Only 1) Any) set slots)
+      → pick (leb all (2 * with-1)) 1 0 ≡ first-value (held-in set slots 0 sites)
   unfolding first-value
-  first-by all zeros e f =
+  first-by all with-1 e f =
       let a : all ≡ length (held-in set slots 0 sites) = e ∙ scan-number (such Any Any) set slots ∙ number-all (held-in set slots 0 sites) in
-      let z : zeros ≡ number-of (has-value 0) (held-in set slots 0 sites) = f ∙ ap ones (scan-value set slots 0) ∙ scan-number (has-value 0) set slots in
-      rw (a, z)
+      let o : with-1 ≡ number-of (has-value 1) (held-in set slots 0 sites) = f ∙ ap ones (scan-value set slots 1) ∙ scan-number (has-value 1) set slots in
+      rw (a, o)
 
   -- all have the value, where its scan finds all
   pub every-by : (v all such-v : ℕ) → all ≡ scan (such Any Any) set slots → such-v ≡ scan (such (Only v) Any) set slots

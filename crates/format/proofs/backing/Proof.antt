@@ -11,11 +11,11 @@ add-result c = search needs
 add-result-2 : tie.Need-add-result-2
 add-result-2 c = search needs
 
-add-result-3 : tie.Need-add-result-3
-add-result-3 c = search needs
-
 cast-result : tie.Need-cast-result
 cast-result c = search needs
+
+add-result-3 : tie.Need-add-result-3
+add-result-3 c = search needs
 
 returns : tie.Need-returns
 unfolding backing
@@ -27,4 +27,4 @@ returns-2 c = search cases depth 8
 
 pub backing-spec : {M : Type 1} → statement M
 backing-spec =
-    tie.close (tie.spec add-result add-result-2 add-result-3 cast-result returns returns-2)
+    tie.close (tie.spec add-result add-result-2 cast-result add-result-3 returns returns-2)

@@ -1,17 +1,16 @@
 -- A bundle that is written of a proper statement and a certificate that backs it is valid.
-use Prim.Native.Nat.{ℕ, suc, _+_, _-_, _*_, _/_, _^_, _≤_}
+use Prim.Native.Nat.{ℕ, suc, _+_, _-_, _*_, _^_, _≤_}
 use mathlib.Core.Bool.{Bool, true, false}
 use mathlib.Core.List.{List, [], _∷_, _++_, append-nil}
 use mathlib.Core.Path.{_≡_, refl, sym, ap, _∙_, subst}
 use native.Mathlib.Omega.{arith}
-use lib.Dec.{eqb, ltb}
+use lib.Dec.{ltb}
 use lib.ListN.{length, getD, drop, length-append}
 use lib.Seq.{drop-at}
 use Rattle.laws.specs.Bools.{join}
 use Rattle.laws.specs.All.{All, all-map}
-use Rattle.station.specs.Words.{sites}
 use Rattle.format.specs.Numbers.{most-statements, bundle-words, least-stations, most-stations, place-of}
-use Rattle.format.specs.Group.{backing, quorum}
+use Rattle.format.specs.Group.{backing-most}
 use Rattle.format.specs.Words.{fields-of, formed}
 use Rattle.format.specs.Statement.{Statement, statement, statements, written, verifies}
 use Rattle.format.specs.Bundle.{count-in, main-of, certificate-of, all-formed, all-written, bundle-of}
@@ -77,17 +76,9 @@ module _ (n : ℕ) (s : Statement) (c : List Statement) (top : n ≤ most-statio
       }
 
 -- a certificate has at most 32 statements
-backing-few : (n v : ℕ) → n ≤ most-stations → backing n v ≤ quorum sites
-unfolding backing Rattle.laws.specs.Pick.pick
-backing-few n v h = go (eqb v 0)
-  where
-    go : (b : Bool) → Rattle.laws.specs.Pick.pick b (n / 4 + 1) ((n + 2) / 4 + 1) ≤ quorum sites
-    go true = omega arith
-    go false = omega arith
-
 pub backed-few : (n : ℕ) (m : Statement) (c : List Statement) → n ≤ most-stations → Backed n m c → length c ≤ most-statements
 backed-few n m c top (rule-1 k) = omega arith
-backed-few n m c top (rule-2 k r f h) = omega (arith, h .size, backing-few n (m .value) top)
+backed-few n m c top (rule-2 k r f h) = omega (arith, h .size, backing-most n (m .value))
 backed-few n m c top (rule-3 k r f h) = omega (arith, h .size)
 backed-few n m c top (rule-4 k r f h) = omega (arith, h .size)
 backed-few n m _ top (rule-5 {c} {d} k v h s o) = go (ltb 1 (m .round)) refl (some-D-GET c) refl

@@ -1,19 +1,19 @@
 -- The end of a step: the statement that follows is well-formed, a rule backs it by the certificate that is written with it, and the groups that the
 -- station keeps of it are those that its next step asks for.
-use Prim.Native.Nat.{ℕ, _+_, _-_, _*_, _≤_, _<_}
+use Prim.Native.Nat.{ℕ, _+_, _-_, _≤_, _<_}
 use mathlib.Core.Bool.{Bool, true, false, _&&_}
 use mathlib.Core.List.{List, [], _∷_, _++_, append-nil}
 use mathlib.Core.Path.{_≡_, refl, sym, ap, _∙_, subst}
 use native.Mathlib.Omega.{arith}
-use lib.Dec.{eqb, ltb, leb}
+use lib.Dec.{eqb, ltb}
 use lib.ListN.{length, take}
 use lib.Seq.{length-take-le}
-use borrow.Author.Tests.{eqb-true, eqb-false, eq-eqb, ltb-true, ltb-false, lt-ltb, le-ltb, leb-true, leb-false}
+use borrow.Author.Tests.{eqb-true, eqb-false, eq-eqb, ltb-true, ltb-false, lt-ltb, le-ltb}
 use Rattle.laws.specs.Pick.{pick}
 use Rattle.laws.specs.Bools.{never, both, join}
 use Rattle.laws.specs.All.{All, all-map, all-two}
 use Rattle.format.specs.Numbers.{kind-INIT, kind-P, kind-V, none, D-GET, R-GET, last-round}
-use Rattle.format.specs.Group.{quorum, backing, proposed-0, proposed-1}
+use Rattle.format.specs.Group.{quorum, backing}
 use Rattle.format.specs.Statement.{Statement, step}
 use Rattle.format.specs.Laws.Shape.{Shape, init, proposal, vote, Formed, formed-out}
 use Rattle.rules.specs.declared.Which.the-variants.{Any, Only}
@@ -24,10 +24,11 @@ use Rattle.station.specs.declared.Stage.{Stage}
 use Rattle.station.specs.declared.Stage.the-variants.{Gathering, Proposing, Voting}
 use Rattle.station.specs.Machine.{State, kind-in, round-in, stage-step, supplies-for-value, supplies-for-none, number-of, has-value, first-value, those, vote-value, carried, Next, after-inits, after-proposals, after-votes, conflict, keeping, held-of, kept-for-value, kept-for-none, value-group, leading}
 use Rattle.format.specs.Laws.ReadBack.{Proper}
+use Rattle.station.specs.First.{first-bit, first-exact}
 use Rattle.station.specs.Laws.Sane.{Kept, InRounds, FlagOf, Sane}
 use Rattle.station.specs.Laws.Insert.{conflict-insert}
 use Rattle.station.specs.Laws.Keep.{Fitting, same-step, all-take, grown, kept-for-value-on, kept-for-none-on}
-use Rattle.station.specs.Laws.Pieces.{asked-for, those-length, those-all, those-rising, take-rising, zeros-ones, some-other, none-some, some-weaker, leading-is}
+use Rattle.station.specs.Laws.Pieces.{asked-for, those-length, those-all, those-rising, take-rising, some-other, none-some, some-weaker, leading-is}
 
 -- q statements of the step, and the groups kept with them
 pub record Full (n : ℕ) (k : State) : Type 0 where
@@ -85,14 +86,6 @@ pub record Ready (n : ℕ) (question : ℕ) (x : Next) : Type 0 where
   pub for-none : (s : Statement) → s .value ≡ x .value → s .flag ≡ x .flag → supplies-for-none (x .stage) s ≡ true → Holds (none-votes n (round-in (x .stage) - 1)) (x .first)
 
 -- ---- INITs
-small-first : (h : List Statement) → first-value h < 2
-unfolding first-value pick
-small-first h = go (leb (length h) (2 * number-of (has-value 0) h))
-  where
-    go : (b : Bool) → pick b 0 1 < 2
-    go true = omega arith
-    go false = omega arith
-
 module _ (n : ℕ) (k : State) (F : Full n k) where
   abbrev h : List Statement
   h = k .held
@@ -107,12 +100,7 @@ module _ (n : ℕ) (k : State) (F : Full n k) where
 
   -- the proposed value has its backing among them
   backed-first : All (λ s. s .value < 2) h → backing n (first-value h) ≤ number-of (has-value (first-value h)) h
-  unfolding first-value pick
-  backed-first b = go (leb (length h) (2 * number-of (has-value 0) h)) refl
-    where
-      go : (c : Bool) → leb (length h) (2 * number-of (has-value 0) h) ≡ c → backing n (pick c 0 1) ≤ number-of (has-value (pick c 0 1)) h
-      go true e = proposed-0 n (number-of (has-value 0) h) (number-of (has-value 1) h) (zeros-ones h b ∙ F .size) (omega (arith, leb-true (length h) (2 * number-of (has-value 0) h) e, F .size))
-      go false e = proposed-1 n (number-of (has-value 0) h) (number-of (has-value 1) h) (zeros-ones h b ∙ F .size) (omega (arith, leb-false (length h) (2 * number-of (has-value 0) h) e, F .size))
+  backed-first b = first-exact n h (first-value h) (F .size) b (first-bit h) .0 refl
 
   module _ (e : k .stage ≡ Gathering) where
     in-gathering : (s : Statement) → Known n (k .stage) s → (s .kind ≡ kind-INIT) × (s .round ≡ 0)
@@ -136,7 +124,7 @@ module _ (n : ℕ) (k : State) (F : Full n k) where
     pub inits-ready : Ready n (k .question) (after-inits n h)
     inits-ready =
         record {
-          shape = λ s a b c d. proposal a (omega arith) (omega arith) (omega (arith, small-first h)) (omega arith);
+          shape = λ s a b c d. proposal a (omega arith) (omega arith) (omega (arith, first-bit h)) (omega arith);
           kind = refl;
           round = refl;
           rounds = (omega arith, omega arith);
