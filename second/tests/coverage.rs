@@ -153,9 +153,9 @@ fn every_first_proposal_is_made() {
             .filter(|b| (b.main.kind, b.main.round) == (Kind::P, 1))
             .collect();
         for value in [0, 1] {
-            let mut sizes = first.iter().filter(|b| b.main.value == value).peekable();
-            assert!(sizes.peek().is_some(), "n {n}, value {value}");
-            assert!(sizes.all(|b| b.certificate.len() == backing(n, value)));
+            let mut made = first.iter().filter(|b| b.main.value == value).peekable();
+            assert!(made.peek().is_some(), "n {n}, value {value}");
+            assert!(made.all(|b| b.certificate.len() == backing(n, value)));
         }
     }
 }

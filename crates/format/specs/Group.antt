@@ -41,7 +41,7 @@ quorum-sound n f faulty one p q = meet f (λ i. not (faulty i)) n (omega (arith,
 pub quorum-there : (n : ℕ) → 1 ≤ n → quorum n ≤ n - most-faulty n
 quorum-there n h = omega arith
 
--- the backing of 1 is half of the quorum, rounded up; that of 0 is what is over half
+-- the backing of 1 is the least number that is at least half of the quorum; that of 0 the least that is over half of it
 pub backing-0 : (n : ℕ) → backing n 0 ≡ quorum n / 2 + 1
 unfolding backing pick
 backing-0 n = omega arith
@@ -54,15 +54,15 @@ backing-1 n = omega arith
 pub proposed-0 : (n zeros ones : ℕ) → zeros + ones ≡ quorum n → 2 * ones < quorum n → backing n 0 ≤ zeros
 proposed-0 n zeros ones all fewer = omega (arith, backing-0 n)
 
-pub proposed-1 : (n zeros ones : ℕ) → zeros + ones ≡ quorum n → quorum n ≤ 2 * ones → backing n 1 ≤ ones
-proposed-1 n zeros ones all half = omega (arith, backing-1 n)
+pub proposed-1 : (n ones : ℕ) → quorum n ≤ 2 * ones → backing n 1 ≤ ones
+proposed-1 n ones half = omega (arith, backing-1 n)
 
 -- and the value that has its backing among them is proposed: the backing is the least number of INITs with which a value is
 pub enough-0 : (n zeros ones : ℕ) → zeros + ones ≡ quorum n → backing n 0 ≤ zeros → 2 * ones < quorum n
 enough-0 n zeros ones all enough = omega (arith, backing-0 n)
 
-pub enough-1 : (n zeros ones : ℕ) → zeros + ones ≡ quorum n → backing n 1 ≤ ones → quorum n ≤ 2 * ones
-enough-1 n zeros ones all enough = omega (arith, backing-1 n)
+pub enough-1 : (n ones : ℕ) → backing n 1 ≤ ones → quorum n ≤ 2 * ones
+enough-1 n ones enough = omega (arith, backing-1 n)
 
 pick-most : (b : Bool) (x y most : ℕ) → x ≤ most → y ≤ most → pick b x y ≤ most
 unfolding pick

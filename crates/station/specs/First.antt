@@ -56,6 +56,6 @@ first-exact n h v size bits bit = go v bit (half h) refl
         → (pick b 1 0 ≡ v → backing n v ≤ number-of (has-value v) h) × (backing n v ≤ number-of (has-value v) h → pick b 1 0 ≡ v)
     go zero l true e = ((λ x. absurd (omega (arith, x))), (λ x. absurd (omega (arith, size, at-least h e, enough-0 n (zeros h) (ones h) all x))))
     go zero l false e = ((λ x. proposed-0 n (zeros h) (ones h) all (omega (arith, size, fewer h e))), (λ x. refl))
-    go (suc zero) l true e = ((λ x. proposed-1 n (zeros h) (ones h) all (omega (arith, size, at-least h e))), (λ x. refl))
-    go (suc zero) l false e = ((λ x. absurd (omega (arith, x))), (λ x. absurd (omega (arith, size, fewer h e, enough-1 n (zeros h) (ones h) all x))))
+    go (suc zero) l true e = ((λ x. proposed-1 n (ones h) (omega (arith, size, at-least h e))), (λ x. refl))
+    go (suc zero) l false e = ((λ x. absurd (omega (arith, x))), (λ x. absurd (omega (arith, size, fewer h e, enough-1 n (ones h) x))))
     go (suc (suc v)) l b e = absurd (omega (arith, l))
