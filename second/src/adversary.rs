@@ -120,32 +120,41 @@ impl World {
         self.some_like(question, quorum(self.n), wanted)
     }
 
+    fn inits(&mut self, question: u32, value: u32) -> Option<Vec<Statement>> {
+        let wanted = Wanted {
+            kind: Kind::Init,
+            round: 0,
+            value: Some(value),
+            flag: None,
+        };
+        self.some_like(question, backing(self.n, value), wanted)
+    }
+
     /// A certificate of coded statements that backs the main statement, if chance finds one.
     pub fn find_certificate(&mut self, main: &Statement) -> Option<Vec<Statement>> {
         let (question, round) = (main.question, main.round);
         match (main.kind, main.flag, main.value) {
             (Kind::Init, _, _) => Some(Vec::new()),
-            (Kind::P, Flag::DGet, v) if round == 1 => {
-                let wanted = Wanted {
-                    kind: Kind::Init,
-                    round: 0,
-                    value: Some(v),
-                    flag: None,
-                };
-                self.some_like(question, backing(self.n, v), wanted)
-            }
+            (Kind::P, Flag::DGet, v) if round == 1 => self.inits(question, v),
             (Kind::P, Flag::DGet, v) => self.proposals(question, round - 1, v),
             (Kind::P, Flag::RGet, _) => self.none_votes(question, round - 1),
             (Kind::V, _, NONE) => self.find_for_none(question, round),
-            (Kind::V, _, v) => {
-                let mut first = self.proposals(question, round, v)?;
-                let second = round > 1 && first.iter().any(|s| s.flag == Flag::DGet);
-                if second && self.loose != Loose::OneGroup {
-                    first.extend(self.proposals(question, round - 1, v)?);
-                }
-                Some(first)
-            }
+            (Kind::V, _, v) => self.find_for_value(question, round, v),
         }
+    }
+
+    /// Rule 5, in round 1 with the INITs of Job 2 of 02.
+    fn find_for_value(&mut self, question: u32, round: u32, v: u32) -> Option<Vec<Statement>> {
+        let mut first = self.proposals(question, round, v)?;
+        if self.loose == Loose::OneGroup {
+            return Some(first);
+        }
+        if round == 1 {
+            first.extend(self.inits(question, v)?);
+        } else if first.iter().any(|s| s.flag == Flag::DGet) {
+            first.extend(self.proposals(question, round - 1, v)?);
+        }
+        Some(first)
     }
 
     fn find_for_none(&mut self, question: u32, round: u32) -> Option<Vec<Statement>> {
@@ -177,9 +186,10 @@ impl World {
         }
     }
 
-    fn forged_group(&mut self, like: Statement) -> Vec<Statement> {
+    fn forged_group(&mut self, size: usize, like: Statement) -> Vec<Statement> {
         let all: Vec<u32> = (1..=self.n).collect();
-        let stations = self.rng.part(&all, quorum(self.n)).expect("q is at most n");
+        let stations = self.rng.part(&all, size);
+        let stations = stations.expect("q and the backings are at most n");
         let member = |station| Statement { station, ..like };
         let group: Vec<Statement> = stations.into_iter().map(member).collect();
         group.into_iter().map(|s| self.coded_or_false(s)).collect()
@@ -262,39 +272,41 @@ impl World {
 
     /// The kept groups that such a station needs.
     fn forged_groups(&mut self, like: &Statement, held: &[Statement]) -> (Group, Group) {
-        let round = like.round;
-        let p = |round, value| Statement {
-            kind: Kind::P,
+        let (q, round) = (quorum(self.n), like.round);
+        let group_of = |kind, round, value| Statement {
+            kind,
             flag: Flag::DGet,
             round,
             value,
             ..*like
         };
-        match like.kind {
-            Kind::P if round > 1 => {
-                let d_get = held.iter().find(|s| s.flag == Flag::DGet);
-                let r_get = held.iter().any(|s| s.flag == Flag::RGet);
-                let first = match d_get {
-                    Some(s) => self.forged_group(p(round - 1, s.value)),
-                    None => Vec::new(),
-                };
-                let none = Statement {
-                    kind: Kind::V,
-                    value: NONE,
-                    ..p(round - 1, 0)
-                };
-                let second = if r_get {
-                    self.forged_group(none)
-                } else {
-                    Vec::new()
-                };
+        let none = || (Vec::new(), Vec::new());
+        match (like.kind, round) {
+            (Kind::Init, _) => none(),
+            (Kind::P, 1) => {
+                // the held stand by rising station, and the lowest-numbered supplies
+                let value = held[0].value;
+                let size = backing(self.n, value);
+                let inits = self.forged_group(size, group_of(Kind::Init, 0, value));
+                (inits, Vec::new())
+            }
+            (Kind::P, _) => {
+                let (mut first, mut second) = none();
+                if let Some(s) = held.iter().find(|s| s.flag == Flag::DGet) {
+                    first = self.forged_group(q, group_of(Kind::P, round - 1, s.value));
+                }
+                if held.iter().any(|s| s.flag == Flag::RGet) {
+                    second = self.forged_group(q, group_of(Kind::V, round - 1, NONE));
+                }
                 (first, second)
             }
-            Kind::V => match held.iter().find(|s| s.value != NONE) {
-                Some(s) => (self.forged_group(p(round, s.value)), Vec::new()),
-                None => (Vec::new(), Vec::new()),
+            (Kind::V, _) => match held.iter().find(|s| s.value != NONE) {
+                Some(s) => {
+                    let first = self.forged_group(q, group_of(Kind::P, round, s.value));
+                    (first, Vec::new())
+                }
+                None => none(),
             },
-            _ => (Vec::new(), Vec::new()),
         }
     }
 

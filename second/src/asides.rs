@@ -2,6 +2,8 @@
 //! round, with a few faults put in. The key is at hand here, so that codes verify where they are
 //! meant to. The list goes on as if these calls had not been made.
 
+use std::cmp::Reverse;
+
 use crate::adversary::{random_statement, Loose, LOOSE};
 use crate::bundle_cases::field_faults;
 use crate::call_cases::Setup;
@@ -298,7 +300,8 @@ impl World {
                 let station = self.any_site();
                 all.push(Statement { station, ..one }.coded(&self.key));
                 if self.rng.percent(70) {
-                    all.sort_by_key(|s| (s.step(), s.station));
+                    // each group behind those of later steps
+                    all.sort_by_key(|s| (Reverse(s.step()), s.station));
                 }
             }
             3 => all.rotate_left(q),

@@ -3,7 +3,7 @@
 use crate::author::Author;
 use crate::group::{backing, quorum, LAST_ROUND, MOST_CERTIFICATE, STATEMENT_WORDS};
 use crate::hmac::code;
-use crate::samples::{both_values, bundle, init, none_votes, p, proposals, some, v};
+use crate::samples::{both_values, bundle, init, inits, none_votes, p, proposals, some, v};
 use crate::samples::{D, KEY, QUESTION, R};
 use crate::script::Command;
 use crate::sealed::MODULE_WORDS;
@@ -24,15 +24,11 @@ struct Cases {
 
 /// A valid bundle for each rule and sub-case at this n.
 fn valid_bundles(n: u32) -> Vec<(&'static str, Bundle)> {
-    let inits = |value| -> Vec<Statement> {
-        let stations = some(n, backing(n, value), value == 0);
-        stations.iter().map(|s| init(*s, value)).collect()
-    };
     let mut all = vec![
         ("rule 1, 0", bundle(init(1, 0), &[])),
         ("rule 1, 1", bundle(init(n, 1), &[])),
-        ("rule 2, 0", bundle(p(n, 1, 0, D), &[inits(0)])),
-        ("rule 2, 1", bundle(p(1, 1, 1, D), &[inits(1)])),
+        ("rule 2, 0", bundle(p(n, 1, 0, D), &[inits(n, 0, true)])),
+        ("rule 2, 1", bundle(p(1, 1, 1, D), &[inits(n, 1, false)])),
     ];
     for (round, front) in [(2, true), (LAST_ROUND, false)] {
         all.extend(proposal_bundles(n, round, front));
@@ -58,22 +54,34 @@ fn proposal_bundles(n: u32, round: u32, front: bool) -> Vec<(&'static str, Bundl
     ]
 }
 
+/// Job 2 of 02: "In round 1 rule 5 now always has a second group". It names other stations than the
+/// first; "stations rising" holds in each group, not from one to the other.
+fn first_vote_bundles(n: u32) -> Vec<(&'static str, Bundle)> {
+    let vote = |from: u32, value: u32, flags: &[Flag], front: bool| {
+        let groups = [
+            proposals(n, 1, value, flags, front),
+            inits(n, value, !front),
+        ];
+        bundle(v(from, 1, value), &groups)
+    };
+    vec![
+        ("rule 5, round 1, 1", vote(1, 1, &[D], true)),
+        ("rule 5, round 1, 0", vote(1, 0, &[D], false)),
+        (
+            "rule 5, round 1 with an R-GET, 1",
+            vote(2, 1, &[R, D], false),
+        ),
+        ("rule 5, round 1, R-GET only, 0", vote(2, 0, &[R], true)),
+    ]
+}
+
 fn vote_bundles(n: u32) -> Vec<(&'static str, Bundle)> {
     let group = |round, flags: &[Flag], front| proposals(n, round, 1, flags, front);
-    let mut all = vec![
-        (
-            "rule 5, round 1",
-            bundle(v(1, 1, 1), &[group(1, &[D], true)]),
-        ),
-        (
-            "rule 5, round 1 with an R-GET",
-            bundle(v(2, 1, 1), &[group(1, &[R, D], false)]),
-        ),
-        (
-            "rule 6",
-            bundle(v(1, 1, NONE), &[both_values(n, 1, &[D], true)]),
-        ),
-    ];
+    let mut all = first_vote_bundles(n);
+    all.push((
+        "rule 6",
+        bundle(v(1, 1, NONE), &[both_values(n, 1, &[D], true)]),
+    ));
     for (round, front) in [(2, true), (LAST_ROUND, false)] {
         let before = round - 1;
         all.push((
@@ -147,18 +155,84 @@ pub fn field_faults(n: u32, word0: u32) -> Vec<(u32, Option<u32>)> {
     faults
 }
 
-/// The statements looked at: main, first and last; at n 4 the first and last of each group.
+/// Whether INITs stand behind the first group, as Job 2 of 02 wants them of a vote of round 1.
+fn has_inits_behind(n: u32, bundle: &Bundle) -> bool {
+    let behind = bundle.certificate.get(quorum(n));
+    behind.is_some_and(|s| s.kind == Kind::Init)
+}
+
+/// The statements looked at: main, first and last, and the first of INITs behind proposals; at n 4
+/// the first and last of each group.
 fn positions(n: u32, bundle: &Bundle) -> Vec<usize> {
     let count = bundle.certificate.len();
     let q = quorum(n);
-    let mut all = vec![0, 1, q, q + 1, count];
-    if n != 4 {
-        all = vec![0, 1, count];
+    let mut all = vec![0, 1, count];
+    if n == 4 {
+        all.extend([q, q + 1]);
+    }
+    if has_inits_behind(n, bundle) {
+        all.push(q + 1);
     }
     all.retain(|i| *i <= count);
     all.sort();
     all.dedup();
     all
+}
+
+/// Groups in place of the INITs of a vote of round 1: of another value, of another kind, one station
+/// twice, q of them.
+fn instead_of_inits(n: u32, group: &[Statement]) -> Vec<Vec<Statement>> {
+    let value = group[0].value;
+    let stations: Vec<u32> = group.iter().map(|s| s.station).collect();
+    let each = |stations: &[u32], make: &dyn Fn(u32) -> Statement| -> Vec<Statement> {
+        stations.iter().map(|s| make(*s)).collect()
+    };
+    let mut all = vec![
+        each(&stations, &|s| init(s, 1 - value)),
+        inits(n, 1 - value, true),
+        each(&stations, &|s| p(s, 1, value, D)),
+        each(&stations, &|s| v(s, 1, value)),
+        proposals(n, 1, value, &[D], true),
+        none_votes(n, 1, true),
+    ];
+    // at n 2 the backing of 0 is q
+    if quorum(n) != group.len() {
+        all.push(each(&some(n, quorum(n), true), &|s| init(s, value)));
+    }
+    if let [first, _, rest @ ..] = group {
+        all.push([&[*first; 2][..], rest].concat());
+    }
+    let mut places = vec![0, group.len() / 2, group.len() - 1];
+    places.dedup();
+    for i in places {
+        for other in [init(stations[i], 1 - value), p(stations[i], 1, value, D)] {
+            let mut one = group.to_vec();
+            one[i] = other;
+            all.push(one);
+        }
+    }
+    all
+}
+
+/// Words 0 that make an INIT ill-formed: "INIT has round 0, value 0 or 1, flag 0."
+fn ill_formed_inits(n: u32, word0: u32) -> Vec<u32> {
+    let mut all = vec![word0 | 1, word0 | LAST_ROUND, word0 | 1 << 27];
+    for value in [2, 3] {
+        all.push(word0 & !(3 << 28) | value << 28);
+    }
+    for station in [0, n + 1] {
+        all.push(word0 & !(255 << 16) | station << 16);
+    }
+    all
+}
+
+/// So many INITs, and the number of a bundle that has them where the backing is wanted: one fewer,
+/// the backing, one more.
+fn around_backing(n: u32, value: u32) -> [(usize, u32); 3] {
+    let size = backing(n, value);
+    // at n 2 a third INIT is of a station over n
+    let more = if size as u32 == n { 3 } else { 6 };
+    [(size - 1, 6), (size, 0), (size + 1, more)]
 }
 
 /// A module with the key and this n, which are all that a check looks at.
@@ -209,6 +283,10 @@ impl Cases {
         self.value_faults(bundle);
         self.order_of_tests(bundle);
         self.other_sizes(&words);
+        match has_inits_behind(self.n, bundle) {
+            true => self.init_faults(bundle),
+            false => self.inits_behind(bundle),
+        }
     }
 
     fn head_faults(&mut self, words: &[u32]) {
@@ -289,7 +367,12 @@ impl Cases {
         let count = all.len();
         let q = quorum(self.n);
         let large = self.n == 31;
-        for i in [0, q - 1, count.saturating_sub(1)] {
+        let mut left_out = vec![0, q - 1, count.saturating_sub(1)];
+        if has_inits_behind(self.n, bundle) {
+            left_out.insert(2, q);
+            left_out.dedup();
+        }
+        for i in left_out {
             if i < count && (i > 0 || !large) {
                 let mut fewer = all.clone();
                 fewer.remove(i);
@@ -308,7 +391,7 @@ impl Cases {
             self.try_certificate(bundle, repeated);
         }
         self.one_too_many(bundle);
-        if count == 2 * q {
+        if count > q {
             self.try_certificate(bundle, all[..q].to_vec());
             self.try_certificate(bundle, all[q..].to_vec());
             self.try_certificate(bundle, [&all[q..], &all[..q]].concat());
@@ -331,8 +414,8 @@ impl Cases {
         self.try_certificate(bundle, full);
     }
 
-    /// A further statement like the last, of a station that is not yet there; and a second group
-    /// where none is wanted.
+    /// A further statement like the last, of a station that is not yet in its group; and a second
+    /// group where none is wanted.
     fn one_too_many(&mut self, bundle: &Bundle) {
         let (n, all) = (self.n, &bundle.certificate);
         let main = bundle.main;
@@ -341,11 +424,13 @@ impl Cases {
             self.try_certificate(bundle, vec![init(main.station, main.value)]);
             return;
         };
-        for station in (1..=n).filter(|s| all.iter().all(|held| held.station != *s)) {
-            let mut more = all.clone();
+        let before = if all.len() > quorum(n) { quorum(n) } else { 0 };
+        let (before, group) = all.split_at(before);
+        for station in (1..=n).filter(|s| group.iter().all(|held| held.station != *s)) {
+            let mut more = group.to_vec();
             more.push(Statement { station, ..*last }.coded(&KEY));
             more.sort_by_key(|s| s.station);
-            self.try_certificate(bundle, more);
+            self.try_certificate(bundle, [before, &more].concat());
             if station > 3 {
                 break;
             }
@@ -441,18 +526,77 @@ impl Cases {
         }
     }
 
+    /// What is faulty in the INITs behind a vote's proposals alone: "where the vote is for v, the
+    /// backing of v in INITs with v".
+    fn init_faults(&mut self, bundle: &Bundle) {
+        let all = &bundle.certificate;
+        let (first, group) = all.split_at(quorum(self.n));
+        for other in instead_of_inits(self.n, group) {
+            self.try_certificate(bundle, [first, &other].concat());
+        }
+        for third in [group, first] {
+            let mut certificate = [&all[..], third].concat();
+            certificate.truncate(MOST_CERTIFICATE + 1);
+            self.try_certificate(bundle, certificate);
+        }
+        let mut places = vec![first.len() + 1, all.len()];
+        places.dedup();
+        for i in places {
+            let at = 1 + STATEMENT_WORDS * i;
+            let words = bundle.words();
+            for word0 in ill_formed_inits(self.n, words[at]) {
+                self.check(&with_words(bundle, i, word0, words[at + 1], true), 3);
+            }
+            for word in [2, STATEMENT_WORDS - 1] {
+                let mut words = words.clone();
+                words[at + word] ^= 1 << 31;
+                self.check(&words, 5);
+            }
+        }
+    }
+
+    /// INITs where no rule wants them: behind q statements, or in place of a second group.
+    fn inits_behind(&mut self, bundle: &Bundle) {
+        let (n, q) = (self.n, quorum(self.n));
+        if bundle.certificate.len() < q {
+            return;
+        }
+        let first = &bundle.certificate[..q];
+        let value = bundle.main.value & 1;
+        let of_q: Vec<Statement> = some(n, q, false).iter().map(|s| init(*s, value)).collect();
+        for group in [inits(n, value, true), inits(n, 1 - value, true), of_q] {
+            self.try_certificate(bundle, [first, &group].concat());
+        }
+    }
+
     /// Rule 2 at this n: the backing of each value, one INIT fewer and one more.
     fn backings(&mut self) {
         let n = self.n;
         self.author.comment(&format!("n {n}: backings"));
         self.author.set(Command::Raw(GROUP, module_of(n)));
         for value in [0, 1] {
-            let size = backing(n, value);
-            // at n 2 a third INIT is of a station over n
-            let more = if size as u32 == n { 3 } else { 6 };
-            for (size, expected) in [(size - 1, 6), (size, 0), (size + 1, more)] {
+            for (size, expected) in around_backing(n, value) {
                 let inits = (1..=size as u32).map(|s| init(s, value)).collect();
                 let words = bundle(p(1, 1, value, D), &[inits]).words();
+                self.check(&words, expected);
+            }
+        }
+    }
+
+    /// Rule 5 in round 1 at this n: behind the proposals the backing of each value, one INIT fewer
+    /// and one more, and none. "Bundles without the group are refused by 6."
+    fn backings_of_votes(&mut self) {
+        let n = self.n;
+        self.author.comment(&format!("n {n}: backings of votes"));
+        self.author.set(Command::Raw(GROUP, module_of(n)));
+        for value in [0, 1] {
+            let proposals = proposals(n, 1, value, &[D], false);
+            let mut sizes = vec![(0, 6)];
+            sizes.extend(around_backing(n, value));
+            sizes.dedup();
+            for (size, expected) in sizes {
+                let inits = (1..=size as u32).map(|s| init(s, value)).collect();
+                let words = bundle(v(1, 1, value), &[proposals.clone(), inits]).words();
                 self.check(&words, expected);
             }
         }
@@ -498,6 +642,10 @@ pub fn bundles(author: Author) -> Author {
     for n in 2..=31 {
         cases.n = n;
         cases.backings();
+    }
+    for n in 2..=31 {
+        cases.n = n;
+        cases.backings_of_votes();
     }
     cases.author
 }

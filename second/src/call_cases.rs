@@ -6,11 +6,12 @@ use crate::fit_cases::fit_cases;
 use crate::group::{backing, quorum, BUNDLE_WORDS, LAST_ROUND, MOST_CERTIFICATE, STATEMENT_WORDS};
 use crate::random::{one_list, List};
 use crate::samples::{
-    both_values, bundle, init, module, none_votes, p, proposals, station, v, D, KEY, QUESTION, R,
+    both_values, bundle, init, inits, module, none_votes, p, proposals, some, station, v,
 };
+use crate::samples::{D, KEY, QUESTION, R};
 use crate::script::{Command, Report, LAST_STEP};
 use crate::sealed::{Module, MODULE_WORDS};
-use crate::station::StationWords;
+use crate::station::{StationWords, FIRST_START, SECOND_START};
 use crate::words::{Bundle, Flag, Kind, Statement, NONE};
 
 /// Registers: what a call takes, what it is made from, and the lent output.
@@ -280,26 +281,21 @@ impl Calls {
 // ---- setups of every stage ----------------------------------------------------------------
 
 fn vote_bundle(n: u32, from: u32, round: u32, value: u32) -> Bundle {
-    match (value, round) {
-        (NONE, 1) => bundle(v(from, 1, NONE), &[both_values(n, 1, &[D], true)]),
-        (NONE, _) => bundle(
-            v(from, round, NONE),
-            &[
-                both_values(n, round, &[R], true),
-                none_votes(n, round - 1, false),
-            ],
-        ),
-        _ => bundle(
-            v(from, round, value),
-            &[proposals(n, round, value, &[R], false)],
-        ),
-    }
+    let groups = match (value, round) {
+        (NONE, 1) => vec![both_values(n, 1, &[D], true)],
+        (NONE, _) => vec![
+            both_values(n, round, &[R], true),
+            none_votes(n, round - 1, false),
+        ],
+        // Job 2 of 02: "In round 1 rule 5 now always has a second group"
+        (_, 1) => vec![proposals(n, 1, value, &[R], false), inits(n, value, true)],
+        _ => vec![proposals(n, round, value, &[R], false)],
+    };
+    bundle(v(from, round, value), &groups)
 }
 
 fn first_proposal(n: u32, from: u32, value: u32) -> Bundle {
-    let size = backing(n, value);
-    let inits = (1..=size as u32).map(|s| init(s, value)).collect();
-    bundle(p(from, 1, value, D), &[inits])
+    bundle(p(from, 1, value, D), &[inits(n, value, true)])
 }
 
 fn later_proposal(n: u32, from: u32, round: u32, value: u32, flag: Flag) -> Bundle {
@@ -319,14 +315,18 @@ fn giver(n: u32) -> u32 {
     }
 }
 
+/// As many others as station 2 can hold beside its own, the giver not among them.
+fn others(n: u32) -> Vec<u32> {
+    (1..n).filter(|s| *s != 2).take(quorum(n) - 2).collect()
+}
+
 /// At this n, station 2 with its own statement and as many others as it can hold, the giver still
 /// to be heard; in each stage. With the number that the giving returns.
 pub fn setups(n: u32) -> Vec<(String, Setup, u32)> {
-    let q = quorum(n);
-    let others: Vec<u32> = (1..n).filter(|s| *s != 2).take(q - 2).collect();
+    let others = others(n);
     let mut all = Vec::new();
-    let inits: Vec<Statement> = others.iter().map(|s| init(*s, s % 2)).collect();
-    let gathering = station(n, init(2, 0), &inits, [&[], &[]]);
+    let opened: Vec<Statement> = others.iter().map(|s| init(*s, s % 2)).collect();
+    let gathering = station(n, init(2, 0), &opened, [&[], &[]]);
     all.push((
         "gathering".into(),
         gathering,
@@ -334,7 +334,8 @@ pub fn setups(n: u32) -> Vec<(String, Setup, u32)> {
         20,
     ));
     let firsts: Vec<Statement> = others.iter().map(|s| p(*s, 1, 0, D)).collect();
-    let proposing = station(n, p(2, 1, 0, D), &firsts, [&[], &[]]);
+    let kept = inits(n, 0, false);
+    let proposing = station(n, p(2, 1, 0, D), &firsts, [&kept, &[]]);
     for value in [0, 1] {
         let given = first_proposal(n, giver(n), value);
         all.push((
@@ -359,6 +360,65 @@ pub fn setups(n: u32) -> Vec<(String, Setup, u32)> {
             )
         })
         .collect()
+}
+
+/// A giving to station 2 proposing in round 1, and the INITs that it writes behind its proposals.
+pub struct FirstRound {
+    pub name: String,
+    pub setup: Setup,
+    pub written: Vec<Statement>,
+}
+
+/// Station 2 proposing in round 1: each value and each flag of its own and of the others' proposals,
+/// since a forged station may hold an R-GET of round 1; and the lowest-numbered with another value
+/// than the rest. It keeps the INITs of the lowest-numbered.
+pub fn first_rounds(n: u32) -> Vec<FirstRound> {
+    let others = others(n);
+    let flags = [(D, D), (D, R), (R, D), (R, R)];
+    let alone = others.is_empty();
+    let mut all = Vec::new();
+    for (own, rest) in flags
+        .into_iter()
+        .filter(|(own, rest)| !alone || own == rest)
+    {
+        for value in [0, 1] {
+            let held: Vec<Statement> = others.iter().map(|s| p(*s, 1, value, rest)).collect();
+            all.extend(given_each(n, p(2, 1, value, own), &held));
+        }
+    }
+    for value in [0, 1] {
+        let value_of = |s: u32| if s == 1 { 1 - value } else { value };
+        let held: Vec<Statement> = others.iter().map(|s| p(*s, 1, value_of(*s), D)).collect();
+        if !alone {
+            all.extend(given_each(n, p(2, 1, value, D), &held));
+        }
+    }
+    all
+}
+
+/// Such a station, given a proposal of each value.
+fn given_each(n: u32, own: Statement, others: &[Statement]) -> Vec<FirstRound> {
+    let lowest = *others.first().filter(|s| s.station == 1).unwrap_or(&own);
+    let kept = inits(n, lowest.value, false);
+    let words = station(n, own, others, [&kept, &[]]);
+    let each = [0, 1].into_iter().map(|value| {
+        let given = first_proposal(n, giver(n), value);
+        let mut held = others.iter().chain([&own]);
+        // at n 2 the giver is the lowest-numbered
+        let written = match (held.all(|s| s.value == value), giver(n)) {
+            (false, _) => Vec::new(),
+            (true, 1) => given.certificate.clone(),
+            (true, _) => kept.clone(),
+        };
+        let shown = |s: Statement| format!("{} {:?}", s.value, s.flag);
+        let (own, lowest) = (shown(own), shown(lowest));
+        FirstRound {
+            name: format!("n {n}: proposing in round 1, {own}, lowest {lowest}, given {value}"),
+            setup: Setup::new(n, words, given),
+            written,
+        }
+    });
+    each.collect()
 }
 
 type Named = (String, StationWords, Bundle, u32);
@@ -422,6 +482,24 @@ impl Calls {
                 self.try_once(&name, &setup, number);
                 if [2, 4, 5, 7].contains(&n) {
                     self.around(&setup, number);
+                }
+            }
+        }
+    }
+
+    /// Proposing in round 1 at several n: the vote that is written has the INITs of the
+    /// lowest-numbered proposer, and a none vote has none.
+    fn first_round_stages(&mut self) {
+        for n in [2, 3, 4, 5, 6, 7, 31] {
+            let all = first_rounds(n).into_iter().enumerate();
+            for (i, one) in all.filter(|(i, _)| n < 31 || i % 3 == 0) {
+                let report = self.try_once(&one.name, &one.setup, 20);
+                let made = Bundle::read(&report.lent.1[..report.count], n);
+                let made = made.expect("a bundle is written");
+                assert_eq!(made.certificate[quorum(n)..], one.written);
+                assert_eq!(made.main.value == NONE, one.written.is_empty());
+                if n == 6 && i % 4 == 0 {
+                    self.around(&one.setup, 20);
                 }
             }
         }
@@ -551,9 +629,48 @@ impl Calls {
         assert_eq!(made.certificate.len(), backing(n, value));
         assert!(made.certificate.iter().all(|s| s.value == value));
     }
+
+    /// Job 2 of 02: "where the vote is for v, the backing of v in INITs with v follows the P group":
+    /// at every n, for each value. What is written is valid.
+    fn first_votes(&mut self) {
+        for n in 2..=31 {
+            let q = quorum(n);
+            for value in [0, 1] {
+                let held: Vec<Statement> = (2..q as u32).map(|s| p(s, 1, value, D)).collect();
+                let kept = inits(n, value, false);
+                let words = station(n, p(1, 1, value, D), &held, [&kept, &[]]);
+                let given = first_proposal(n, q as u32, value);
+                let made = self.written("the first vote", n, words, given, 20);
+                assert_eq!((made.main.kind, made.main.value), (Kind::V, value));
+                assert_eq!(made.certificate[..q], proposals(n, 1, value, &[D], true));
+                assert_eq!(made.certificate[q..], kept);
+                let count = made.words().len();
+                self.author.set(Command::Length(OUTPUT, count));
+                let valid = self.author.call(Command::Check(USED, OUTPUT));
+                assert_eq!(valid.number, 0);
+            }
+        }
+    }
 }
 
 // ---- which group is taken -----------------------------------------------------------------
+
+/// Each order of three bundles.
+const ORDERS: [[usize; 3]; 6] = [
+    [0, 1, 2],
+    [0, 2, 1],
+    [1, 0, 2],
+    [1, 2, 0],
+    [2, 0, 1],
+    [2, 1, 0],
+];
+
+/// The words of a kept group: its statements, and zeros behind them.
+fn kept_words(group: &[Statement]) -> Vec<u32> {
+    let mut words: Vec<u32> = group.iter().flat_map(Statement::words).collect();
+    words.resize(SECOND_START - FIRST_START, 0);
+    words
+}
 
 /// The q stations of a group of 6 that leave out two.
 fn leaving_out(two: [u32; 2]) -> Vec<u32> {
@@ -563,21 +680,25 @@ fn leaving_out(two: [u32; 2]) -> Vec<u32> {
 impl Calls {
     /// Three others with different groups, given in each order to a station with any number.
     fn lowest_numbered(&mut self) {
-        let orders = [
-            [0, 1, 2],
-            [0, 2, 1],
-            [1, 0, 2],
-            [1, 2, 0],
-            [2, 0, 1],
-            [2, 1, 0],
-        ];
         for own in [1, 4, 6] {
-            for order in orders {
+            for order in ORDERS {
                 self.lowest_of_proposals(own, order, D);
                 self.lowest_of_proposals(own, order, R);
                 self.lowest_of_votes(own, order, 0);
                 self.lowest_of_votes(own, order, NONE);
             }
+        }
+    }
+
+    /// The same in round 1, with proposals of one value, and of both.
+    fn lowest_numbered_of_round_1(&mut self) {
+        for order in ORDERS {
+            for own in [1, 4, 6] {
+                self.lowest_of_first_proposals(own, order, [0; 4]);
+                self.lowest_of_first_proposals(own, order, [1; 4]);
+            }
+            self.lowest_of_first_proposals(4, order, [0, 1, 0, 1]);
+            self.lowest_of_first_proposals(4, order, [1, 0, 1, 0]);
         }
     }
 
@@ -621,6 +742,58 @@ impl Calls {
         let made = self.in_order(words, &given, order);
         let expected = if own < 2 { group(3) } else { group(0) };
         assert_eq!(made.certificate[4..], expected);
+    }
+
+    /// Job 2 of 02: "taken from the lowest-numbered proposer's certificate". Proposals of round 1 by
+    /// 2, 3 and 5 and the own, each with INITs of its own choice. At n 6 three back 0 and two back 1.
+    fn lowest_of_first_proposals(&mut self, own: u32, order: [usize; 3], values: [u32; 4]) {
+        let stations = [[1, 3, 5], [2, 4, 6], [1, 2, 6], [3, 4, 5]];
+        let group = |i: usize| -> Vec<Statement> {
+            let chosen = stations[i].into_iter().take(backing(6, values[i]));
+            chosen.map(|s| init(s, values[i])).collect()
+        };
+        let given: Vec<Bundle> = [2, 3, 5]
+            .into_iter()
+            .enumerate()
+            .map(|(i, s)| bundle(p(s, 1, values[i], D), &[group(i)]))
+            .collect();
+        let words = station(6, p(own, 1, values[3], D), &[], [&group(3), &[]]);
+        let made = self.in_order(words, &given, order);
+        let lowest = if own < 2 { group(3) } else { group(0) };
+        let (vote, expected) = match values == [values[0]; 4] {
+            true => (values[0], lowest),
+            false => (NONE, Vec::new()),
+        };
+        assert_eq!(made.main.value, vote);
+        assert_eq!(made.certificate[4..], expected);
+    }
+
+    /// At n 6 station 6 with its own proposal takes those of 4 and 2, of the other value and of its
+    /// own: each is the lowest-numbered when it comes. The kept group shrinks and grows, and the
+    /// words behind it are zero. That of 5 changes nothing of it, and ends the step.
+    fn kept_inits(&mut self) {
+        for (value, flag) in [(0, D), (1, D), (0, R), (1, R)] {
+            let other = 1 - value;
+            let kept = inits(6, value, false);
+            let words = station(6, p(6, 1, value, flag), &[], [&kept, &[]]);
+            assert_eq!(words[FIRST_START..SECOND_START], kept_words(&kept));
+            let setup = Setup::new(6, words, first_proposal(6, 4, other));
+            let mut report = self.try_once("which INITs are kept", &setup, 0);
+            let kept = kept_words(&inits(6, other, true));
+            assert_eq!(report.station.1[FIRST_START..SECOND_START], kept);
+            for (from, value, number) in [(2, value, 0), (5, other, 20)] {
+                let given = first_proposal(6, from, value);
+                self.author.put_all(USED, &given.words());
+                report = self.author.call(Command::Give(USED, USED, USED, 0, OUTPUT));
+                assert_eq!(report.number, number);
+                if from == 2 {
+                    let kept = kept_words(&given.certificate);
+                    assert_eq!(report.station.1[FIRST_START..SECOND_START], kept);
+                }
+            }
+            let made = Bundle::read(&report.lent.1[..report.count], 6).expect("a bundle");
+            assert_eq!((made.main.value, made.certificate.len()), (NONE, 4));
+        }
     }
 
     /// Votes of round 2 by 2, 3 and 5, of which 3 and 5 are for 0; or all three are.
@@ -847,6 +1020,67 @@ impl Calls {
         }
     }
 
+    /// A vote of round 1 in a giving: of its certificate the q proposals are kept and not the INITs
+    /// behind them. With fewer or more of these, none, or others in their place it is 6.
+    fn first_vote_edges(&mut self) {
+        for n in [2, 3, 4, 5, 6, 7, 31] {
+            let q = quorum(n);
+            for value in [0, 1] {
+                let words = station(n, v(2, 1, NONE), &[], [&[], &[]]);
+                let given = vote_bundle(n, giver(n), 1, value);
+                let setup = Setup::new(n, words, given.clone());
+                let name = format!("edges of a first vote for {value} at n {n}");
+                let report = self.try_once(&name, &setup, if q == 2 { 20 } else { 0 });
+                // where the step ends they are the certificate of the next proposal
+                let kept = kept_words(&given.certificate[..q]);
+                assert_eq!(report.station.1[FIRST_START..SECOND_START], kept);
+                for certificate in unlike_first_vote(n, &given) {
+                    let main = given.main;
+                    let mut other = setup.clone();
+                    other.given = Bundle { main, certificate }.words();
+                    self.give(&other, Some(6));
+                }
+            }
+        }
+    }
+
+    /// A vote of round 1 with its INITs and without them, where each later test would refuse it: 6
+    /// comes before 7, 8, 9, 10 and 12.
+    fn first_vote_order(&mut self) {
+        let none = |s| v(s, 1, NONE);
+        let for_1 = proposals(4, 1, 1, &[D], true);
+        let nones = none_votes(4, 1, true);
+        let stations = [
+            (station(4, p(2, 2, 0, R), &[], [&[], &nones]), 7),
+            (station(4, init(2, 0), &[], [&[], &[]]), 8),
+            (station(4, none(2), &[none(4)], [&[], &[]]), 9),
+            (station(4, v(2, 1, 1), &[], [&for_1, &[]]), 10),
+            (station(4, none(2), &[none(1)], [&[], &[]]), 12),
+        ];
+        for (words, number) in stations {
+            let mut given = vote_bundle(4, 4, 1, 0);
+            let mut setup = Setup::new(4, words, given.clone());
+            setup.module = module(4, 2, Some((QUESTION, 4)));
+            self.try_once("a first vote and the tests behind 6", &setup, number);
+            given.certificate.truncate(quorum(4));
+            setup.given = given.words();
+            self.give(&setup, Some(6));
+        }
+    }
+
+    /// A station proposing in round 1 without its INITs is unfit: 2 comes before 3, behind 1.
+    fn without_kept_inits(&mut self) {
+        for n in [2, 3, 4, 6, 7] {
+            let words = station(n, p(2, 1, 1, D), &[], [&[], &[]]);
+            let mut setup = Setup::new(n, words, first_proposal(n, giver(n), 1));
+            self.try_once("proposing in round 1 without INITs", &setup, 2);
+            setup.given = Vec::new();
+            self.give(&setup, Some(2));
+            setup.output = 330;
+            self.give(&setup, Some(1));
+        }
+    }
+
     /// Lists of calls at random sites, recorded.
     fn random_lists(&mut self) {
         let lists = [
@@ -882,6 +1116,37 @@ impl Calls {
     }
 }
 
+/// Certificates that are nearly those of a vote of round 1. "Bundles without the group are refused
+/// by 6."
+fn unlike_first_vote(n: u32, given: &Bundle) -> Vec<Vec<Statement>> {
+    let (q, value) = (quorum(n), given.main.value);
+    let (first, group) = given.certificate.split_at(q);
+    let with = |behind: &[Statement]| [first, behind].concat();
+    let of = |size: usize, value: u32| -> Vec<Statement> {
+        let stations = some(n, size, true);
+        stations.iter().map(|s| init(*s, value)).collect()
+    };
+    let mut all = vec![
+        first.to_vec(),
+        with(&group[1..]),
+        with(&of(group.len(), 1 - value)),
+        with(&inits(n, 1 - value, true)),
+        with(&proposals(n, 1, value, &[D], true)),
+        [group, first].concat(),
+        with(&[group, group].concat()),
+    ];
+    // at n 2 the backing of 0 is everyone
+    if group.len() < n as usize {
+        all.push(with(&of(group.len() + 1, value)));
+    }
+    if group.len() != q {
+        all.push(with(&of(q, value)));
+    }
+    all.dedup();
+    all.retain(|certificate| certificate.len() <= MOST_CERTIFICATE);
+    all
+}
+
 /// Records the calls behind what an author has recorded.
 pub fn calls(author: Author) -> Author {
     let mut calls = Calls { author };
@@ -890,12 +1155,19 @@ pub fn calls(author: Author) -> Author {
     calls.opening();
     calls.marked();
     calls.first_proposals();
+    calls.first_votes();
     calls.stages();
+    calls.first_round_stages();
     fit_cases(&mut calls);
     calls.lowest_numbered();
+    calls.lowest_numbered_of_round_1();
+    calls.kept_inits();
     calls.order_of_tests();
     calls.closing();
     calls.edges();
+    calls.first_vote_edges();
+    calls.first_vote_order();
+    calls.without_kept_inits();
     calls.random_lists();
     calls.author
 }

@@ -13,6 +13,11 @@ pub fn is_group(group: &[Statement], size: usize, wanted: impl Fn(&Statement) ->
         && group.iter().all(wanted)
 }
 
+/// An INIT with this value.
+pub fn is_init(statement: &Statement, value: u32) -> bool {
+    statement.kind == Kind::Init && statement.value == value
+}
+
 /// A proposal of this round with this value, whatever its flag.
 pub fn is_p(statement: &Statement, round: u32, value: u32) -> bool {
     statement.kind == Kind::P && statement.round == round && statement.value == value
@@ -50,9 +55,7 @@ fn proposal_is_backed(n: u32, main: &Statement, v: u32, certificate: &[Statement
     let before = main.round - 1;
     match (main.flag, main.round) {
         // "2. P, round 1, D-GET, value v: the backing of v in INITs with v."
-        (Flag::DGet, 1) => is_group(certificate, backing(n, v), |s| {
-            s.kind == Kind::Init && s.value == v
-        }),
+        (Flag::DGet, 1) => is_group(certificate, backing(n, v), |s| is_init(s, v)),
         // "3. P, round r over 1, D-GET, v: q P of round r − 1 with v."
         (Flag::DGet, _) => is_group(certificate, quorum(n), |s| is_p(s, before, v)),
         // "In round 1 an R-GET is invalid."
@@ -70,9 +73,14 @@ fn vote_is_backed(n: u32, round: u32, v: u32, certificate: &[Statement]) -> bool
     if !is_group(first, quorum(n), |s| is_p(s, round, v)) {
         return false;
     }
+    // Job 2 of 02: "In round 1 rule 5 now always has a second group: where the vote is for v, the
+    // backing of v in INITs with v follows the P group"
+    if round == 1 {
+        return is_group(second, backing(n, v), |s| is_init(s, v));
+    }
     // "If one of them is D-GET and the round is over 1, then also q P of the round before with v,
     // as a second group."
-    if round > 1 && first.iter().any(|s| s.flag == Flag::DGet) {
+    if first.iter().any(|s| s.flag == Flag::DGet) {
         is_group(second, quorum(n), |s| is_p(s, round - 1, v))
     } else {
         second.is_empty()

@@ -1,9 +1,11 @@
 //! Stations that fit and stations that do not: from stations of every stage, each with one part
 //! changed.
 
-use crate::call_cases::{setups, Calls, Setup};
-use crate::group::{quorum, LAST_ROUND, STATEMENT_WORDS};
-use crate::station::{StationWords, FIRST_START, HEARD_WORD, HELD_START, SECOND_START};
+use crate::call_cases::{first_rounds, setups, Calls, Setup};
+use crate::group::{backing, quorum, GROUP_SLOTS, LAST_ROUND, STATEMENT_WORDS};
+use crate::station::{fitting, Fitting, Stage, Station, StationWords};
+use crate::station::{FIRST_START, HEARD_WORD, HELD_START, SECOND_START};
+use crate::words::{Flag, Kind, Statement};
 
 /// A changed station, and the number where it is known without looking at the rest.
 pub type Changed = (StationWords, Option<u32>);
@@ -21,12 +23,17 @@ struct Changes {
 }
 
 impl Changes {
-    fn put(&mut self, index: usize, word: u32, expected: Option<u32>) {
-        let mut words = self.from;
-        words[index] = word;
+    /// Tries words that differ from the station's.
+    fn push(&mut self, words: StationWords, expected: Option<u32>) {
         if words != self.from {
             self.all.push((words, expected));
         }
+    }
+
+    fn put(&mut self, index: usize, word: u32, expected: Option<u32>) {
+        let mut words = self.from;
+        words[index] = word;
+        self.push(words, expected);
     }
 
     /// Exchanges two statements of ten words.
@@ -35,20 +42,20 @@ impl Changes {
         for i in 0..STATEMENT_WORDS {
             words.swap(one + i, other + i);
         }
-        self.all.push((words, expected));
+        self.push(words, expected);
     }
 
     /// Copies ten words over ten others.
     fn copy(&mut self, to: usize, from: usize, expected: Option<u32>) {
         let mut words = self.from;
         words.copy_within(from..from + STATEMENT_WORDS, to);
-        self.all.push((words, expected));
+        self.push(words, expected);
     }
 
     fn zero(&mut self, range: std::ops::Range<usize>, expected: Option<u32>) {
         let mut words = self.from;
         words[range].fill(0);
-        self.all.push((words, expected));
+        self.push(words, expected);
     }
 
     /// n, number, question and decision.
@@ -88,9 +95,7 @@ impl Changes {
         for stage in stages {
             let mut words = self.from;
             words[3..6].copy_from_slice(&stage);
-            if words != self.from {
-                self.all.push((words, UNFIT));
-            }
+            self.push(words, UNFIT);
         }
     }
 
@@ -143,7 +148,7 @@ impl Changes {
         words.copy_within(from..from + STATEMENT_WORDS, to);
         words[to] = words[to] & !(255 << 16) | station << 16;
         words[HEARD_WORD] |= 1 << (station - 1);
-        self.all.push((words, UNFIT));
+        self.push(words, UNFIT);
     }
 
     fn bits(&self) -> std::ops::Range<u32> {
@@ -161,10 +166,17 @@ impl Changes {
         self.put(at + 1, self.from[at + 1] ^ 1 << 7, UNFIT);
     }
 
+    /// How many statements a kept group has: word 0 of none of them is zero.
+    fn size(&self, start: usize) -> usize {
+        let slots = self.from[start..].chunks_exact(STATEMENT_WORDS);
+        let slots = slots.take(GROUP_SLOTS);
+        slots.take_while(|slot| slot[0] != 0).count()
+    }
+
     /// A kept group: there or not, its size, order, fields, and what is behind it.
     fn group(&mut self, start: usize, n: u32) {
-        let end = start + STATEMENT_WORDS * 16;
-        let behind = start + STATEMENT_WORDS * quorum(n);
+        let end = start + STATEMENT_WORDS * GROUP_SLOTS;
+        let behind = start + STATEMENT_WORDS * self.size(start);
         if self.from[start] == 0 {
             self.put(start, 1, UNFIT);
             self.put(end - 1, 1, UNFIT);
@@ -188,7 +200,7 @@ impl Changes {
         }
         let mut words = self.from;
         words[start + 2..start + STATEMENT_WORDS].fill(0);
-        self.all.push((words, self.number));
+        self.push(words, self.number);
     }
 
     fn group_fields(&mut self, at: usize) {
@@ -197,7 +209,8 @@ impl Changes {
             let is_station = (16..24).contains(&bit);
             let is_flag = bit == 27;
             let expected = match (is_station, is_flag && is_p) {
-                // another station may still rise, another flag of a proposal may be there
+                // another station may still rise, another flag of a proposal may be there; INITs
+                // and votes have none
                 (true, _) => None,
                 (_, true) => self.number,
                 _ => UNFIT,
@@ -218,11 +231,99 @@ impl Changes {
         if self.from[other] != 0 {
             let mut words = self.from;
             words.copy_within(other..other + size, start);
-            self.all.push((words, UNFIT));
+            self.push(words, UNFIT);
             words[other..other + size].fill(0);
-            self.all.push((words, UNFIT));
+            self.push(words, UNFIT);
         }
     }
+
+    /// Proposing in round 1: groups that are not the backing of the lowest-numbered held proposal's
+    /// value in INITs with it.
+    fn first_round_groups(&mut self, station: &Station) {
+        let group = &station.first;
+        let (q, value) = (quorum(station.n), group[0].value);
+        let stations: Vec<u32> = group.iter().map(|s| s.station).collect();
+        let all: Vec<u32> = (1..=station.n).collect();
+        let mut more = stations.clone();
+        more.extend(all.iter().find(|s| !stations.contains(s)));
+        more.sort();
+        let init = group[0];
+        let (p, other) = (proposal_like(init), with_value(init, 1 - value));
+        let mut groups = vec![
+            Vec::new(),
+            alike(&stations[1..], init),
+            alike(&stations[..stations.len() - 1], init),
+            alike(&stations, other),
+            alike(&all[..backing(station.n, 1 - value)], other),
+            alike(&stations, p),
+            alike(&all[..q], p),
+        ];
+        // at n 2 the backing of 0 is everyone, and q
+        if more != stations {
+            groups.push(alike(&more, init));
+        }
+        if stations.len() != q {
+            groups.push(alike(&all[..q], init));
+        }
+        for first in groups {
+            let station = station.clone();
+            self.push(Station { first, ..station }.words(), UNFIT);
+        }
+    }
+
+    /// Proposing in round 1: held proposals with another flag or value. The group asks for the
+    /// lowest-numbered's value alone.
+    fn first_round_held(&mut self, station: &Station) {
+        let last = station.held.len() - 1;
+        let looked_at = |i: usize, s: u32| i < 2 || i == last || s == station.number;
+        let held = station.held.iter().enumerate();
+        for (i, held) in held.filter(|(i, s)| looked_at(*i, s.station)) {
+            let mut other = station.clone();
+            other.held[i].flag = match held.flag {
+                Flag::DGet => Flag::RGet,
+                Flag::RGet => Flag::DGet,
+            };
+            let is_own = held.station == station.number;
+            // the stage's flag is the own proposal's
+            self.push(other.words(), if is_own { UNFIT } else { self.number });
+            if is_own {
+                other.stage = Stage::of(&other.held[i]);
+                self.push(other.words(), self.number);
+            }
+            let mut other = station.clone();
+            other.held[i].value = 1 - held.value;
+            self.push(other.words(), if i == 0 { UNFIT } else { self.number });
+            if i == 0 {
+                let init = with_value(station.first[0], 1 - held.value);
+                let stations: Vec<u32> = (1..=station.n).collect();
+                let size = backing(station.n, init.value);
+                other.first = alike(&stations[..size], init);
+                self.push(other.words(), self.number);
+            }
+        }
+    }
+}
+
+/// A proposal of round 1 in place of an INIT.
+fn proposal_like(init: Statement) -> Statement {
+    Statement {
+        kind: Kind::P,
+        round: 1,
+        ..init
+    }
+}
+
+fn with_value(statement: Statement, value: u32) -> Statement {
+    Statement { value, ..statement }
+}
+
+/// A statement of each station. Codes are left as they are: fit does not ask for them.
+fn alike(stations: &[u32], like: Statement) -> Vec<Statement> {
+    let of = |station: &u32| Statement {
+        station: *station,
+        ..like
+    };
+    stations.iter().map(of).collect()
 }
 
 /// A giving's station with each of these changes.
@@ -240,10 +341,17 @@ pub fn changes(setup: &Setup, number: u32, every_bit: bool) -> Vec<Changed> {
     changes.held(n);
     changes.group(FIRST_START, n);
     changes.group(SECOND_START, n);
+    if let Some(Fitting::Open(station)) = fitting(&setup.station, &setup.module) {
+        if matches!(station.stage, Stage::Proposing(1, _)) {
+            changes.first_round_groups(&station);
+            changes.first_round_held(&station);
+        }
+    }
     changes.all
 }
 
-/// Stations of every stage at n 2, 4 and 31, changed, given a bundle that would be kept.
+/// Stations of every stage at n 2, 4 and 31, changed, given a bundle that would be kept; and some
+/// more that are proposing in round 1, at n 6 too.
 pub fn fit_cases(calls: &mut Calls) {
     for n in [2, 4, 31] {
         let all = setups(n);
@@ -256,15 +364,27 @@ pub fn fit_cases(calls: &mut Calls) {
             some && *number != 10
         });
         for (_, (name, setup, number)) in chosen {
-            calls.base(&format!("fit, {name}"), setup);
-            for (station, expected) in changes(setup, *number, true) {
-                let mut changed = setup.clone();
-                changed.station = station;
-                calls.give(&changed, expected);
-            }
-            closed_cases(calls, setup);
+            fit_cases_of(calls, name, setup, *number);
         }
     }
+    let chosen: [(u32, &[usize]); 4] = [(2, &[0, 6]), (4, &[2, 5, 18]), (6, &[0, 10]), (31, &[2])];
+    for (n, places) in chosen {
+        let all = first_rounds(n);
+        for one in places.iter().map(|i| &all[*i]) {
+            fit_cases_of(calls, &one.name, &one.setup, 20);
+        }
+    }
+}
+
+/// One station with each of the changes.
+fn fit_cases_of(calls: &mut Calls, name: &str, setup: &Setup, number: u32) {
+    calls.base(&format!("fit, {name}"), setup);
+    for (station, expected) in changes(setup, number, true) {
+        let mut changed = setup.clone();
+        changed.station = station;
+        calls.give(&changed, expected);
+    }
+    closed_cases(calls, setup);
 }
 
 /// "A station fits if, unless closed, ...": a closed one fits whatever else it holds, but its n

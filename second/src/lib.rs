@@ -1,8 +1,8 @@
 //! A second implementation of Trusted Ben-Or stations for relay sites.
 //!
-//! It is written from document 01 (and the paper, 004) alone, to be held against 01 sentence by
-//! sentence. Sentences of 01 stand in quotes at the code that renders them. One file follows the
-//! proved code: the loop of `group_simulation.rs`, which holds no rule of 01.
+//! It is written from document 01, the landed requests of 02 and the paper (004) alone, to be held
+//! against them sentence by sentence. Their sentences stand in quotes at the code that renders them.
+//! One file follows the proved code: the loop of `group_simulation.rs`, which holds no rule of 01.
 
 pub mod check;
 pub mod group;

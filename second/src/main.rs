@@ -62,10 +62,16 @@ fn run_random(arguments: &[String]) -> Result<(), String> {
     println!("R-GET proposals of sound sites: {}", counts.tosses);
     println!("decisions of sound sites: {}", counts.decisions);
     println!("deepest round of a sound site: {}", counts.deepest_round);
+    println!("valid first votes for 0 or 1: {}", counts.first_votes);
+    println!("those that sound sites wrote: {}", counts.sound_first_votes);
+    println!("refused without their INITs: {}", counts.without_inits);
     let missing = missing(&counts);
-    match missing.is_empty() && counts.forged_conflicts > 0 {
+    if !missing.is_empty() || counts.forged_conflicts == 0 {
+        return Err(format!("never returned: {missing:?}"));
+    }
+    match counts.looked_at_first_votes() {
         true => Ok(()),
-        false => Err(format!("never returned: {missing:?}")),
+        false => Err("no first votes to look at".to_string()),
     }
 }
 

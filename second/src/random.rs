@@ -552,6 +552,9 @@ fn add(total: &mut Counts, one: &Counts) {
     total.deepest_round = total.deepest_round.max(one.deepest_round);
     total.forged_conflicts += one.forged_conflicts;
     total.sound_closings += one.sound_closings;
+    total.first_votes += one.first_votes;
+    total.sound_first_votes += one.sound_first_votes;
+    total.without_inits += one.without_inits;
 }
 
 /// Runs so many lists from a seed on. Answers the counts, or the first failure with the list's

@@ -1,6 +1,6 @@
 //! Statements and bundles coded under one key on one question, for scripts and tests.
 
-use crate::group::quorum;
+use crate::group::{backing, quorum};
 use crate::hmac::Key;
 use crate::sealed::Module;
 use crate::station::{Stage, Station, StationWords};
@@ -32,6 +32,12 @@ pub fn some(n: u32, size: usize, from_front: bool) -> Vec<u32> {
         true => all[..size].to_vec(),
         false => all[all.len() - size..].to_vec(),
     }
+}
+
+/// The backing of a value in INITs with it.
+pub fn inits(n: u32, value: u32, from_front: bool) -> Vec<Statement> {
+    let stations = some(n, backing(n, value), from_front);
+    stations.iter().map(|s| init(*s, value)).collect()
 }
 
 /// q proposals of a round with a value, the flags in turn.

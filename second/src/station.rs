@@ -1,6 +1,6 @@
 //! The station: what it keeps, which words of a station fit, opening, and giving a bundle.
 
-use crate::check::{is_group, is_none_vote, is_p, judge};
+use crate::check::{is_group, is_init, is_none_vote, is_p, judge};
 use crate::group::{
     backing, number_in_range, quorum, BUNDLE_WORDS, GROUP_SLOTS, LAST_ROUND, MOST_SITES,
     STATEMENT_WORDS,
@@ -79,9 +79,10 @@ impl Stage {
 /// their stations, and the set names exactly these.
 ///
 /// The two kept groups are what a next bundle may need of the certificates given:
-/// proposing in a round over 1, the first is the certificate of the lowest-numbered held D-GET
-/// proposal and the second that of the lowest-numbered held R-GET proposal; voting, the first is
-/// the first group of the lowest-numbered held vote for 0 or 1. Else they are empty.
+/// proposing in round 1, the first is the certificate of the lowest-numbered held proposal, its
+/// INITs; proposing in a round over 1, the first is the certificate of the lowest-numbered held
+/// D-GET proposal and the second that of the lowest-numbered held R-GET proposal; voting, the first
+/// is the first group of the lowest-numbered held vote for 0 or 1. Else they are empty.
 #[derive(Clone, Debug, PartialEq, Eq)]
 pub struct Station {
     pub n: u32,
@@ -192,18 +193,16 @@ fn read_held(words: &StationWords, module: &Module, step: Step) -> Option<Vec<St
     Some(held)
 }
 
-/// A kept group: where it is wanted, exactly q well-formed statements of the question, of rising
-/// stations and as wanted, and zeros behind; elsewhere zeros only.
-fn read_group<W>(slots: &[u32], module: &Module, question: u32, wanted: Option<W>) -> Option<Group>
-where
-    W: Fn(&Statement) -> bool,
-{
-    let q = if wanted.is_some() {
-        quorum(module.n)
-    } else {
-        0
-    };
-    let (group, behind) = slots.split_at(STATEMENT_WORDS * q);
+type Group = Vec<Statement>;
+
+/// What a kept group has to be: its size, and what is wanted of each statement.
+type Wanted<'a> = (usize, &'a dyn Fn(&Statement) -> bool);
+
+/// A kept group: where it is wanted, exactly so many well-formed statements of the question, of
+/// rising stations and as wanted, and zeros behind; elsewhere zeros only.
+fn read_group(slots: &[u32], module: &Module, question: u32, wanted: Wanted) -> Option<Group> {
+    let (size, wanted) = wanted;
+    let (group, behind) = slots.split_at(STATEMENT_WORDS * size);
     if behind.iter().any(|word| *word != 0) {
         return None;
     }
@@ -212,40 +211,41 @@ where
         .map(|ten| Statement::read(ten, module.n))
         .collect();
     let group = group?;
-    let fits = match wanted {
-        None => true,
-        Some(wanted) => is_group(&group, q, |s| s.question == question && wanted(s)),
-    };
-    fits.then_some(group)
+    is_group(&group, size, |s| s.question == question && wanted(s)).then_some(group)
 }
-
-type Group = Vec<Statement>;
 
 /// The two kept groups, if each is there exactly where a held statement supplies it, and is what
 /// the rules want of it.
 fn read_groups(words: &StationWords, module: &Module, held: &Group) -> Option<(Group, Group)> {
     let stage = Stage::read([words[3], words[4], words[5]])?;
-    let (first_supplier, second_supplier, first_round, before) = match stage {
-        Stage::Gathering | Stage::Proposing(1, _) => (None, None, 0, 0),
-        Stage::Proposing(round, _) => (
-            lowest(held, is_d_get),
-            lowest(held, is_r_get),
-            round - 1,
-            round - 1,
-        ),
-        Stage::Voting(round) => (lowest(held, is_for_value), None, round, 0),
+    let q = quorum(module.n);
+    let value = lowest(held, first_supplier(stage)).map(|s| s.value);
+    let first_size = match (stage, value) {
+        (_, None) => 0,
+        (Stage::Proposing(1, _), Some(v)) => backing(module.n, v),
+        (_, Some(_)) => q,
     };
-    let first_wanted =
-        first_supplier.map(|supplier| move |s: &Statement| is_p(s, first_round, supplier.value));
-    let second_wanted = second_supplier.map(|_| move |s: &Statement| is_none_vote(s, before));
-    let first = read_group(
-        &words[FIRST_START..SECOND_START],
-        module,
-        words[2],
-        first_wanted,
-    )?;
-    let second = read_group(&words[SECOND_START..], module, words[2], second_wanted)?;
-    Some((first, second))
+    let first_wanted = |s: &Statement| match (stage, value) {
+        (Stage::Proposing(1, _), Some(v)) => is_init(s, v),
+        (Stage::Proposing(round, _), Some(v)) => is_p(s, round - 1, v),
+        (Stage::Voting(round), Some(v)) => is_p(s, round, v),
+        _ => false,
+    };
+    let second_size = match lowest(held, second_supplier(stage)) {
+        None => 0,
+        Some(_) => q,
+    };
+    let second_wanted = |s: &Statement| match stage {
+        Stage::Proposing(round, _) => is_none_vote(s, round - 1),
+        _ => false,
+    };
+    let question = words[2];
+    let first = (first_size, &first_wanted as &dyn Fn(&Statement) -> bool);
+    let second = (second_size, &second_wanted as &dyn Fn(&Statement) -> bool);
+    Some((
+        read_group(&words[FIRST_START..SECOND_START], module, question, first)?,
+        read_group(&words[SECOND_START..], module, question, second)?,
+    ))
 }
 
 /// The station of these words, if they fit the module: "a station whose n or number isn't the
@@ -298,6 +298,25 @@ fn is_for_value(statement: &Statement) -> bool {
     statement.value != NONE
 }
 
+/// Which held statements could supply the first kept group. In round 1 every proposal does: there
+/// "rule 5 now always has a second group", whatever the flags.
+fn first_supplier(stage: Stage) -> fn(&Statement) -> bool {
+    match stage {
+        Stage::Gathering => |_| false,
+        Stage::Proposing(1, _) => |_| true,
+        Stage::Proposing(_, _) => is_d_get,
+        Stage::Voting(_) => is_for_value,
+    }
+}
+
+/// Which held statements could supply the second kept group, that of rule 7.
+fn second_supplier(stage: Stage) -> fn(&Statement) -> bool {
+    match stage {
+        Stage::Gathering | Stage::Proposing(1, _) | Stage::Voting(_) => |_| false,
+        Stage::Proposing(_, _) => is_r_get,
+    }
+}
+
 /// "Where several held bundles could supply a second group or a rule 3 group, the lowest-numbered
 /// station's is taken." The held stand in rising order.
 fn lowest(held: &[Statement], could: fn(&Statement) -> bool) -> Option<&Statement> {
@@ -328,21 +347,13 @@ impl Station {
 
     /// Holds one more statement, and keeps of its certificate what a next bundle may need.
     fn hold(&mut self, new: Statement, certificate: &[Statement]) {
-        match self.stage {
-            Stage::Gathering | Stage::Proposing(1, _) => {}
-            Stage::Proposing(_, _) => {
-                if self.becomes_lowest(&new, is_d_get) {
-                    self.first = certificate.to_vec();
-                }
-                if self.becomes_lowest(&new, is_r_get) {
-                    self.second = certificate.to_vec();
-                }
-            }
-            Stage::Voting(_) => {
-                if self.becomes_lowest(&new, is_for_value) {
-                    self.first = certificate[..quorum(self.n)].to_vec();
-                }
-            }
+        if self.becomes_lowest(&new, first_supplier(self.stage)) {
+            // a vote's proposals, and not the group behind them; a proposal's certificate, whole
+            let size = certificate.len().min(quorum(self.n));
+            self.first = certificate[..size].to_vec();
+        }
+        if self.becomes_lowest(&new, second_supplier(self.stage)) {
+            self.second = certificate.to_vec();
         }
         self.held.push(new);
         self.held.sort_by_key(|s| s.station);
@@ -464,10 +475,9 @@ impl Station {
         let all_equal = self.held.iter().all(|s| s.value == value);
         let mut certificate = self.held.clone();
         if all_equal {
-            // rule 5: with a D-GET in a round over 1, the group of the lowest-numbered of them
-            if self.held.iter().any(is_d_get) {
-                certificate.extend(&self.first);
-            }
+            // rule 5: in round 1 the INITs "taken from the lowest-numbered proposer's certificate"
+            // (Job 2); with a D-GET in a round over 1, the group of the lowest-numbered of them
+            certificate.extend(&self.first);
         } else {
             // rule 7: the group of the lowest-numbered R-GET; in round 1, rule 6, there is none
             certificate.extend(&self.second);

@@ -54,6 +54,19 @@ pub struct Counts {
     pub deepest_round: u32,
     pub forged_conflicts: u64,
     pub sound_closings: u64,
+    /// Valid votes of round 1 for 0 or 1 that were looked at, those that sound sites wrote, and
+    /// those that lacked their INITs and were refused by 6.
+    pub first_votes: u64,
+    pub sound_first_votes: u64,
+    pub without_inits: u64,
+}
+
+impl Counts {
+    /// Whether there were first votes of each of these kinds, so that what is required of them was
+    /// put to the test.
+    pub fn looked_at_first_votes(&self) -> bool {
+        self.first_votes > 0 && self.sound_first_votes > 0 && self.without_inits > 0
+    }
 }
 
 pub struct World {
@@ -237,6 +250,7 @@ impl World {
         let command = Command::Give(site as usize - 1, register, given, coin, output);
         let report = self.author.call(command);
         self.count(&report);
+        self.look_at_given(given, report.number);
         self.require(
             own.is_none() || report.number != 10,
             "10 never answers a sound site's own station",
@@ -290,6 +304,7 @@ impl World {
     pub fn check(&mut self, buffer: usize) -> u32 {
         let report = self.author.call(Command::Check(0, buffer));
         self.count(&report);
+        self.look_at_given(buffer, report.number);
         self.require_unchanged(&report, true);
         report.number
     }
@@ -347,6 +362,10 @@ impl World {
             self.require(false, "a written bundle has its layout and its count");
             return;
         };
+        if valid && is_first_vote(&bundle.main) {
+            self.require_backed_vote(&bundle);
+            self.counts.sound_first_votes += u64::from(own);
+        }
         self.require(
             bundle.main.question == report.station.1[2],
             "of the question",
@@ -355,6 +374,45 @@ impl World {
         self.send(output, count, bundle.main);
         self.counts.sound_bundles += u64::from(own);
         self.counts.tosses += u64::from(own && bundle.main.word0() >> 27 & 1 == 1);
+    }
+
+    /// A bundle was given to a call of the list. All refusals but these come behind test 6, and so
+    /// say that it is valid. Codes made by hand under the key are in no bundle of the list.
+    fn look_at_given(&mut self, buffer: usize, number: u32) {
+        let words = self.author.machine.buffers[buffer].seen();
+        let Some(bundle) = Bundle::read(words, self.n).filter(|b| is_first_vote(&b.main)) else {
+            return;
+        };
+        match number {
+            1..=5 | 11 => {}
+            6 => {
+                let lacks = bundle.certificate.iter().all(|s| s.kind != Kind::Init);
+                self.counts.without_inits += u64::from(lacks);
+            }
+            _ => self.require_backed_vote(&bundle),
+        }
+    }
+
+    /// Job 2 of 02: "A site that missed the opening can't see whether a vote of round 1 rests on
+    /// backed proposals." From a valid one it now can: of the sites that it names by INITs with its
+    /// value, enough had their modules code just that.
+    fn require_backed_vote(&mut self, bundle: &Bundle) {
+        let (question, v) = (bundle.main.question, bundle.main.value);
+        let inits = bundle.certificate.iter().filter(|s| s.kind == Kind::Init);
+        let named: BTreeSet<u32> = inits.filter(|s| s.value == v).map(|s| s.station).collect();
+        let proposers = self.proposers(question, v);
+        let backed = named.intersection(&proposers).count() >= least_backing(self.n, v);
+        self.require(backed, "a valid vote of round 1 names those who back it");
+        self.counts.first_votes += 1;
+    }
+
+    /// The sites whose modules coded an INIT with this value on the question.
+    fn proposers(&self, question: u32, v: u32) -> BTreeSet<u32> {
+        let coded = self.coded.iter();
+        coded
+            .filter(|s| s.kind == Kind::Init && s.question == question && s.value == v)
+            .map(|s| s.station)
+            .collect()
     }
 
     /// A statement was coded: it is the module's own, its code verifies, the pair rises and is
@@ -432,12 +490,7 @@ impl World {
         let mut others = self.decisions.iter();
         let agree = others.all(|(_, other, w)| *other != question || *w == v);
         self.require(agree, "agreement");
-        let proposers: BTreeSet<u32> = self
-            .coded
-            .iter()
-            .filter(|s| s.kind == Kind::Init && s.question == question && s.value == v)
-            .map(|s| s.station)
-            .collect();
+        let proposers = self.proposers(question, v);
         self.require(proposers.len() >= least_backing(self.n, v), "backing");
         self.decisions.push((site, question, v));
         self.counts.decisions += 1;
@@ -452,6 +505,11 @@ impl World {
         );
         self.counts.deepest_round = self.counts.deepest_round.max(round);
     }
+}
+
+/// A vote of round 1 for 0 or 1.
+fn is_first_vote(main: &Statement) -> bool {
+    main.kind == Kind::V && main.round == 1 && main.value != NONE
 }
 
 fn fits_words(words: &[u32], module: &Module) -> bool {

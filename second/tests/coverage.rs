@@ -3,16 +3,16 @@
 use std::collections::BTreeMap;
 
 use second::generate::script;
-use second::group::backing;
+use second::group::{backing, quorum};
 use second::script::{read_line, Command, Machine, Report};
 use second::words::{Bundle, Kind, NONE};
 
-/// A call of the script: n of its module before the call, how many words it is given to judge, and
+/// A call of the script: n of its module before the call, the words that it is given to judge, and
 /// what it left.
 struct Call {
     command: Command,
     n: u32,
-    words: usize,
+    given: Vec<u32>,
     report: Report,
 }
 
@@ -23,21 +23,21 @@ fn all_calls() -> Vec<Call> {
     for line in script.lines().filter(|line| !line.starts_with('#')) {
         let command = read_line(line).expect("a command");
         let size = |m: usize| machine.modules[m][8];
-        let length = |b: usize| machine.buffers[b].length;
-        let (n, words) = match command {
-            Command::Make(_, _, n, _) => (n, 0),
+        let words = |b: usize| machine.buffers[b].seen().to_vec();
+        let (n, given) = match command {
+            Command::Make(_, _, n, _) => (n, Vec::new()),
             Command::Check(m, b) | Command::Plain(m, b) | Command::Toss(m, b, _) => {
-                (size(m), length(b))
+                (size(m), words(b))
             }
-            Command::Give(m, _, b, ..) => (size(m), length(b)),
-            Command::Open(m, ..) => (size(m), 0),
-            _ => (0, 0),
+            Command::Give(m, _, b, ..) => (size(m), words(b)),
+            Command::Open(m, ..) => (size(m), Vec::new()),
+            _ => (0, Vec::new()),
         };
         if let Some(report) = machine.carry_out(&command) {
             calls.push(Call {
                 command,
                 n,
-                words,
+                given,
                 report,
             });
         }
@@ -128,7 +128,7 @@ fn every_edge_is_called() {
     for keyword_wanted in ["check", "give"] {
         for (words, malformed) in [(0, true), (331, false), (341, true)] {
             assert!(has(&|call| keyword(&call.command) == keyword_wanted
-                && call.words == words
+                && call.given.len() == words
                 && (call.report.number == 3) == malformed));
         }
     }
@@ -156,6 +156,69 @@ fn every_first_proposal_is_made() {
             let mut made = first.iter().filter(|b| b.main.value == value).peekable();
             assert!(made.peek().is_some(), "n {n}, value {value}");
             assert!(made.all(|b| b.certificate.len() == backing(n, value)));
+        }
+    }
+}
+
+/// A vote of round 1 for this value.
+fn is_first_vote(bundle: &Bundle, value: u32) -> bool {
+    let main = &bundle.main;
+    (main.kind, main.round, main.value) == (Kind::V, 1, value)
+}
+
+/// First votes for both values at every n, each with its proposals and the backing in INITs.
+#[test]
+fn every_first_vote_is_made() {
+    let calls = all_calls();
+    for n in 2..=31 {
+        let of_n = calls.iter().filter(|call| call.n == n);
+        let written = of_n.filter_map(|c| Bundle::read(&c.report.lent.1[..c.report.count], n));
+        let written: Vec<Bundle> = written.collect();
+        for value in [0, 1] {
+            let mut made = written
+                .iter()
+                .filter(|b| is_first_vote(b, value))
+                .peekable();
+            assert!(made.peek().is_some(), "n {n}, value {value}");
+            for one in made {
+                let (first, inits) = one.certificate.split_at(quorum(n));
+                assert!(first.iter().all(|s| s.kind == Kind::P && s.value == value));
+                assert!(inits
+                    .iter()
+                    .all(|s| s.kind == Kind::Init && s.value == value));
+                assert_eq!(inits.len(), backing(n, value));
+            }
+        }
+    }
+}
+
+/// "Bundles without the group are refused by 6": q good proposals alone, at every n in a check and at
+/// several in a giving. With the group a first vote is taken by both.
+#[test]
+fn every_first_vote_without_inits_is_refused() {
+    let calls = all_calls();
+    for (command, sizes) in [
+        ("check", (2..=31).collect::<Vec<u32>>()),
+        ("give", vec![2, 3, 4, 5, 6, 7, 31]),
+    ] {
+        for (n, value) in sizes.into_iter().flat_map(|n| [(n, 0), (n, 1)]) {
+            let judged = calls
+                .iter()
+                .filter(|c| c.n == n && keyword(&c.command) == command);
+            let bundles = judged.filter_map(|c| Some((c, Bundle::read(&c.given, n)?)));
+            let mut returned: [BTreeMap<u32, usize>; 2] = Default::default();
+            for (call, bundle) in bundles.filter(|(_, b)| is_first_vote(b, value)) {
+                let with_inits = bundle.certificate.len() == quorum(n) + backing(n, value);
+                let counts = &mut returned[usize::from(with_inits)];
+                if bundle.certificate.len() == quorum(n) || with_inits {
+                    *counts.entry(call.report.number).or_default() += 1;
+                }
+            }
+            let [without, with] = &returned;
+            assert!(without.contains_key(&6), "{command}, n {n}, {value}");
+            assert!(!without.contains_key(&0) && !without.contains_key(&20));
+            let taken = [0, 20, 21].iter().any(|number| with.contains_key(number));
+            assert!(taken, "{command}, n {n}, {value}: {with:?}");
         }
     }
 }

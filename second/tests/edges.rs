@@ -6,7 +6,7 @@ use common::*;
 use second::check::check;
 use second::group::{backing, quorum, LAST_ROUND};
 use second::sealed::{code_coin, code_plain, make};
-use second::station::{fits, give, open, refused_station, step_and_decision};
+use second::station::{fits, give, open, refused_station, step_and_decision, FIRST_START};
 use second::words::{Bundle, Kind, Statement, Step, NONE};
 use second::world::{least_backing, meeting_number};
 
@@ -79,14 +79,19 @@ fn counts_of_32_and_33() {
 #[test]
 fn no_words_and_groups_of_q_less_1() {
     assert_eq!(check(&KEY, 4, &[]), 3);
-    let valid = bundle(v(1, 1, 0), &[&ps(&[1, 2, 3], 1, 0, D)]);
-    assert_eq!(check(&KEY, 4, &valid), 0);
-    let fewer = bundle(v(1, 1, 0), &[&ps(&[1, 2], 1, 0, D)]);
-    assert_eq!(check(&KEY, 4, &fewer), 6);
-    let more = bundle(v(1, 1, 0), &[&ps(&[1, 2, 3, 4], 1, 0, D)]);
-    assert_eq!(check(&KEY, 4, &more), 6);
-    let twice = bundle(v(1, 1, 0), &[&ps(&[1, 2, 2], 1, 0, D)]);
-    assert_eq!(check(&KEY, 4, &twice), 6);
+    let vote = |stations: &[u32]| {
+        let groups = [ps(stations, 1, 0, D), inits(&[1, 2], 0)];
+        bundle(v(1, 1, 0), &[&groups[0], &groups[1]])
+    };
+    assert_eq!(check(&KEY, 4, &vote(&[1, 2, 3])), 0);
+    assert_eq!(check(&KEY, 4, &vote(&[1, 2])), 6);
+    assert_eq!(check(&KEY, 4, &vote(&[1, 2, 3, 4])), 6);
+    assert_eq!(check(&KEY, 4, &vote(&[1, 2, 2])), 6);
+    let later = |stations: &[u32]| bundle(v(1, 2, 0), &[&ps(stations, 2, 0, R)]);
+    assert_eq!(check(&KEY, 4, &later(&[1, 2, 3])), 0);
+    assert_eq!(check(&KEY, 4, &later(&[1, 2])), 6);
+    assert_eq!(check(&KEY, 4, &later(&[1, 2, 3, 4])), 6);
+    assert_eq!(check(&KEY, 4, &later(&[1, 2, 2])), 6);
 }
 
 /// A station of 3 voting in the last round holds its own vote and is given another.
@@ -140,7 +145,9 @@ fn first_round_r_get() {
     assert_eq!(check(&KEY, 3, &bundle(p(1, 1, 1, R), &[&[init(1, 1)]])), 6);
     assert_eq!(check(&KEY, 3, &bundle(p(1, 1, 1, D), &[&[init(1, 1)]])), 0);
     let group = [p(1, 1, 0, R), p(2, 1, 0, D)];
-    assert_eq!(check(&KEY, 3, &bundle(v(1, 1, 0), &[&group])), 0);
+    let backing = inits(&[1, 3], 0);
+    assert_eq!(check(&KEY, 3, &bundle(v(1, 1, 0), &[&group, &backing])), 0);
+    assert_eq!(check(&KEY, 3, &bundle(v(1, 1, 0), &[&group])), 6);
     assert_eq!(check(&KEY, 3, &bundle(p(1, 2, 0, D), &[&group])), 0);
     let both = [p(1, 1, 0, R), p(2, 1, 1, D)];
     assert_eq!(check(&KEY, 3, &bundle(v(1, 1, NONE), &[&both])), 6);
@@ -148,17 +155,22 @@ fn first_round_r_get() {
     assert_eq!(check(&KEY, 3, &bundle(v(1, 1, NONE), &[&both])), 0);
 }
 
-/// "A second group that rule 5 does not ask for is 6."
+/// "A second group that rule 5 does not ask for is 6", and so is one of another kind.
 #[test]
 fn second_group_only_where_asked() {
     let before = ps(&[1, 2], 1, 0, D);
+    let backing = inits(&[1, 2], 0);
     let r_only = ps(&[1, 2], 2, 0, R);
     let with_d = [p(1, 2, 0, R), p(2, 2, 0, D)];
     assert_eq!(check(&KEY, 3, &bundle(v(1, 2, 0), &[&r_only])), 0);
     assert_eq!(check(&KEY, 3, &bundle(v(1, 2, 0), &[&r_only, &before])), 6);
     assert_eq!(check(&KEY, 3, &bundle(v(1, 2, 0), &[&with_d])), 6);
     assert_eq!(check(&KEY, 3, &bundle(v(1, 2, 0), &[&with_d, &before])), 0);
+    assert_eq!(check(&KEY, 3, &bundle(v(1, 1, 0), &[&before])), 6);
     assert_eq!(check(&KEY, 3, &bundle(v(1, 1, 0), &[&before, &before])), 6);
+    assert_eq!(check(&KEY, 3, &bundle(v(1, 1, 0), &[&before, &backing])), 0);
+    assert_eq!(check(&KEY, 3, &bundle(v(1, 2, 0), &[&r_only, &backing])), 6);
+    assert_eq!(check(&KEY, 3, &bundle(v(1, 2, 0), &[&with_d, &backing])), 6);
 }
 
 /// "Station 0 or over n is 3 everywhere, in coding too. Another station of 1 to n to code is 5." "The
@@ -206,9 +218,10 @@ fn conflicts() {
     assert_eq!(give_words(&mut own, &mut words, &given, 0).0.number, 10);
     let votes = ps(&[1, 2, 3, 4], 1, 0, D);
     let mut words = station(7, v(1, 1, 0), &[], [&votes, &[]]);
-    let given = bundle(v(2, 1, 1), &[&ps(&[4, 5, 6, 7], 1, 1, D)]);
+    let groups = [ps(&[4, 5, 6, 7], 1, 1, D), inits(&[6, 7], 1)];
+    let given = bundle(v(2, 1, 1), &[&groups[0], &groups[1]]);
     assert_eq!(give_words(&mut own, &mut words, &given, 0).0.number, 10);
-    let mut words = station(7, p(1, 1, 0, D), &[], [&[], &[]]);
+    let mut words = station(7, p(1, 1, 0, D), &[], [&inits(&[1, 2, 3], 0), &[]]);
     let given = bundle(p(2, 1, 1, D), &[&[init(1, 1), init(2, 1)]]);
     assert_eq!(give_words(&mut own, &mut words, &given, 0).0.number, 0);
     // held already: any further one is 10
@@ -237,8 +250,51 @@ fn what_fit_does_not_ask() {
     assert!(fits(&closed, &module(7, 2)));
     assert!(!fits(&closed, &module(7, 1)));
     assert!(!fits(&closed, &module(6, 2)));
-    let round_1_r_get = station(7, p(2, 1, 0, D), &[p(3, 1, 0, R)], [&[], &[]]);
+    let backing = inits(&[1, 2, 3], 0);
+    let round_1_r_get = station(7, p(2, 1, 0, D), &[p(3, 1, 0, R)], [&backing, &[]]);
     assert!(fits(&round_1_r_get, &module(7, 2)));
+}
+
+/// "Proposing in round 1 there is always a first group: the certificate of the lowest-numbered held
+/// proposal, whole. It is the backing of that proposal's value in INITs with it. Each held proposal
+/// supplies, whatever its flag".
+#[test]
+fn the_group_of_round_1() {
+    let own = module(7, 2);
+    for flag in [D, R] {
+        for (value, size) in [(0, 3), (1, 2)] {
+            let held = [p(4, 1, 1 - value, D)];
+            let with = |group: &[Statement]| {
+                let words = station(7, p(2, 1, value, flag), &held, [group, &[]]);
+                fits(&words, &own)
+            };
+            let stations = [1, 4, 5, 7];
+            for taken in 0..=4 {
+                let group = inits(&stations[..taken], value);
+                assert_eq!(with(&group), taken == size, "{taken} of {value}");
+                assert!(!with(&inits(&stations[..taken], 1 - value)));
+            }
+            assert!(!with(&ps(&[1, 2, 3, 4], 1, value, D)));
+            assert!(!with(&ps(&stations[..size], 1, value, D)));
+            assert!(!with(&inits(&[4, 1, 5][..size], value)));
+            assert!(!with(&inits(&[4, 4, 5][..size], value)));
+            // the second group is for later rounds
+            let group = inits(&stations[..size], value);
+            let words = station(7, p(2, 1, value, flag), &held, [&group, &group]);
+            assert!(!fits(&words, &own));
+            // the lowest-numbered is another's
+            let lower = [p(1, 1, 1 - value, flag)];
+            let words = station(7, p(2, 1, value, flag), &lower, [&group, &[]]);
+            assert!(!fits(&words, &own));
+            let words = station(
+                7,
+                p(2, 1, 1 - value, D),
+                &[p(1, 1, value, flag)],
+                [&group, &[]],
+            );
+            assert!(fits(&words, &own));
+        }
+    }
 }
 
 /// "A refused making returns the module of zeros; a refused opening the station that is none": no
@@ -297,4 +353,62 @@ fn own_certificate_supplies() {
     let made = Bundle::read(&written, 3).unwrap();
     assert_eq!((made.main.kind, made.main.value), (Kind::V, 0));
     assert_eq!(made.certificate[2..], own_group);
+}
+
+/// The same in round 1, where the group is INITs: Job 2 of 02, "taken from the lowest-numbered
+/// proposer's certificate". At n 3 the own and one other make a quorum.
+#[test]
+fn own_certificate_supplies_in_round_1() {
+    for (own, other) in [(1, 2), (2, 1), (3, 1), (1, 3)] {
+        for (own_flag, value) in [(D, 0), (D, 1), (R, 0), (R, 1)] {
+            let of = |stations: [u32; 2]| inits(&stations[..backing(3, value)], value);
+            let (own_group, other_group) = (of([2, 3]), of([1, 3]));
+            let mut module = module(3, own);
+            let mut words = station(3, p(own, 1, value, own_flag), &[], [&own_group, &[]]);
+            let given = bundle(p(other, 1, value, D), &[&other_group]);
+            let (answer, written) = give_words(&mut module, &mut words, &given, 0);
+            assert_eq!(answer.number, 20);
+            assert_eq!(check(&KEY, 3, &written), 0);
+            let made = Bundle::read(&written, 3).unwrap();
+            assert_eq!((made.main.kind, made.main.value), (Kind::V, value));
+            let lowest = if own < other { own_group } else { other_group };
+            assert_eq!(made.certificate[2..], lowest);
+        }
+    }
+}
+
+/// "Where the vote is none the group is not written: the bundle has its q proposals and nothing more."
+#[test]
+fn a_first_none_vote_has_no_inits() {
+    for value in [0, 1] {
+        let mut module = module(3, 2);
+        let kept = inits(&[2, 3][..backing(3, value)], value);
+        let mut words = station(3, p(2, 1, value, D), &[], [&kept, &[]]);
+        let other = 1 - value;
+        let given = bundle(
+            p(3, 1, other, D),
+            &[&inits(&[1, 2][..backing(3, other)], other)],
+        );
+        let (answer, written) = give_words(&mut module, &mut words, &given, 0);
+        assert_eq!((answer.number, check(&KEY, 3, &written)), (20, 0));
+        let made = Bundle::read(&written, 3).unwrap();
+        assert_eq!((made.main.value, made.certificate.len()), (NONE, 2));
+        // nor does the station that votes none keep a group
+        assert!(words[FIRST_START..].iter().all(|word| *word == 0));
+    }
+}
+
+/// "of whose certificates the first q statements are taken. In round 1 the INITs behind these q are not
+/// kept": they do not go into the next proposal.
+#[test]
+fn a_first_vote_keeps_its_proposals_only() {
+    let mut module = module(3, 1);
+    let mut words = station(3, v(1, 1, NONE), &[], [&[], &[]]);
+    let first = ps(&[1, 2], 1, 0, D);
+    let given = bundle(v(2, 1, 0), &[&first, &inits(&[1, 3], 0)]);
+    let (answer, written) = give_words(&mut module, &mut words, &given, 0);
+    assert_eq!((answer.number, check(&KEY, 3, &written)), (20, 0));
+    let made = Bundle::read(&written, 3).unwrap();
+    assert_eq!((made.main.round, made.main.value), (2, 0));
+    assert_eq!(made.certificate, first);
 }

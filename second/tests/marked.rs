@@ -53,11 +53,16 @@ fn after_votes(values: [u32; 3], coin: u32) -> (u32, u32, Statement, Vec<Stateme
         NONE => vec![p(1, 1, 0, D), p(2, 1, 1, D), p(3, 1, 1, D)],
         value => ps(&[1, 2, 3], 1, value, D),
     };
+    // Job 2 of 02: "where the vote is for v, the backing of v in INITs with v follows the P group"
+    let behind = match values[2] {
+        NONE => Vec::new(),
+        value => common::inits(&[1, 4], value),
+    };
     let supplier = values[..2].iter().find(|value| **value != NONE);
     let first = supplier.map_or(Vec::new(), |value| group(*value));
     let own = v(1, 1, values[0]);
     let mut words = station(4, own, &[v(2, 1, values[1])], [&first, &[]]);
-    let given = bundle(v(3, 1, values[2]), &[&group(values[2])]);
+    let given = bundle(v(3, 1, values[2]), &[&group(values[2]), &behind]);
     let (answer, written) = give_words(&mut module, &mut words, &given, coin);
     assert_eq!(check(&KEY, 4, &written), 0);
     let bundle = Bundle::read(&written, 4).unwrap();
@@ -88,6 +93,35 @@ fn votes() {
         (Kind::P, 2, 1, R)
     );
     assert_eq!(certificate, nones(&[1, 2, 3], 1));
+}
+
+/// Station 1 of 4 in round 1 holds two proposals and is given that of station 3. Job 2 of 02: "In round
+/// 1 rule 5 now always has a second group", "taken from the lowest-numbered proposer's certificate".
+#[test]
+fn proposals_of_round_1() {
+    for (values, vote) in [
+        ([0, 0, 0], 0),
+        ([1, 1, 1], 1),
+        ([0, 1, 1], NONE),
+        ([1, 1, 0], NONE),
+    ] {
+        let mut module = module(4, 1);
+        let own_group = common::inits(&[2, 3], values[0]);
+        let own = p(1, 1, values[0], D);
+        let held = [p(2, 1, values[1], D)];
+        let mut words = station(4, own, &held, [&own_group, &[]]);
+        let other_group = common::inits(&[1, 4], values[2]);
+        let given = bundle(p(3, 1, values[2], D), &[&other_group]);
+        let (answer, written) = give_words(&mut module, &mut words, &given, 0);
+        assert_eq!((answer.number, check(&KEY, 4, &written)), (20, 0));
+        let made = Bundle::read(&written, 4).unwrap();
+        assert_eq!(
+            (made.main.kind, made.main.round, made.main.value),
+            (Kind::V, 1, vote)
+        );
+        let inits = if vote == NONE { Vec::new() } else { own_group };
+        assert_eq!(made.certificate[3..], inits);
+    }
 }
 
 /// Station 1 of 4 in round 2 holds two proposals and is given that of station 3.

@@ -2,7 +2,7 @@
 -- proposal of 1 and a none vote that rests on it. Site 1 takes that vote, and decides a round later than site 2. All is computed from the definitions.
 -- The code is a toy one, the covered words and zeros, so that the checker can compute it; `claim` takes any code of eight words.
 use Prim.Native.Nat.{ℕ, _+_, _*_, _^_, _≤_}
-use mathlib.Core.Bool.{Bool, true, false}
+use mathlib.Core.Bool.{Bool, true, false, _&&_}
 use mathlib.Core.List.{List, [], _∷_, _++_}
 use mathlib.Core.Path.{_≡_, refl, ap}
 use native.Mathlib.Omega.{arith}
@@ -15,6 +15,7 @@ use Rattle.agreement.specs.Maths.Votes.{votes}
 use Rattle.agreement.specs.Demand.{opens, gives, codes, tosses, Call, call, member, proposed, log, Sound, FewFaulty, Given, Decides, Claim}
 use Rattle.agreement.specs.Prefix.{sound-before}
 use Rattle.agreement.specs.Theorem.{claim}
+use Rattle.agreement.specs.FirstVotes.{names-proposer}
 use Rattle.agreement.specs.Computed.{computes, last, written, numbers, line, present, given, given-out, few, others-out, few-out, decides, decides-out}
 
 abbrev pub toy : List ℕ → List ℕ → List ℕ
@@ -79,11 +80,11 @@ calls-5 = give 1 (bundle calls-2) 0 calls-4
 abbrev pub calls-6 : List Call
 calls-6 = give 2 (bundle calls-1) 0 calls-5
 
--- 20: site 1 is given site 2's P, and sends V 0
+-- 20: site 1 is given site 2's P, and sends V 0, with both P and behind them the two INITs of its own P
 abbrev pub calls-7 : List Call
 calls-7 = give 1 (bundle calls-6) 0 calls-6
 
--- 20: site 2 is given site 1's P, and sends V 0
+-- 20: site 2 is given site 1's P, and sends V 0, with the same INITs: site 1's P is the lowest-numbered
 abbrev pub calls-8 : List Call
 calls-8 = give 2 (bundle calls-5) 0 calls-7
 
@@ -144,6 +145,7 @@ record Facts : Type 0 where
   in-round-1 : ℕ
   poisoned : Bool
   proposed : ℕ
+  named : ℕ
 
 abbrev facts : List Call → Facts
 facts cs =
@@ -156,9 +158,10 @@ facts cs =
       in-round-1 = count (votes (line toy [] 3 cs 1 0 .took) 1 1 0) 3;
       poisoned = votes (line toy [] 3 cs 1 0 .took) 1 1 none 3;
       proposed = count (proposed (log toy [] 3 cs) 1 1) 3;
+      named = count (λ i. names-proposer (bundle calls-7) 0 i && proposed (log toy [] 3 cs) 1 0 i) 3;
     }
 
-computed : facts example ≡ record { numbers = answers; given = true; few = true; first = true; second = true; in-round-1 = 1; poisoned = true; proposed = 0 }
+computed : facts example ≡ record { numbers = answers; given = true; few = true; first = true; second = true; in-round-1 = 1; poisoned = true; proposed = 0; named = 2 }
 unfolding computes
 computed = refl
 
@@ -222,6 +225,8 @@ pub record Witness (cs : List Call) : Type 1 where
   -- no site proposed 1 on question 1, and site 1's station took station 3's none vote of round 1
   pub unbacked : count (proposed (log toy [] 3 cs) 1 1) 3 ≡ 0
   pub poisoned : votes (second .line .took) 1 1 none 3 ≡ true
+  -- site 1's vote of round 1 for 0, by which site 2 decides, names two sites that proposed 0, which is the backing of 0
+  pub named : count (λ i. names-proposer (bundle calls-7) 0 i && proposed (log toy [] 3 cs) 1 0 i) 3 ≡ 2
   pub claimed : Claim toy [] 3 cs
 
 pub witness : Witness example
@@ -240,5 +245,6 @@ witness =
       not-before = ap (λ (f : Facts). f .in-round-1) computed;
       unbacked = ap (λ (f : Facts). f .proposed) computed;
       poisoned = ap (λ (f : Facts). f .poisoned) computed;
+      named = ap (λ (f : Facts). f .named) computed;
       claimed = claim toy (λ key ws. refl) [] 3 (omega arith) (omega arith) example within few-faulty;
     }

@@ -5,14 +5,14 @@ use mathlib.Core.Bool.{Bool, true, false}
 use mathlib.Core.List.{List, []}
 use mathlib.Core.Path.{_≡_, refl, sym, ap, _∙_}
 use native.Mathlib.Omega.{arith}
-use lib.Dec.{ltb}
+use lib.Dec.{eqb, ltb}
 use borrow.Author.Tests.{eqb-false, lt-ltb, le-ltb}
 use Rattle.laws.specs.Pick.{pick, here, skip}
 use Rattle.format.specs.Numbers.{kind-P, kind-V, none, D-GET, R-GET, last-round}
 use Rattle.format.specs.Group.{backing}
 use Rattle.format.specs.Statement.{Statement}
 use Rattle.rules.specs.declared.Which.the-variants.{Any, Only}
-use Rattle.rules.specs.Rules.{some-D-GET}
+use Rattle.rules.specs.Rules.{some-D-GET, has-second}
 use Rattle.station.specs.declared.Stage.{Stage}
 use Rattle.station.specs.declared.Stage.the-variants.{Gathering, Proposing, Voting}
 use Rattle.station.specs.Machine.{State, Next, next, proposing, voting, round-in, first-value, vote-value, carried, follows, closes}
@@ -20,7 +20,7 @@ use Rattle.station.specs.Words.{sites, held-in}
 use Rattle.held.specs.Scan.{scan, such, lowest}
 use Rattle.held.specs.Laws.Held.{scan-some}
 use Rattle.ending.specs.declared.Kept.{Kept}
-use Rattle.ending.specs.declared.Kept.the-variants.{Nothing, ForValue, ForNone}
+use Rattle.ending.specs.declared.Kept.the-variants.{Nothing, Inits, ForValue, ForNone}
 use Rattle.ending.specs.declared.Following.{Following}
 
 abbrev pub following : ℕ → ℕ → ℕ → ℕ → ℕ → Kept → Stage → Following
@@ -28,7 +28,7 @@ following k v f r set c g = record { kind = k; value = v; flag = f; round = reco
 
 -- the second group of a vote: that of rule 5 or of rule 7
 unfoldable pub second-group : ℕ → ℕ → Bool → Kept
-second-group r value d-get = pick (ltb 1 r) (pick (ltb value none) (pick d-get ForValue Nothing) ForNone) Nothing
+second-group r value d-get = pick (has-second kind-V value r d-get) (pick (ltb value none) (pick (eqb r 1) Inits ForValue) ForNone) Nothing
 
 -- the round after r, where there is one
 unfoldable pub round-after : ℕ → ℕ

@@ -13,9 +13,10 @@ ghost use Rattle.station.specs.Machine.{first-value as FirstValue, vote-value a
 ghost use Rattle.station.specs.Words.{held-in, sites};
 ghost use Rattle.ending.specs.After.{round-after, second-group, inits-next, proposals-next, votes-next, next-by};
 
-// The kept group that stands in a certificate: none, or the one for a value, or the one for a none vote.
+// The kept group that stands in a certificate: none, or the one for a value, which in round 1 is INITs, or the one for a none vote.
 pub enum Kept {
     Nothing,
+    Inits,
     ForValue,
     ForNone,
 }
@@ -116,20 +117,21 @@ fn round_after(r: Round) -> Round
     Round(LAST_ROUND)
 }
 
-// The second group of a vote: behind votes for a value the certificate of a D-GET, behind none votes that of an R-GET.
+// The second group of a vote, where it has one: behind a vote for a value the INITs of a first proposal or the certificate of a later D-GET, behind a
+// none vote the certificate of an R-GET.
 fn second_group(r: Round, value: u32, dget: bool) -> Kept
     ensures { λ s. ⌜ s ≡ second-group (r .0) value dget ⌝ }
 {
-    if r.0 <= 1 {
+    if !rules::has_second(format::V, value, r, dget) {
         return Kept::Nothing;
     }
     if NONE <= value {
         return Kept::ForNone;
     }
-    if dget {
-        return Kept::ForValue;
+    if r.0 == 1 {
+        return Kept::Inits;
     }
-    Kept::Nothing
+    Kept::ForValue
 }
 
 // P of round 1 follows the INITs: the lowest-numbered with its value are its certificate.

@@ -11,11 +11,12 @@ use station::SLOTS_WORDS;
 use station::Stage;
 use station::Station;
 ghost use mathlib.Core.Path.{_≡_};
-ghost use mathlib.Core.Bool.{_&&_};
+ghost use mathlib.Core.Bool.{_&&_, _||_};
 ghost use Prim.Native.Nat.{_%_, _^_, _<_};
 ghost use lib.Count.{ones};
 ghost use lib.Dec.{eqb, ltb};
 ghost use Rattle.laws.specs.Count.{one-if};
+ghost use Rattle.format.specs.Numbers.{D-GET, R-GET};
 ghost use Rattle.laws.specs.Sets.{bit};
 ghost use Rattle.station.specs.Machine.{supplies-for-value, supplies-for-none};
 ghost use Rattle.station.specs.Words.{empty-station, sites};
@@ -85,12 +86,22 @@ pub fn lowest(set: u32, k: u32) -> u32
     out
 }
 
-// The stations whose proposal of round r, over 1, has the flag.
-fn flagged(slots: &[u32; SLOTS_WORDS], set: u32, r: Round, flag: u32) -> u32
-    ensures { λ x. ⌜ x ≡ Scan (λ s. ltb 1 (r .0) && eqb (s .flag) flag) set (now (slots .entry)) ⌝ }
+// The stations whose proposal of round r is D-GET; in round 1 all.
+fn first_or_d_get(slots: &[u32; SLOTS_WORDS], set: u32, r: Round) -> u32
+    ensures { λ x. ⌜ x ≡ Scan (λ s. eqb (r .0) 1 || eqb (s .flag) D-GET) set (now (slots .entry)) ⌝ }
+{
+    if r.0 == 1 {
+        return scan(slots, set, Which::Any, Which::Any);
+    }
+    scan(slots, set, Which::Any, Which::Only(format::D_GET))
+}
+
+// The stations whose proposal of round r, over 1, is R-GET.
+fn later_r_get(slots: &[u32; SLOTS_WORDS], set: u32, r: Round) -> u32
+    ensures { λ x. ⌜ x ≡ Scan (λ s. ltb 1 (r .0) && eqb (s .flag) R-GET) set (now (slots .entry)) ⌝ }
 {
     if 1 < r.0 {
-        return scan(slots, set, Which::Any, Which::Only(flag));
+        return scan(slots, set, Which::Any, Which::Only(format::R_GET));
     }
     0
 }
@@ -101,7 +112,7 @@ pub fn for_value(slots: &[u32; SLOTS_WORDS], set: u32, stage: Stage) -> u32
 {
     match stage {
         Stage::Gathering => 0,
-        Stage::Proposing(r, _) => flagged(slots, set, r, format::D_GET),
+        Stage::Proposing(r, _) => first_or_d_get(slots, set, r),
         Stage::Voting(_) => scan(slots, set, Which::Only(0), Which::Any)
             + scan(slots, set, Which::Only(1), Which::Any),
     }
@@ -113,7 +124,7 @@ pub fn for_none(slots: &[u32; SLOTS_WORDS], set: u32, stage: Stage) -> u32
 {
     match stage {
         Stage::Gathering => 0,
-        Stage::Proposing(r, _) => flagged(slots, set, r, format::R_GET),
+        Stage::Proposing(r, _) => later_r_get(slots, set, r),
         Stage::Voting(_) => 0,
     }
 }

@@ -7,7 +7,6 @@ use native.Mathlib.Omega.{arith}
 use lib.Dec.{eqb}
 use lib.ListN.{length, getD, take, replicate}
 use borrow.Author.Tests.{eq-eqb}
-use lib.Seq.{take-at}
 use Rattle.laws.specs.Pick.{pick, skip}
 use Rattle.laws.specs.Bools.{join}
 use Rattle.laws.specs.Sets.{bit}
@@ -120,16 +119,15 @@ module _ (n number question : ℕ) (g : Stage) (d : ℕ) where
         for-none = statements (replicate 160 0) 0 (no-for-none i .size);
       }
 
-  -- the first q statements of the certificate are its first group, where that is kept
-  group-kept : (b : Bool) (c e : List Statement) → (b ≡ true → length c ≡ quorum n) → pick (b && true) (take (quorum n) (c ++ e)) [] ≡ pick b c []
+  group-kept : (b : Bool) (c e : List Statement) → take (quorum n) (c ++ e) ≡ c → pick (b && true) (take (quorum n) (c ++ e)) [] ≡ pick b c []
   unfolding pick
-  group-kept true c e q = take-at c e (quorum n) (q refl)
+  group-kept true c e q = q
   group-kept false c e q = refl
 
-  state-begun : (s : Statement) (c e : List Statement) → (supplies-for-value g s ≡ true → length c ≡ quorum n) → (supplies-for-none g s ≡ true → length c ≡ quorum n)
-      → keeping n (empty question g d) s (c ++ e) ≡ began question g d s c
+  -- where the first q statements of the certificate are its first group
+  state-begun : (s : Statement) (c e : List Statement) → take (quorum n) (c ++ e) ≡ c → keeping n (empty question g d) s (c ++ e) ≡ began question g d s c
   unfolding insert some
-  state-begun s c e one two =
+  state-begun s c e front =
       λ i.
       record {
         question = question;
@@ -137,22 +135,22 @@ module _ (n number question : ℕ) (g : Stage) (d : ℕ) where
         closed = false;
         decision = d;
         held = s ∷ [];
-        for-value = group-kept (supplies-for-value g s) c e one i;
-        for-none = group-kept (supplies-for-none g s) c e two i;
+        for-value = group-kept (supplies-for-value g s) c e front i;
+        for-none = group-kept (supplies-for-none g s) c e front i;
       }
 
   pub begun : (s : Statement) (c e : List Statement) → n ≤ most-stations → Proper n s → All (Proper n) (c ++ e) → length (c ++ e) ≤ most-statements
-      → Below (bundle-of s (c ++ e)) → (supplies-for-value g s ≡ true → length c ≡ quorum n) → (supplies-for-none g s ≡ true → length c ≡ quorum n)
+      → Below (bundle-of s (c ++ e)) → take (quorum n) (c ++ e) ≡ c
       → with-bundle (blank n number question g d) (bundle-of s (c ++ e)) ≡ W.as-station n number (began question g d s c)
   unfolding bundle-of some
-  begun s c e top p a few low one two =
+  begun s c e top p a few low front =
       kept-is n number (blank n number question g d) (bundle-of s (c ++ e)) top blank-lengths blank-low low blank-fit (bundle-there n s (c ++ e) top p a few)
       new
       ∙ ap (W.as-station n number)
       (ap (λ (t : State). keeping n t (main-of (bundle-of s (c ++ e))) (certificate-of (bundle-of s (c ++ e)))) blank-state
       ∙ ap (λ (m : Statement). keeping n (empty question g d) m (certificate-of (bundle-of s (c ++ e)))) (main-is n s (c ++ e) top p a few)
       ∙ ap (keeping n (empty question g d) s) (certificate-is n s (c ++ e) top p a few)
-      ∙ state-begun s c e one two)
+      ∙ state-begun s c e front)
     where
       new : held-of (main-of (bundle-of s (c ++ e)) .station) (held-by (blank n number question g d)) ≡ false
       new = ap (held-of (main-of (bundle-of s (c ++ e)) .station)) nothing-held

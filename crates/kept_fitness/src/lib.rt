@@ -41,10 +41,7 @@ fn value_group(n: u32, stage: Stage, v: u32) -> Group
 {
     match stage {
         Stage::Gathering => no_group(),
-        Stage::Proposing(r, _) => {
-            let before = rules::round_before(r);
-            rules::proposals(n, before, Which::Only(v), Which::Any)
-        }
+        Stage::Proposing(r, _) => rules::d_get_group(n, v, r),
         Stage::Voting(r) => rules::proposals(n, r, Which::Only(v), Which::Any),
     }
 }

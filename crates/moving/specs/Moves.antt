@@ -6,7 +6,7 @@ use lib.Dec.{eqb, ltb}
 use Rattle.laws.specs.Pick.{pick}
 use Rattle.format.specs.declared.Fields.{Fields}
 use Rattle.format.specs.Numbers.{none, kept, sent, sent-decided, not-above}
-use Rattle.format.specs.Group.{quorum}
+use Rattle.format.specs.Group.{quorum, backing}
 use Rattle.format.specs.Words.{step-of}
 use Rattle.modules.specs.declared.Module.{Module}
 use Rattle.modules.specs.Counter.{above, last-for}
@@ -14,7 +14,7 @@ use Rattle.station.specs.declared.Groups.{Groups}
 use Rattle.station.specs.declared.Station.{Station}
 use Rattle.station.specs.Calls.{Returned}
 use Rattle.ending.specs.declared.Kept.{Kept}
-use Rattle.ending.specs.declared.Kept.the-variants.{Nothing, ForValue, ForNone}
+use Rattle.ending.specs.declared.Kept.the-variants.{Nothing, Inits, ForValue, ForNone}
 use Rattle.ending.specs.declared.Following.{Following}
 use Rattle.sending.specs.Sends.{own-fields}
 use Rattle.sending.specs.Sent.{sent-count, sent-lent, sent-bundle, sent-station, sent-after}
@@ -22,13 +22,15 @@ use Rattle.sending.specs.Sent.{sent-count, sent-lent, sent-bundle, sent-station
 -- ---- what makes the certificate: the held statements of a set, and behind them so many of a kept group
 unfoldable pub group-by : Kept → Groups → List ℕ
 group-by Nothing g = g .value
+group-by Inits g = g .value
 group-by ForValue g = g .value
 group-by ForNone g = g .none
 
-unfoldable pub count-by : Kept → ℕ → ℕ
-count-by Nothing q = 0
-count-by ForValue q = q
-count-by ForNone q = q
+unfoldable pub count-by : Kept → ℕ → ℕ → ℕ
+count-by Nothing n v = 0
+count-by Inits n v = backing n v
+count-by ForValue n v = quorum n
+count-by ForNone n v = quorum n
 
 -- ---- all that is returned
 abbrev pub with-no-bundle : ℕ → Station → Module → List ℕ → Returned
@@ -43,7 +45,7 @@ sending-words m k x f d out =
     let q = k .identity .question in
     let set = x .set in
     let group = group-by (x .kept) (k .groups) in
-    let size = count-by (x .kept) (quorum (m .n)) in
+    let size = count-by (x .kept) (m .n) (x .value) in
     record {
       number = answer (k .decision) d;
       count = sent-count set size out;

@@ -9,7 +9,6 @@ use station::Groups;
 use station::KEPT_WORDS;
 use station::Station;
 ghost use mathlib.Core.Path.{_≡_};
-ghost use Rattle.format.specs.Group.{quorum as Quorum};
 ghost use Rattle.station.specs.Answers.{Answers};
 ghost use Rattle.sending.specs.Sent.{sent-count, sent-lent, sent-bundle, sent-station, sent-after};
 ghost use Rattle.moving.specs.Moves.{group-by, count-by, answer as Answer, moving};
@@ -30,17 +29,21 @@ fn group_by(kept: Kept, groups: Groups) -> [u32; KEPT_WORDS]
     let b = groups.none;
     match kept {
         Kept::Nothing => a,
+        Kept::Inits => a,
         Kept::ForValue => a,
         Kept::ForNone => b,
     }
 }
 
-// How many statements of it stand there.
-fn count_by(kept: Kept, q: u32) -> u32
-    ensures { λ r. ⌜ r ≡ count-by kept q ⌝ }
+// How many statements of it stand there, behind a statement with value v: in round 1 the backing of v, else a quorum.
+fn count_by(kept: Kept, n: u32, v: u32) -> u32
+    ensures { λ r. ⌜ r ≡ count-by kept n v ⌝ }
 {
+    let b = format::backing(n, v);
+    let q = format::quorum(n);
     match kept {
         Kept::Nothing => 0,
+        Kept::Inits => b,
         Kept::ForValue => q,
         Kept::ForNone => q,
     }
@@ -58,10 +61,10 @@ fn answer(old: u32, d: u32) -> u32
 
 // Sends the statement that follows, with its certificate.
 fn send_next(m: Module, k: Station, x: Following, f: Fields, d: u32, out: &mut [u32]) -> Sent
-    ensures { λ r. ⌜ (r .count ≡ sent-count (x .set) (count-by (x .kept) (Quorum (m .n))) (now (out .entry)))
-        × (r .station ≡ sent-station m (k .identity .question) (x .stage) d (sent-bundle m (k .identity .question) f (k .held .slots) (x .set) (group-by (x .kept) (k .groups)) (count-by (x .kept) (Quorum (m .n))) (now (out .entry))))
-        × (r .after ≡ sent-after m (k .identity .question) f (k .held .slots) (x .set) (group-by (x .kept) (k .groups)) (count-by (x .kept) (Quorum (m .n))) (now (out .entry)))
-        × (now (out .exit) ≡ sent-lent m (k .identity .question) f (k .held .slots) (x .set) (group-by (x .kept) (k .groups)) (count-by (x .kept) (Quorum (m .n))) (now (out .entry))) ⌝ }
+    ensures { λ r. ⌜ (r .count ≡ sent-count (x .set) (count-by (x .kept) (m .n) (x .value)) (now (out .entry)))
+        × (r .station ≡ sent-station m (k .identity .question) (x .stage) d (sent-bundle m (k .identity .question) f (k .held .slots) (x .set) (group-by (x .kept) (k .groups)) (count-by (x .kept) (m .n) (x .value)) (now (out .entry))))
+        × (r .after ≡ sent-after m (k .identity .question) f (k .held .slots) (x .set) (group-by (x .kept) (k .groups)) (count-by (x .kept) (m .n) (x .value)) (now (out .entry)))
+        × (now (out .exit) ≡ sent-lent m (k .identity .question) f (k .held .slots) (x .set) (group-by (x .kept) (k .groups)) (count-by (x .kept) (m .n) (x .value)) (now (out .entry))) ⌝ }
 {
     let identity = k.identity;
     let held = k.held;
@@ -70,7 +73,7 @@ fn send_next(m: Module, k: Station, x: Following, f: Fields, d: u32, out: &mut [
     let kept = x.kept;
     let stage = x.stage;
     let group = group_by(kept, groups);
-    let size = count_by(kept, format::quorum(m.n));
+    let size = count_by(kept, m.n, x.value);
     sending::send(
         m,
         identity.question,

@@ -1,6 +1,6 @@
 -- The test `rule` takes exactly what `Backed` lists: each rule's groups are those that the test looks for.
 use Prim.Native.Nat.{ℕ, _+_, _-_, _≤_, _<_}
-use mathlib.Core.Bool.{Bool, true, false, not, _&&_}
+use mathlib.Core.Bool.{Bool, true, false, not, _&&_, _||_}
 use mathlib.Core.Logic.{_⊎_, inl, inr}
 use mathlib.Core.List.{List, [], _∷_, _++_, append-nil}
 use mathlib.Core.Path.{_≡_, refl, sym, ap, _∙_, subst}
@@ -13,11 +13,12 @@ use Rattle.laws.specs.Pick.{pick}
 use Rattle.laws.specs.Bools.{never, both, join, either, left, right, is-false}
 use Rattle.laws.specs.All.{All}
 use Rattle.format.specs.Numbers.{kind-INIT, kind-P, kind-V, none, D-GET, R-GET}
+use Rattle.format.specs.Group.{quorum, backing, backing-most}
 use Rattle.format.specs.Statement.{Statement}
 use Rattle.format.specs.Laws.Shape.{Shape, init, proposal, vote}
 use Rattle.rules.specs.declared.Which.the-variants.{Any, Only}
 use Rattle.rules.specs.declared.Group.{Group}
-use Rattle.rules.specs.Rules.{matches, Rising, Holds, in-order, holds, inits, proposals, none-votes, some-D-GET, some-value, BothValues, Backed, rule-1, rule-2, rule-3, rule-4, rule-5, rule-6, rule-7, first-group, second-group, has-second, early-toss, rest-holds, spread, groups-hold, rule}
+use Rattle.rules.specs.Rules.{matches, Rising, Holds, in-order, holds, inits, proposals, none-votes, some-D-GET, some-value, BothValues, NeedsSecond, Backed, rule-1, rule-2, rule-3, rule-4, rule-5, rule-6, rule-7, d-get-group, first-group, second-group, has-second, early-toss, rest-holds, spread, groups-hold, rule}
 
 -- ---- groups
 order-out : (g : Group) (above : ℕ) (c : List Statement) → in-order g above c ≡ true → Rising above c × All (λ s. matches g s ≡ true) c
@@ -50,18 +51,44 @@ no-more [] h = refl
 no-more (s ∷ c) h = let e : length (s ∷ c) ≡ 0 = eqb-true _ _ h in absurd (omega arith)
 
 -- ---- which groups a statement asks for
+-- what a D-GET proposal rests on, and with it the second group of rule 5: INITs in round 1, later proposals
+pub d-get-first : (n v r : ℕ) → r ≡ 1 → d-get-group n v r ≡ inits n v
+unfolding d-get-group pick
+d-get-first n v r e = rw (eq-eqb r 1 e)
+
+pub d-get-later : (n v r : ℕ) → 1 < r → d-get-group n v r ≡ proposals n (r - 1) (Only v) Any
+unfolding d-get-group pick
+d-get-later n v r l = rw (ne-eqb r 1 (λ e. omega arith))
+
+-- how many statements it has, and that they are at most q
+pub d-get-size : (n v r : ℕ) → d-get-group n v r .size ≡ pick (eqb r 1) (backing n v) (quorum n)
+unfolding d-get-group pick
+d-get-size n v r = go (eqb r 1)
+  where
+    go : (b : Bool) → pick b (inits n v) (proposals n (r - 1) (Only v) Any) .size ≡ pick b (backing n v) (quorum n)
+    go true = refl
+    go false = refl
+
+pub d-get-most : (n v r : ℕ) → d-get-group n v r .size ≤ quorum n
+unfolding pick
+d-get-most n v r = subst (λ (k : ℕ). k ≤ quorum n) (sym (d-get-size n v r)) (go (eqb r 1))
+  where
+    go : (b : Bool) → pick b (backing n v) (quorum n) ≤ quorum n
+    go true = backing-most n v
+    go false = omega arith
+
 module _ (n v f r : ℕ) where
-  first-2 : (k : ℕ) → k ≡ kind-P → r ≡ 1 → first-group n k v f r ≡ inits n v
+  first-2 : (k : ℕ) → k ≡ kind-P → r ≡ 1 → f ≡ D-GET → first-group n k v f r ≡ inits n v
   unfolding first-group pick
-  first-2 k a b = rw (eq-eqb k kind-P a, eq-eqb r 1 b)
+  first-2 k a b c = rw (eq-eqb k kind-P a, eq-eqb f D-GET c) (d-get-first n v r b)
 
   first-3 : (k : ℕ) → k ≡ kind-P → 1 < r → f ≡ D-GET → first-group n k v f r ≡ proposals n (r - 1) (Only v) Any
   unfolding first-group pick
-  first-3 k a b c = rw (eq-eqb k kind-P a, ne-eqb r 1 (λ e. omega arith), eq-eqb f D-GET c)
+  first-3 k a b c = rw (eq-eqb k kind-P a, eq-eqb f D-GET c) (d-get-later n v r b)
 
-  first-4 : (k : ℕ) → k ≡ kind-P → 1 < r → f ≡ R-GET → first-group n k v f r ≡ none-votes n (r - 1)
+  first-4 : (k : ℕ) → k ≡ kind-P → f ≡ R-GET → first-group n k v f r ≡ none-votes n (r - 1)
   unfolding first-group pick
-  first-4 k a b c = rw (eq-eqb k kind-P a, ne-eqb r 1 (λ e. omega arith), ne-eqb f D-GET (λ e. omega arith))
+  first-4 k a c = rw (eq-eqb k kind-P a, ne-eqb f D-GET (λ e. omega arith))
 
   first-5 : (k : ℕ) → k ≡ kind-V → v < none → first-group n k v f r ≡ proposals n r (Only v) Any
   unfolding first-group pick
@@ -75,7 +102,7 @@ module _ (n v f r : ℕ) where
   unfolding first-group pick
   first-7 k a b c = rw (ne-eqb k kind-P (λ e. omega arith), le-ltb v none (omega arith), ne-eqb r 1 (λ e. omega arith))
 
-second-5 : (n v r : ℕ) → v < none → second-group n v r ≡ proposals n (r - 1) (Only v) Any
+second-5 : (n v r : ℕ) → v < none → second-group n v r ≡ d-get-group n v r
 unfolding second-group pick
 second-5 n v r h = rw (lt-ltb v none h)
 
@@ -83,33 +110,46 @@ second-7 : (n v r : ℕ) → v ≡ none → second-group n v r ≡ none-votes n 
 unfolding second-group pick
 second-7 n v r h = rw (le-ltb v none (omega arith))
 
--- a proposal has one group; so has a vote of round 1; a none vote of a later round has two; another vote has two by its first group
+-- a proposal has one group, and so has a none vote of round 1; a vote for 0 or 1 in round 1 has two, and so has a none vote of a later round; another
+-- vote has two by its first group
 one-P : (k v r : ℕ) (d : Bool) → k ≡ kind-P → has-second k v r d ≡ false
 unfolding has-second
 one-P k v r d e = rw (ne-eqb k kind-V (λ z. omega arith))
 
-one-early : (k v r : ℕ) (d : Bool) → r ≡ 1 → has-second k v r d ≡ false
+pub two-later : (k v r : ℕ) (d : Bool) → v ≡ none → has-second k v r d ≡ true → 1 < r
 unfolding has-second
-one-early k v r d e = is-false _ (λ h. let a = both (eqb k kind-V && ltb 1 r) _ h in let b = both (eqb k kind-V) _ (a .0) in omega (arith, ltb-true 1 r (b .1)))
-
-two-none : (k v r : ℕ) (d : Bool) → k ≡ kind-V → v ≡ none → 1 < r → has-second k v r d ≡ true
-unfolding has-second
-two-none k v r d a b c = rw (eq-eqb k kind-V a, lt-ltb 1 r c, eq-eqb v none b)
-
-two-D : (k v r : ℕ) (d : Bool) → k ≡ kind-V → 1 < r → d ≡ true → has-second k v r d ≡ true
-unfolding has-second
-two-D k v r d a b c = rw (eq-eqb k kind-V a, lt-ltb 1 r b) (right (eqb v none) d c)
-
-two-out : (k v r : ℕ) (d : Bool) → v < none → has-second k v r d ≡ true → (1 < r) × (d ≡ true)
-unfolding has-second
-two-out k v r d low h =
-    let a = both (eqb k kind-V && ltb 1 r) _ h in
-    let b = both (eqb k kind-V) _ (a .0) in
-    (ltb-true 1 r (b .1), go (either (eqb v none) d (a .1)))
+two-later k v r d a h = go (either (eqb r 1 && ltb v none) _ (both (eqb k kind-V) _ h .1))
   where
-    go : (eqb v none ≡ true) ⊎ (d ≡ true) → d ≡ true
-    go (inl e) = absurd (omega (arith, eqb-true v none e))
-    go (inr e) = e
+    go : ((eqb r 1 && ltb v none) ≡ true) ⊎ ((ltb 1 r && (eqb v none || d)) ≡ true) → 1 < r
+    go (inl x) = absurd (omega (arith, ltb-true v none (both (eqb r 1) _ x .1)))
+    go (inr x) = ltb-true 1 r (both (ltb 1 r) _ x .0)
+
+pub one-early : (k v r : ℕ) (d : Bool) → v ≡ none → r ≡ 1 → has-second k v r d ≡ false
+one-early k v r d a e = is-false _ (λ h. omega (arith, two-later k v r d a h))
+
+pub two-early : (k v r : ℕ) (d : Bool) → k ≡ kind-V → v < none → r ≡ 1 → has-second k v r d ≡ true
+unfolding has-second
+two-early k v r d a b c = rw (eq-eqb k kind-V a, eq-eqb r 1 c, lt-ltb v none b)
+
+pub two-none : (k v r : ℕ) (d : Bool) → k ≡ kind-V → v ≡ none → 1 < r → has-second k v r d ≡ true
+unfolding has-second
+two-none k v r d a b c = rw (eq-eqb k kind-V a, lt-ltb 1 r c, eq-eqb v none b) (right (eqb r 1 && ltb v none) _ refl)
+
+pub two-D : (k v r : ℕ) (d : Bool) → k ≡ kind-V → 1 < r → d ≡ true → has-second k v r d ≡ true
+unfolding has-second
+two-D k v r d a b c = rw (eq-eqb k kind-V a, lt-ltb 1 r b) (right (eqb r 1 && ltb v none) _ (right (eqb v none) d c))
+
+pub two-out : (k v r : ℕ) (d : Bool) → v < none → has-second k v r d ≡ true → (r ≡ 1) ⊎ ((1 < r) × (d ≡ true))
+unfolding has-second
+two-out k v r d low h = go (either (eqb r 1 && ltb v none) _ (both (eqb k kind-V) _ h .1))
+  where
+    d-get : (eqb v none ≡ true) ⊎ (d ≡ true) → d ≡ true
+    d-get (inl e) = absurd (omega (arith, eqb-true v none e))
+    d-get (inr e) = e
+
+    go : ((eqb r 1 && ltb v none) ≡ true) ⊎ ((ltb 1 r && (eqb v none || d)) ≡ true) → (r ≡ 1) ⊎ ((1 < r) × (d ≡ true))
+    go (inl x) = inl (eqb-true r 1 (both (eqb r 1) _ x .0))
+    go (inr x) = let b = both (ltb 1 r) _ x in inr (ltb-true 1 r (b .0), d-get (either (eqb v none) d (b .1)))
 
 -- ---- a certificate, taken apart and put together
 module _ (n : ℕ) (m : Statement) where
@@ -227,7 +267,7 @@ module _ (n : ℕ) (m : Statement) (c : List Statement) where
           → (not (early-toss (m .kind) (m .flag) (m .round)) ≡ true) × (groups-hold n m (first-group n (m .kind) (m .value) (m .flag) (m .round)) c ≡ true) → Backed n m c
       go true true p q e =
           let a : m .round ≡ 1 = eqb-true _ _ p in
-          rule-2 k a (eqb-true _ _ q) (held (inits n (m .value)) (first-2 n (m .value) (m .flag) (m .round) (m .kind) k a) (e .1))
+          rule-2 k a (eqb-true _ _ q) (held (inits n (m .value)) (first-2 n (m .value) (m .flag) (m .round) (m .kind) k a (eqb-true _ _ q)) (e .1))
       go true false p q e =
           absurd (no-toss k (eqb-true _ _ p) (not-not _ (e .0)) (omega (arith, eqb-false (m .flag) D-GET q)))
       go false true p q e =
@@ -237,7 +277,7 @@ module _ (n : ℕ) (m : Statement) (c : List Statement) where
       go false false p q e =
           let a : 1 < m .round = omega (arith, eqb-false (m .round) 1 p) in
           let d : m .flag ≡ R-GET = omega (arith, eqb-false (m .flag) D-GET q) in
-          rule-4 k a d (held (none-votes n (m .round - 1)) (first-4 n (m .value) (m .flag) (m .round) (m .kind) k a d) (e .1))
+          rule-4 k a d (held (none-votes n (m .round - 1)) (first-4 n (m .value) (m .flag) (m .round) (m .kind) k d) (e .1))
 
   out-V : m .kind ≡ kind-V → 1 ≤ m .round → m .value ≤ none → held-rest ≡ true → Backed n m c
   out-V k r v h = go (ltb (m .value) none) (eqb (m .round) 1) refl refl (both (not (early-toss (m .kind) (m .flag) (m .round))) _ h .1)
@@ -246,8 +286,13 @@ module _ (n : ℕ) (m : Statement) (c : List Statement) where
       five low a =
           subst (λ (x : List Statement). Backed n m x) (a .joined)
           (rule-5 k low (a .held)
-          (λ w. rw (second-5 n (m .value) (m .round) low) at (rest-some n m (a .first) (a .rest) (two-D (m .kind) (m .value) (m .round) (some-D-GET (a .first)) k (w .0) (w .1)) (a .behind)))
-          (λ w. rest-none n m (a .first) (a .rest) (is-false _ (λ e. w (two-out (m .kind) (m .value) (m .round) (some-D-GET (a .first)) low e))) (a .behind)))
+          (λ w. rw (second-5 n (m .value) (m .round) low, d-get-first n (m .value) (m .round) w) at (rest-some n m (a .first) (a .rest) (two-early (m .kind) (m .value) (m .round) (some-D-GET (a .first)) k low w) (a .behind)))
+          (λ w. rw (second-5 n (m .value) (m .round) low, d-get-later n (m .value) (m .round) (w .0)) at (rest-some n m (a .first) (a .rest) (two-D (m .kind) (m .value) (m .round) (some-D-GET (a .first)) k (w .0) (w .1)) (a .behind)))
+          (λ w z. rest-none n m (a .first) (a .rest) (is-false _ (λ e. out w z (two-out (m .kind) (m .value) (m .round) (some-D-GET (a .first)) low e))) (a .behind)))
+        where
+          out : (m .round ≡ 1 → ⊥) → (NeedsSecond m (a .first) → ⊥) → (m .round ≡ 1) ⊎ NeedsSecond m (a .first) → ⊥
+          out w z (inl e) = w e
+          out w z (inr e) = z e
 
       seven : m .value ≡ none → 1 < m .round → Apart n m (proposals n (m .round) Any Any) c → Backed n m c
       seven e later a =
@@ -263,7 +308,7 @@ module _ (n : ℕ) (m : Statement) (c : List Statement) where
       go false true p q e =
           let a : m .value ≡ none = omega (arith, ltb-false (m .value) none p) in
           let b : m .round ≡ 1 = eqb-true _ _ q in
-          let s = single n m (proposals n 1 Any (Only D-GET)) c (λ x. one-early (m .kind) (m .value) (m .round) (some-D-GET x) b)
+          let s = single n m (proposals n 1 Any (Only D-GET)) c (λ x. one-early (m .kind) (m .value) (m .round) (some-D-GET x) a b)
           (rw (first-6 n (m .value) (m .flag) (m .round) (m .kind) k a b) at e) in
           rule-6 k a b (s .0) (spread-out n m k a c (s .1))
       go false false p q e =
@@ -298,28 +343,31 @@ pub backed-rule : (n : ℕ) (m : Statement) (c : List Statement) → Backed n m 
 unfolding rule pick
 backed-rule n m c (rule-1 k) = rw (eq-eqb (m .kind) kind-INIT k)
 backed-rule n m c (rule-2 k r f h) =
-    in-rest n m c (inits n (m .value)) (λ e. omega arith) (given (m .kind) (m .flag) (m .round) f) (first-2 n (m .value) (m .flag) (m .round) (m .kind) k r)
+    in-rest n m c (inits n (m .value)) (λ e. omega arith) (given (m .kind) (m .flag) (m .round) f) (first-2 n (m .value) (m .flag) (m .round) (m .kind) k r f)
     (single-in n m (inits n (m .value)) c (one-P (m .kind) (m .value) (m .round) (some-D-GET c) k) h (spread-P n m k c))
 backed-rule n m c (rule-3 k r f h) =
     in-rest n m c _ (λ e. omega arith) (given (m .kind) (m .flag) (m .round) f) (first-3 n (m .value) (m .flag) (m .round) (m .kind) k r f)
     (single-in n m (proposals n (m .round - 1) (Only (m .value)) Any) c (one-P (m .kind) (m .value) (m .round) (some-D-GET c) k) h (spread-P n m k c))
 backed-rule n m c (rule-4 k r f h) =
-    in-rest n m c _ (λ e. omega arith) (late (m .kind) (m .flag) (m .round) r) (first-4 n (m .value) (m .flag) (m .round) (m .kind) k r f)
+    in-rest n m c _ (λ e. omega arith) (late (m .kind) (m .flag) (m .round) r) (first-4 n (m .value) (m .flag) (m .round) (m .kind) k f)
     (single-in n m (none-votes n (m .round - 1)) c (one-P (m .kind) (m .value) (m .round) (some-D-GET c) k) h (spread-P n m k c))
-backed-rule n m _ (rule-5 {c} {d} k v h s o) =
+backed-rule n m _ (rule-5 {c} {d} k v h i s o) =
     in-rest n m (c ++ d) _ (λ e. omega arith) (voted (m .kind) (m .flag) (m .round) k) (first-5 n (m .value) (m .flag) (m .round) (m .kind) k v)
     (together n m (proposals n (m .round) (Only (m .value)) Any) c d h (spread-value n m v c) (go (second n m c) refl))
   where
+    held : (m .round ≡ 1) ⊎ NeedsSecond m c → Holds (second-group n (m .value) (m .round)) d
+    held (inl w) = rw (second-5 n (m .value) (m .round) v, d-get-first n (m .value) (m .round) w) (i w)
+    held (inr w) = rw (second-5 n (m .value) (m .round) v, d-get-later n (m .value) (m .round) (w .0)) (s w)
+
     go : (b : Bool) → second n m c ≡ b → rest-holds n m c d ≡ true
-    go true e =
-        let w = two-out (m .kind) (m .value) (m .round) (some-D-GET c) v e in
-        some-rest n m c d e (rw (second-5 n (m .value) (m .round) v) (s w))
+    go true e = some-rest n m c d e (held (two-out (m .kind) (m .value) (m .round) (some-D-GET c) v e))
     go false e =
-        let z : d ≡ [] = o (λ w. never (second n m c) e (two-D (m .kind) (m .value) (m .round) (some-D-GET c) k (w .0) (w .1))) in
+        let z : d ≡ [] = o (λ w. never (second n m c) e (two-early (m .kind) (m .value) (m .round) (some-D-GET c) k v w))
+        (λ w. never (second n m c) e (two-D (m .kind) (m .value) (m .round) (some-D-GET c) k (w .0) (w .1))) in
         rw z (none-rest n m c e)
 backed-rule n m c (rule-6 k v r h b) =
     in-rest n m c _ (λ e. omega arith) (voted (m .kind) (m .flag) (m .round) k) (first-6 n (m .value) (m .flag) (m .round) (m .kind) k v r)
-    (single-in n m (proposals n 1 Any (Only D-GET)) c (one-early (m .kind) (m .value) (m .round) (some-D-GET c) r) h (spread-in n m c b))
+    (single-in n m (proposals n 1 Any (Only D-GET)) c (one-early (m .kind) (m .value) (m .round) (some-D-GET c) v r) h (spread-in n m c b))
 backed-rule n m _ (rule-7 {c} {d} k v r h b s) =
     in-rest n m (c ++ d) _ (λ e. omega arith) (voted (m .kind) (m .flag) (m .round) k) (first-7 n (m .value) (m .flag) (m .round) (m .kind) k v r)
     (together n m (proposals n (m .round) Any Any) c d h (spread-in n m c b)

@@ -6,14 +6,12 @@ use Rattle.laws.specs.Pick.{pick}
 use Rattle.format.specs.Numbers.{kind-P, none, D-GET}
 use Rattle.rules.specs.declared.Which.the-variants.{Any, Only}
 use Rattle.rules.specs.declared.Group.{Group}
-use Rattle.rules.specs.Rules.{inits, proposals, none-votes, first-group}
+use Rattle.rules.specs.Rules.{proposals, none-votes, d-get-group, first-group}
 
 -- `first-group` for a P, and for a V
 unfoldable pub proposal-group : ℕ → ℕ → ℕ → ℕ → Group
 proposal-group n value flag round =
-    pick (eqb round 1) (inits n value)
-    (pick (eqb flag D-GET) (proposals n (round - 1) (Only value) Any)
-    (none-votes n (round - 1)))
+    pick (eqb flag D-GET) (d-get-group n value round) (none-votes n (round - 1))
 
 unfoldable pub vote-group : ℕ → ℕ → ℕ → Group
 vote-group n value round =

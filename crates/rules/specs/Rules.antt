@@ -64,7 +64,7 @@ some-value v c = some (λ s. which (Only v) (s .value) && which Any (s .flag)) c
 abbrev pub BothValues : List Statement → Type 0
 BothValues c = (some-value 0 c ≡ true) × (some-value 1 c ≡ true)
 
--- rule 5: "If one of them is D-GET and the round is over 1"
+-- rule 5, later: "If one of them is D-GET and the round is over 1"
 abbrev pub NeedsSecond : Statement → List Statement → Type 0
 NeedsSecond m c = (1 < m .round) × (some-D-GET c ≡ true)
 
@@ -79,10 +79,13 @@ pub data Backed (n : ℕ) (m : Statement) : List Statement → Type 0 where
       → Backed n m c
   -- "4. P, round over 1, R-GET: q V of the round before, each none. In round 1 an R-GET is invalid."
   rule-4 : {c : List Statement} → m .kind ≡ kind-P → 1 < m .round → m .flag ≡ R-GET → Holds (none-votes n (m .round - 1)) c → Backed n m c
-  -- "5. V with v: q P of that round with v. If one of them is D-GET and the round is over 1, then also q P of the round before with v, as a
-  -- second group."
+  -- "5. V with v: q P of that round with v." "In round 1 rule 5 now always has a second group: where the vote is for v, the backing of v in INITs
+  -- with v follows the P group" (Job 2 of document 02). "If one of them is D-GET and the round is over 1, then also q P of the round before with v,
+  -- as a second group." Else there is none.
   rule-5 : {c d : List Statement} → m .kind ≡ kind-V → m .value < none → Holds (proposals n (m .round) (Only (m .value)) Any) c
-      → (NeedsSecond m c → Holds (proposals n (m .round - 1) (Only (m .value)) Any) d) → ((NeedsSecond m c → ⊥) → d ≡ []) → Backed n m (c ++ d)
+      → (m .round ≡ 1 → Holds (inits n (m .value)) d)
+      → (NeedsSecond m c → Holds (proposals n (m .round - 1) (Only (m .value)) Any) d)
+      → ((m .round ≡ 1 → ⊥) → (NeedsSecond m c → ⊥) → d ≡ []) → Backed n m (c ++ d)
   -- "6. V none, round 1: q P of round 1, all D-GET, both values present."
   rule-6 : {c : List Statement} → m .kind ≡ kind-V → m .value ≡ none → m .round ≡ 1 → Holds (proposals n 1 Any (Only D-GET)) c → BothValues c
       → Backed n m c
@@ -100,24 +103,27 @@ in-order g above (s ∷ c) = (matches g s && ltb above (s .station)) && in-order
 unfoldable pub holds : Group → List Statement → Bool
 holds g c = eqb (length c) (g .size) && in-order g 0 c
 
+-- what a D-GET P of a round with v rests on, by rules 2 and 3; a V with v may need it too, by rule 5
+unfoldable pub d-get-group : ℕ → ℕ → ℕ → Group
+d-get-group n value round = pick (eqb round 1) (inits n value) (proposals n (round - 1) (Only value) Any)
+
 -- the first group, by the main statement's kind, value, flag and round; INIT has none
 unfoldable pub first-group : ℕ → ℕ → ℕ → ℕ → ℕ → Group
 first-group n kind value flag round =
     pick (eqb kind kind-P)
-    (pick (eqb round 1) (inits n value)
-    (pick (eqb flag D-GET) (proposals n (round - 1) (Only value) Any)
-    (none-votes n (round - 1))))
+    (pick (eqb flag D-GET) (d-get-group n value round)
+    (none-votes n (round - 1)))
     (pick (ltb value none) (proposals n round (Only value) Any)
     (pick (eqb round 1) (proposals n 1 Any (Only D-GET))
     (proposals n round Any Any)))
 
 -- the second group of rules 5 and 7
 unfoldable pub second-group : ℕ → ℕ → ℕ → Group
-second-group n value round = pick (ltb value none) (proposals n (round - 1) (Only value) Any) (none-votes n (round - 1))
+second-group n value round = pick (ltb value none) (d-get-group n value round) (none-votes n (round - 1))
 
--- a vote of a later round has a second group where it is none, or where one of the first group is D-GET
+-- a vote of round 1 has a second group where it is for 0 or 1; one of a later round where it is none, or where one of the first group is D-GET
 unfoldable pub has-second : ℕ → ℕ → ℕ → Bool → Bool
-has-second kind value round d-get = eqb kind kind-V && ltb 1 round && (eqb value none || d-get)
+has-second kind value round d-get = eqb kind kind-V && ((eqb round 1 && ltb value none) || (ltb 1 round && (eqb value none || d-get)))
 
 -- "In round 1 an R-GET is invalid."
 unfoldable pub early-toss : ℕ → ℕ → ℕ → Bool

@@ -3,7 +3,7 @@ use format::Fields;
 use format::Round;
 ghost use mathlib.Core.Path.{_≡_};
 ghost use Prim.Native.Nat.{_-_};
-ghost use Rattle.rules.specs.Rules.{which, wanted, inits as Inits, proposals as Proposals, none-votes, first-group, second-group, has-second, early-toss};
+ghost use Rattle.rules.specs.Rules.{which, wanted, inits as Inits, proposals as Proposals, none-votes, d-get-group, first-group, second-group, has-second, early-toss};
 ghost use Rattle.rules.specs.Groups.{proposal-group, vote-group};
 
 // What a group asks of a value or a flag.
@@ -93,15 +93,22 @@ pub fn votes_for_none(n: u32, r: Round) -> Group
     }
 }
 
-// The group of a P by rules 2, 3 and 4.
-fn group_of_proposal(n: u32, value: u32, flag: u32, r: Round) -> Group
-    ensures { λ g. ⌜ g ≡ proposal-group n value flag (r .0) ⌝ }
+// What a D-GET P with v rests on, by rules 2 and 3; the second group of a V with v, by rule 5.
+pub fn d_get_group(n: u32, value: u32, r: Round) -> Group
+    ensures { λ g. ⌜ g ≡ d-get-group n value (r .0) ⌝ }
 {
     if r.0 == 1 {
         return inits(n, value);
     }
+    proposals(n, round_before(r), Which::Only(value), Which::Any)
+}
+
+// The group of a P by rules 2, 3 and 4.
+fn group_of_proposal(n: u32, value: u32, flag: u32, r: Round) -> Group
+    ensures { λ g. ⌜ g ≡ proposal-group n value flag (r .0) ⌝ }
+{
     if flag == 0 {
-        return proposals(n, round_before(r), Which::Only(value), Which::Any);
+        return d_get_group(n, value, r);
     }
     votes_for_none(n, round_before(r))
 }
@@ -134,18 +141,17 @@ pub fn first_group(n: u32, f: Fields) -> Group
 pub fn second_group(n: u32, value: u32, r: Round) -> Group
     ensures { λ g. ⌜ g ≡ second-group n value (r .0) ⌝ }
 {
-    let b = round_before(r);
     if value < 2 {
-        return proposals(n, b, Which::Only(value), Which::Any);
+        return d_get_group(n, value, r);
     }
-    votes_for_none(n, b)
+    votes_for_none(n, round_before(r))
 }
 
 // Whether rules 5 and 7 ask for a second group; dget says that one of the first group is D-GET.
 pub fn has_second(kind: u32, value: u32, r: Round, dget: bool) -> bool
     ensures { λ b. ⌜ b ≡ has-second kind value (r .0) dget ⌝ }
 {
-    (kind == 2) & (1 < r.0) & ((value == 2) | dget)
+    (kind == 2) & (((r.0 == 1) & (value < 2)) | ((1 < r.0) & ((value == 2) | dget)))
 }
 
 // Whether it is an R-GET of round 1, for which there is no coin.

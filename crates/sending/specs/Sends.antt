@@ -22,7 +22,7 @@ use Rattle.modules.specs.Counter.{above, last-for, advanced, module-fits}
 use Rattle.sealed.specs.Sealed.{is-toss, Coded, coding-plain, coding-coin}
 use Rattle.sealed.specs.Ways.{with-code, coded-as, own-plain, own-coin}
 use Rattle.station.specs.declared.Stage.{Stage}
-use Rattle.station.specs.Machine.{own, began, supplies-for-value, supplies-for-none}
+use Rattle.station.specs.Machine.{own, began}
 use Rattle.station.specs.Words.{set-of}
 use Rattle.format.specs.Bundle.{all-written, bundle-of, over}
 use Rattle.station.specs.Words as W
@@ -137,13 +137,13 @@ module _ (m : Module) (question kind value flag round : ℕ) (g : Stage) (d : �
       ∙ take-at (bundle-of s (c ++ e)) (drop (length (bundle-of s (c ++ e))) out) (bundle-words (length (c ++ e))) (ws-length (m .n) s (c ++ e) (C .top) p proper few)
 
   pub station-is : Below (sent-lent m question f slots (set-of first) group (length second) out)
-      → (supplies-for-value g s ≡ true → length c ≡ quorum (m .n)) → (supplies-for-none g s ≡ true → length c ≡ quorum (m .n))
+      → take (quorum (m .n)) (c ++ e) ≡ c
       → sent-station m question g d (sent-bundle m question f slots (set-of first) group (length second) out) ≡ W.as-station (m .n) (m .station) (began question g d s c)
   unfolding sent-station
-  station-is low one two =
+  station-is low front =
       ap (with-bundle (blank (m .n) (m .station) question g d)) bundle-is
       ∙ begun (m .n) (m .station) question g d s c e (C .top) p proper few
-      (low-front (bundle-of s (c ++ e)) (drop (length (bundle-of s (c ++ e))) out) (subst Below lent-is low)) one two
+      (low-front (bundle-of s (c ++ e)) (drop (length (bundle-of s (c ++ e))) out) (subst Below lent-is low)) front
 
   pub after-is : sent-after m question f slots (set-of first) group (length second) out ≡ advanced m question (step s)
   unfolding sent-after coded-after pick step

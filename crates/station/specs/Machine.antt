@@ -12,7 +12,7 @@ use Rattle.format.specs.Words.{step-of}
 use Rattle.format.specs.Statement.{Statement, step}
 use Rattle.rules.specs.declared.Group.{Group}
 use Rattle.rules.specs.declared.Which.the-variants.{Any, Only}
-use Rattle.rules.specs.Rules.{group, proposals, some, some-D-GET, some-value, none-votes}
+use Rattle.rules.specs.Rules.{group, proposals, some, some-D-GET, some-value, none-votes, d-get-group, has-second}
 use Rattle.certificate.specs.Check.{every}
 use Rattle.modules.specs.declared.Last.{Last}
 use Rattle.modules.specs.Counter.{above}
@@ -52,11 +52,11 @@ pub record State : Type 0 where
   pub for-none : List Statement
 
 -- ---- which held bundle can supply which group
--- the group kept for a value: a D-GET proposal's certificate, which a vote for its value needs behind the proposals; a vote's own first group, which
--- the next round's D-GET proposal needs
+-- the group kept for a value: in round 1 any proposal's certificate, later a D-GET proposal's, which a vote for its value needs behind the proposals
+-- ("In round 1 rule 5 now always has a second group", Job 2 of document 02); a vote's own first group, which the next round's D-GET proposal needs
 abbrev pub supplies-for-value : Stage → Statement → Bool
 supplies-for-value Gathering s = false
-supplies-for-value (Proposing r f) s = ltb 1 (r .0) && eqb (s .flag) D-GET
+supplies-for-value (Proposing r f) s = eqb (r .0) 1 || eqb (s .flag) D-GET
 supplies-for-value (Voting r) s = ltb (s .value) none
 
 -- the group kept for a none vote: an R-GET proposal's certificate, which a none vote needs behind the proposals
@@ -65,7 +65,8 @@ supplies-for-none Gathering s = false
 supplies-for-none (Proposing r f) s = ltb 1 (r .0) && eqb (s .flag) R-GET
 supplies-for-none (Voting r) s = false
 
--- "the lowest-numbered station's is taken": a new bundle's, unless a lower-numbered station supplies it already
+-- "the lowest-numbered station's is taken", "taken from the lowest-numbered proposer's certificate": a new bundle's, unless a lower-numbered station
+-- supplies it already
 abbrev pub takes : (Statement → Bool) → List Statement → Statement → Bool
 takes p held m = p m && not (some (λ s. p s && ltb (s .station) (m .station)) held)
 
@@ -81,7 +82,7 @@ no-group = group 0 0 0 Any Any
 -- what the kept groups are, by the stage and the statements held: there exactly where one of these supplies it
 abbrev pub value-group : ℕ → Stage → ℕ → Group
 value-group n Gathering v = no-group
-value-group n (Proposing r f) v = proposals n (r .0 - 1) (Only v) Any
+value-group n (Proposing r f) v = d-get-group n v (r .0)
 value-group n (Voting r) v = proposals n (r .0) (Only v) Any
 
 unfoldable pub kept-for-value : ℕ → Stage → List Statement → Group
@@ -95,7 +96,8 @@ unfoldable pub insert : Statement → List Statement → List Statement
 insert m [] = m ∷ []
 insert m (s ∷ h) = pick (ltb (m .station) (s .station)) (m ∷ s ∷ h) (s ∷ insert m h)
 
--- the state with one bundle more: its main statement held, its first q certificate statements kept where they are to be
+-- the state with one bundle more: its main statement held, its first q certificate statements kept where they are to be, which is a proposal's whole
+-- certificate and of a vote's the proposals
 abbrev pub keeping : ℕ → State → Statement → List Statement → State
 keeping n t m c =
     record {
@@ -159,11 +161,11 @@ abbrev pub after-inits : ℕ → List Statement → Next
 after-inits n h =
     next kind-P (first-value h) D-GET 1 (take (backing n (first-value h)) (those (has-value (first-value h)) h)) [] (proposing 1 D-GET)
 
--- the vote, with the proposals as its first group; its second group is that of rule 5 or of rule 7
+-- the vote, with the proposals as its first group; its second group, where it has one, is that of rule 5 or of rule 7
 abbrev pub after-proposals : ℕ → State → Next
 after-proposals r t =
     next kind-V (vote-value (t .held)) D-GET r (t .held)
-    (pick (ltb 1 r) (pick (ltb (vote-value (t .held)) none) (pick (some-D-GET (t .held)) (t .for-value) []) (t .for-none)) [])
+    (pick (has-second kind-V (vote-value (t .held)) r (some-D-GET (t .held))) (pick (ltb (vote-value (t .held)) none) (t .for-value) (t .for-none)) [])
     (voting r)
 
 -- "At least one with 0 or 1: P of the next round with it, D-GET. All none: P flagged R-GET with the call's coin."

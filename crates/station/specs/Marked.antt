@@ -1,10 +1,10 @@
--- "Marked examples of the count": the whole table, as Job 1 of document 02 changes it, and one theorem over it. A station that holds its own statement
+-- "Marked examples of the count": the whole table, as Jobs 1 and 2 of document 02 change it, and one theorem over it. A station that holds its own statement
 -- is given bundles, one after the other, each tested by its rule and by the station's step tests, which is what giving comes to (`given-as-called` in
 -- AsCalled); a module codes ten words.
 use Prim.Native.Nat.{ℕ}
-use mathlib.Core.List.{List, [], _∷_}
+use mathlib.Core.List.{List, [], _∷_, _++_}
 use mathlib.Core.Path.{_≡_, refl}
-use lib.ListN.{replicate}
+use lib.ListN.{replicate, take}
 use Rattle.laws.specs.Pick.{pick}
 use Rattle.laws.specs.Refusals.{test, first-failed}
 use Rattle.laws.specs.All.{All}
@@ -12,7 +12,7 @@ use Rattle.format.specs.Numbers.{kind-INIT, kind-P, kind-V, none, D-GET, R-GET,
 use Rattle.format.specs.Group.{quorum, backing}
 use Rattle.format.specs.Words.{fields-of, word-of, formed, step-of}
 use Rattle.format.specs.Statement.{Statement, written, step, statement-code}
-use Rattle.rules.specs.Rules.{rule, wanted, some, in-order, holds, first-group, second-group, has-second, early-toss, rest-holds, spread, groups-hold}
+use Rattle.rules.specs.Rules.{rule, wanted, some, in-order, holds, d-get-group, first-group, second-group, has-second, early-toss, rest-holds, spread, groups-hold}
 use Rattle.certificate.specs.Check.{every}
 use Rattle.modules.specs.declared.Last.{Last}
 use Rattle.modules.specs.declared.Module.{Module}
@@ -36,9 +36,15 @@ proposal r s v f = says kind-P r s v f
 abbrev pub vote : ℕ → ℕ → ℕ → Statement
 vote r s v = says kind-V r s v D-GET
 
--- certificates: round 1's proposals of v; its proposals of both values; its none votes
+-- certificates: two INITs with v; round 1's proposals of v; with these the INITs, for a vote of round 1; proposals of both values; none votes
+abbrev pub inits-of : ℕ → ℕ → ℕ → List Statement
+inits-of a b v = init a v ∷ init b v ∷ []
+
 abbrev pub all-of : ℕ → List Statement
 all-of v = proposal 1 1 v D-GET ∷ proposal 1 2 v D-GET ∷ proposal 1 3 v D-GET ∷ []
+
+abbrev pub voted-for : ℕ → List Statement
+voted-for v = all-of v ++ inits-of 1 2 v
 
 abbrev pub mixed : List Statement
 mixed = proposal 1 1 0 D-GET ∷ proposal 1 2 1 D-GET ∷ proposal 1 3 1 D-GET ∷ []
@@ -71,17 +77,18 @@ abbrev pub given : (Statement → List ℕ) → ℕ → ℕ → Last → ℕ →
 given code n number last coin t b =
     unless (test (rule n (b .main) (b .certificate)) no-certificate ∷ step-tests t (b .main)) (taken code last-round n number last t (b .main) (b .certificate) coin)
 
-module _ (code : Statement → List ℕ) (n coin : ℕ) where
-  -- station 1, whose module has coded nothing yet; while it keeps, it is given the next
+module _ (code : Statement → List ℕ) (n number coin : ℕ) where
+  -- a station whose module has coded nothing yet; while it keeps, it is given the next
   unfoldable pub seen : List Bundle → Outcome → Seen
   seen [] o = unless-kept (λ k t. answers k) o
-  seen (b ∷ l) o = unless-kept (λ k t. seen l (given code n 1 no-pair coin t b)) o
+  seen (b ∷ l) o = unless-kept (λ k t. seen l (given code n number no-pair coin t b)) o
 
 -- ---- a row: its case, and what it gives
 pub data Row : Type 0 where
   -- n: the quorum, and the backings of 0 and of 1
   counts : (n q of-0 of-1 : ℕ) → Row
-  -- a station of n in a stage, its own bundle, the bundles given, and the coin: what is seen in the end
+  -- a station of n in a stage, its own bundle (of whose certificate it has kept the first q statements), the bundles given, and the coin: what is seen
+  -- in the end
   gives : (n : ℕ) → Stage → Bundle → List Bundle → (coin : ℕ) → Seen → Row
   -- the step last coded, the statement to code plain: the number returned
   codes : (last : ℕ) → Statement → (number : ℕ) → Row
@@ -92,7 +99,8 @@ module-at key last = record { key = key; n = 4; station = 1; last = pair 1 last 
 
 abbrev pub Holds : (List ℕ → List ℕ → List ℕ) → List ℕ → Row → Type 0
 Holds mac key (counts n q a b) = (quorum n ≡ q) × ((backing n 0 ≡ a) × (backing n 1 ≡ b))
-Holds mac key (gives n g b l coin x) = seen (statement-code (mac key)) n coin l (keeps kept (began 1 g none (b .main) (b .certificate))) ≡ x
+Holds mac key (gives n g b l coin x) =
+    seen (statement-code (mac key)) n (b .main .station) coin l (keeps kept (began 1 g none (b .main) (take (quorum n) (b .certificate)))) ≡ x
 Holds mac key (codes last s k) = coding-plain mac (module-at key last) (written s) .number ≡ k
 
 abbrev pub marked : List Row
@@ -110,10 +118,10 @@ marked =
     ∷ gives 4 Gathering (init 1 0 by []) (init 2 1 by [] ∷ init 3 1 by [] ∷ []) 0
     (writes sent kind-P 1 D-GET 1 (init 2 1 ∷ init 3 1 ∷ []) none)
     -- n 4, V 0, 0, 0: decides 0
-    ∷ gives 4 (voting 1) (vote 1 1 0 by all-of 0) (vote 1 2 0 by all-of 0 ∷ vote 1 3 0 by all-of 0 ∷ []) 1
+    ∷ gives 4 (voting 1) (vote 1 1 0 by voted-for 0) (vote 1 2 0 by voted-for 0 ∷ vote 1 3 0 by voted-for 0 ∷ []) 1
     (writes sent-decided kind-P 0 D-GET 2 (all-of 0) 0)
     -- n 4, V none, 1, none: no decision, P 1 D-GET
-    ∷ gives 4 (voting 1) (vote 1 1 none by mixed) (vote 1 2 1 by all-of 1 ∷ vote 1 3 none by mixed ∷ []) 0
+    ∷ gives 4 (voting 1) (vote 1 1 none by mixed) (vote 1 2 1 by voted-for 1 ∷ vote 1 3 none by mixed ∷ []) 0
     (writes sent kind-P 1 D-GET 2 (all-of 1) none)
     -- n 4, V all none, coin 1: P 1 R-GET
     ∷ gives 4 (voting 1) (vote 1 1 none by mixed) (vote 1 2 none by mixed ∷ vote 1 3 none by mixed ∷ []) 1
@@ -134,7 +142,7 @@ marked =
 
 -- every row holds, whatever the code and the key
 pub marked-hold : (mac : List ℕ → List ℕ → List ℕ) (key : List ℕ) → All (Holds mac key) marked
-unfolding pick backing seen first-failed rule wanted some in-order holds first-group second-group has-second early-toss rest-holds spread groups-hold every insert number-of first-value those vote-value decided carried follows ended taken conflict step step-of above coding-plain fields-of word-of formed
+unfolding pick backing seen first-failed rule wanted some in-order holds d-get-group first-group second-group has-second early-toss rest-holds spread groups-hold every insert number-of first-value those vote-value decided carried follows ended taken conflict step step-of above coding-plain fields-of word-of formed
 marked-hold mac key =
     ((refl, (refl, refl)), ((refl, (refl, refl)), ((refl, (refl, refl)), (refl, (refl, (refl, (refl, (refl, (refl, (refl, (refl, (refl, (refl, tt)))))))))))))
 
@@ -144,10 +152,50 @@ others = proposal 1 2 1 D-GET ∷ proposal 1 3 1 D-GET ∷ proposal 1 4 1 D-GET 
 
 abbrev pub lowest : List Row
 lowest =
-    gives 4 (voting 1) (vote 1 1 none by mixed) (vote 1 3 1 by others ∷ vote 1 2 1 by all-of 1 ∷ []) 0 (writes sent kind-P 1 D-GET 2 (all-of 1) none)
-    ∷ gives 4 (voting 1) (vote 1 1 none by mixed) (vote 1 2 1 by all-of 1 ∷ vote 1 3 1 by others ∷ []) 0 (writes sent kind-P 1 D-GET 2 (all-of 1) none)
+    gives 4 (voting 1) (vote 1 1 none by mixed) (vote 1 3 1 by (others ++ inits-of 1 2 1) ∷ vote 1 2 1 by voted-for 1 ∷ []) 0
+    (writes sent kind-P 1 D-GET 2 (all-of 1) none)
+    ∷ gives 4 (voting 1) (vote 1 1 none by mixed) (vote 1 2 1 by voted-for 1 ∷ vote 1 3 1 by (others ++ inits-of 1 2 1) ∷ []) 0
+    (writes sent kind-P 1 D-GET 2 (all-of 1) none)
     ∷ []
 
 pub lowest-hold : (mac : List ℕ → List ℕ → List ℕ) (key : List ℕ) → All (Holds mac key) lowest
-unfolding pick backing seen first-failed rule wanted some in-order holds first-group second-group has-second early-toss rest-holds spread groups-hold every insert number-of first-value those vote-value decided carried follows ended taken conflict step step-of above
+unfolding pick backing seen first-failed rule wanted some in-order holds d-get-group first-group second-group has-second early-toss rest-holds spread groups-hold every insert number-of first-value those vote-value decided carried follows ended taken conflict step step-of above
 lowest-hold mac key = (refl, (refl, tt))
+
+-- Job 2 of document 02: behind a first-round vote for v stands the backing of v in INITs with v, "taken from the lowest-numbered proposer's
+-- certificate", whether that came first or last, was the station's own or another's; behind a none vote stands nothing
+abbrev pub firsts : ℕ → List Statement
+firsts v = proposal 1 2 v D-GET ∷ proposal 1 3 v D-GET ∷ proposal 1 4 v D-GET ∷ []
+
+abbrev pub inits-carried : List Row
+inits-carried =
+    -- station 3 of 4, its own INITs 3 and 4: given 2's proposal with INITs 1 and 3 and 4's with 2 and 4, it writes 1 and 3
+    gives 4 (proposing 1 D-GET) (proposal 1 3 1 D-GET by inits-of 3 4 1)
+    (proposal 1 2 1 D-GET by inits-of 1 3 1 ∷ proposal 1 4 1 D-GET by inits-of 2 4 1 ∷ []) 0
+    (writes sent kind-V 1 D-GET 1 (firsts 1 ++ inits-of 1 3 1) none)
+    -- in the other order
+    ∷ gives 4 (proposing 1 D-GET) (proposal 1 3 0 D-GET by inits-of 3 4 0)
+    (proposal 1 4 0 D-GET by inits-of 2 4 0 ∷ proposal 1 2 0 D-GET by inits-of 1 3 0 ∷ []) 0
+    (writes sent kind-V 0 D-GET 1 (firsts 0 ++ inits-of 1 3 0) none)
+    -- station 2, the lowest-numbered itself: its own INITs
+    ∷ gives 4 (proposing 1 D-GET) (proposal 1 2 1 D-GET by inits-of 2 4 1)
+    (proposal 1 3 1 D-GET by inits-of 1 3 1 ∷ proposal 1 4 1 D-GET by inits-of 3 4 1 ∷ []) 0
+    (writes sent kind-V 1 D-GET 1 (firsts 1 ++ inits-of 2 4 1) none)
+    -- both values: V none, and no INIT
+    ∷ gives 4 (proposing 1 D-GET) (proposal 1 1 0 D-GET by inits-of 1 2 0)
+    (proposal 1 2 1 D-GET by inits-of 3 4 1 ∷ proposal 1 3 1 D-GET by inits-of 3 4 1 ∷ []) 0
+    (writes sent kind-V none D-GET 1 mixed none)
+    -- n 3, where the backings are 2 and 1: the two INITs of 0, the one of 1
+    ∷ gives 3 (proposing 1 D-GET) (proposal 1 1 0 D-GET by inits-of 1 3 0) (proposal 1 2 0 D-GET by inits-of 2 3 0 ∷ []) 0
+    (writes sent kind-V 0 D-GET 1 (proposal 1 1 0 D-GET ∷ proposal 1 2 0 D-GET ∷ inits-of 1 3 0) none)
+    ∷ gives 3 (proposing 1 D-GET) (proposal 1 1 1 D-GET by (init 3 1 ∷ [])) (proposal 1 2 1 D-GET by (init 2 1 ∷ []) ∷ []) 0
+    (writes sent kind-V 1 D-GET 1 (proposal 1 1 1 D-GET ∷ proposal 1 2 1 D-GET ∷ init 3 1 ∷ []) none)
+    -- a vote of round 1 without its INITs, with one fewer, or with those of the other value: 6
+    ∷ gives 4 (voting 1) (vote 1 1 none by mixed) (vote 1 2 1 by all-of 1 ∷ []) 0 (answers no-certificate)
+    ∷ gives 4 (voting 1) (vote 1 1 none by mixed) (vote 1 2 1 by (all-of 1 ++ init 1 1 ∷ []) ∷ []) 0 (answers no-certificate)
+    ∷ gives 4 (voting 1) (vote 1 1 none by mixed) (vote 1 2 1 by (all-of 1 ++ inits-of 1 2 0) ∷ []) 0 (answers no-certificate)
+    ∷ []
+
+pub inits-carried-hold : (mac : List ℕ → List ℕ → List ℕ) (key : List ℕ) → All (Holds mac key) inits-carried
+unfolding pick backing seen first-failed rule wanted some in-order holds d-get-group first-group second-group has-second early-toss rest-holds spread groups-hold every insert number-of first-value those vote-value decided carried follows ended taken conflict step step-of above
+inits-carried-hold mac key = (refl, (refl, (refl, (refl, (refl, (refl, (refl, (refl, (refl, tt)))))))))

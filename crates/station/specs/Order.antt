@@ -9,7 +9,7 @@ use Rattle.format.specs.Numbers.{D-GET, R-GET, too-early, too-late, already-hel
 use Rattle.format.specs.Group.{backing}
 use Rattle.format.specs.Words.{step-of}
 use Rattle.format.specs.Statement.{step}
-use Rattle.rules.specs.Rules.{rule, wanted, some, in-order, holds, first-group, second-group, has-second, early-toss, rest-holds, spread, groups-hold}
+use Rattle.rules.specs.Rules.{rule, wanted, some, in-order, holds, d-get-group, first-group, second-group, has-second, early-toss, rest-holds, spread, groups-hold}
 use Rattle.modules.specs.declared.Module.{Module}
 use Rattle.station.specs.declared.Stage.the-variants.{Gathering}
 use Rattle.station.specs.declared.Station.{Station}
@@ -44,5 +44,5 @@ ordered =
     ∷ []
 
 pub ordered-hold : (mac : List ℕ → List ℕ → List ℕ) (key : List ℕ) → All (Holds mac key) ordered
-unfolding pick backing seen first-failed rule wanted some in-order holds first-group second-group has-second early-toss rest-holds spread groups-hold insert taken conflict step step-of
+unfolding pick backing seen first-failed rule wanted some in-order holds d-get-group first-group second-group has-second early-toss rest-holds spread groups-hold insert taken conflict step step-of
 ordered-hold mac key = (refl, (refl, (refl, (refl, tt))))

@@ -13,14 +13,14 @@ use borrow.Author.Tests.{eq-eqb}
 use Rattle.laws.specs.Pick.{pick}
 use Rattle.laws.specs.Bools.{never, join}
 use Rattle.laws.specs.All.{All, all-map, all-append}
-use Rattle.format.specs.Numbers.{kind-INIT, kind-P, none, D-GET, R-GET, bundle-words, most-statements, last-round, code-words, most-stations}
+use Rattle.format.specs.Numbers.{kind-INIT, kind-P, kind-V, none, D-GET, R-GET, bundle-words, most-statements, last-round, code-words, most-stations}
 use Rattle.format.specs.Group.{quorum, backing}
 use Rattle.format.specs.Statement.{Statement, statements, covered, same-words, verifies, statement-code}
 use Rattle.hmac.specs.Code.{hmac-code, hmac-eight}
 use Rattle.format.specs.Bundle.{main-of, certificate-of, all-written, bundle-of, over}
 use Rattle.format.specs.Laws.Shape.{init}
 use Rattle.rules.specs.declared.Which.the-variants.{Any}
-use Rattle.rules.specs.Rules.{Backed, rule-1, rule-2, rule-3, rule-4, rule-5, rule-6, rule-7, some-D-GET}
+use Rattle.rules.specs.Rules.{Backed, rule-1, rule-2, rule-3, rule-4, rule-5, rule-6, rule-7, some-D-GET, has-second}
 use Rattle.certificate.specs.Check.{check-by, judged, checked}
 use Rattle.certificate.specs.Valid.{Valid}
 use Rattle.certificate.specs.Exact.{valid-found}
@@ -89,13 +89,12 @@ module _ (P : Statement → Type 0) (n : ℕ) (k : State) (coin : ℕ) (h : All 
   next-all Gathering =
       let v = first-value (k .held) in
       (all-take P (backing n v) (those (has-value v) (k .held)) (all-map (λ x p. p .0) (those (has-value v) (k .held)) (those-all P (has-value v) (k .held) h)), tt)
-  next-all (Proposing r x) = (h, go (ltb 1 (r .0)) (ltb (vote-value (k .held)) none) (some-D-GET (k .held)))
+  next-all (Proposing r x) = (h, go (has-second kind-V (vote-value (k .held)) (r .0) (some-D-GET (k .held))) (ltb (vote-value (k .held)) none))
     where
-      go : (a b c : Bool) → All P (pick a (pick b (pick c (k .for-value) []) (k .for-none)) [])
-      go true true true = f
-      go true true false = tt
-      go true false c = s
-      go false b c = tt
+      go : (a b : Bool) → All P (pick a (pick b (k .for-value) (k .for-none)) [])
+      go true true = f
+      go true false = s
+      go false b = tt
   next-all (Voting r) = go (ltb (carried (k .held)) none)
     where
       go : (a : Bool) → All P (pick {A = Next} a
@@ -113,7 +112,7 @@ backed-given n m c (rule-1 k) r p = absurd (omega arith)
 backed-given n m c (rule-2 k a f h) r p = f
 backed-given n m c (rule-3 k a f h) r p = f
 backed-given n m c (rule-4 k a f h) r p = absurd (omega arith)
-backed-given n m _ (rule-5 k v h s o) r p = absurd (omega arith)
+backed-given n m _ (rule-5 k v h i s o) r p = absurd (omega arith)
 backed-given n m c (rule-6 k v a h b) r p = absurd (omega arith)
 backed-given n m _ (rule-7 k v a h b s) r p = absurd (omega arith)
 

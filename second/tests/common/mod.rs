@@ -17,6 +17,10 @@ pub fn ps(stations: &[u32], round: u32, value: u32, flag: Flag) -> Vec<Statement
     stations.iter().map(|s| p(*s, round, value, flag)).collect()
 }
 
+pub fn inits(stations: &[u32], value: u32) -> Vec<Statement> {
+    stations.iter().map(|s| init(*s, value)).collect()
+}
+
 pub fn nones(stations: &[u32], round: u32) -> Vec<Statement> {
     stations.iter().map(|s| v(*s, round, NONE)).collect()
 }

@@ -80,33 +80,41 @@ covered-there n ws at room f =
     covered-read n ws at (low-word n ws at (formed-well n ws at f)) f ∙ sym (ap (λ (z : ℕ). take z (drop at ws)) (sym (gap at)) ∙ two-words ws at room)
 
 module _ (mac : List ℕ → List ℕ → List ℕ) (key : List ℕ) (n : ℕ) (l : List Entry) (ws : List ℕ) (came : CodesCame mac key n l ws) where
-  one-came : (k : ℕ) → place-of k + statement-words ≤ length ws → formed n (fields-of (getD ws (place-of k) 0)) ≡ true → well-formed n (statement ws (place-of k)) ≡ true
-      → verifies (mac key) (statement ws (place-of k)) ≡ true → Coded n (reads l) (statement ws (place-of k))
+  -- the code of the statement at a place came from the module of its station
+  one-logged : (k : ℕ) → place-of k + statement-words ≤ length ws → formed n (fields-of (getD ws (place-of k) 0)) ≡ true → well-formed n (statement ws (place-of k)) ≡ true
+      → verifies (mac key) (statement ws (place-of k)) ≡ true
+      → logged l (station-of (getD ws (place-of k) 0)) (getD ws (place-of k) 0 ∷ getD ws (place-of k + 1) 0 ∷ []) ≡ true
   unfolding verifies
-  one-came k room f w v =
-      let at : ℕ = 1 + k * 10 in
+  one-logged k room f w v =
       let c : covered (statement ws (1 + k * 10)) ≡ getD ws (1 + k * 10) 0 ∷ getD ws (1 + k * 10 + 1) 0 ∷ [] = covered-read n ws (1 + k * 10) (low-word n ws (1 + k * 10) w) f in
       let two : covered-at ws (1 + k * 10) ≡ getD ws (1 + k * 10) 0 ∷ getD ws (1 + k * 10 + 1) 0 ∷ [] = ap (λ (z : ℕ). take z (drop (1 + k * 10) ws)) (sym (gap (1 + k * 10))) ∙ two-words ws (1 + k * 10) (omega arith) in
+      rw two at (came k room (rw (two, ← c) v))
+
+  -- what holds of each well-formed statement whose code came holds of all in a row
+  module _ (P : Statement → Type 0) (one : (k : ℕ) → well-formed n (statement ws (place-of k)) ≡ true
+      → logged l (station-of (getD ws (place-of k) 0)) (getD ws (place-of k) 0 ∷ getD ws (place-of k + 1) 0 ∷ []) ≡ true → P (statement ws (place-of k))) where
+    pub each-came : (k j : ℕ) → place-of (j + k) ≤ length ws → all-formed n ws (place-of j) k ≡ true → All (λ s. well-formed n s ≡ true) (statements ws (place-of j) k)
+        → All (λ s. verifies (mac key) s ≡ true) (statements ws (place-of j) k) → All P (statements ws (place-of j) k)
+    unfolding statements all-formed
+    each-came zero j room f w v = tt
+    each-came (suc k) j room f w v =
+        let a = both (formed n (fields-of (getD ws (1 + j * 10) 0))) _ f in
+        let e : 1 + j * 10 + 10 ≡ 1 + suc j * 10 = omega arith in (
+          one j (w .0) (one-logged j (omega arith) (a .0) (w .0) (v .0)),
+          subst (λ (z : ℕ). All P (statements ws z k)) (sym e)
+              (each-came k (suc j) (omega arith) (subst (λ (z : ℕ). all-formed n ws z k ≡ true) e (a .1)) (subst (λ (z : ℕ). All (λ s. well-formed n s ≡ true) (statements ws z k)) e (w .1))
+              (subst (λ (z : ℕ). All (λ s. verifies (mac key) s ≡ true) (statements ws z k)) e (v .1))),
+        )
+
+  one-came : (k : ℕ) → well-formed n (statement ws (place-of k)) ≡ true
+      → logged l (station-of (getD ws (place-of k) 0)) (getD ws (place-of k) 0 ∷ getD ws (place-of k + 1) 0 ∷ []) ≡ true → Coded n (reads l) (statement ws (place-of k))
+  one-came k w h =
       let r = formed-out n (statement ws (1 + k * 10)) w in
-      record {
-        mem = in-reads l (station-of (getD ws (1 + k * 10) 0)) (getD ws (1 + k * 10) 0) (getD ws (1 + k * 10 + 1) 0)
-            (rw two at (came k room (rw (two, ← c) v)));
-        low = r .low;
-        high = r .high;
-      }
+      record { mem = in-reads l (station-of (getD ws (1 + k * 10) 0)) (getD ws (1 + k * 10) 0) (getD ws (1 + k * 10 + 1) 0) h; low = r .low; high = r .high }
 
   pub all-came : (k j : ℕ) → place-of (j + k) ≤ length ws → all-formed n ws (place-of j) k ≡ true → All (λ s. well-formed n s ≡ true) (statements ws (place-of j) k)
       → All (λ s. verifies (mac key) s ≡ true) (statements ws (place-of j) k) → All (Coded n (reads l)) (statements ws (place-of j) k)
-  unfolding statements all-formed
-  all-came zero j room f w v = tt
-  all-came (suc k) j room f w v =
-      let a = both (formed n (fields-of (getD ws (1 + j * 10) 0))) _ f in
-      let e : 1 + j * 10 + 10 ≡ 1 + suc j * 10 = omega arith in (
-        one-came j (omega arith) (a .0) (w .0) (v .0),
-        subst (λ (z : ℕ). All (Coded n (reads l)) (statements ws z k)) (sym e)
-            (all-came k (suc j) (omega arith) (subst (λ (z : ℕ). all-formed n ws z k ≡ true) e (a .1)) (subst (λ (z : ℕ). All (λ s. well-formed n s ≡ true) (statements ws z k)) e (w .1))
-            (subst (λ (z : ℕ). All (λ s. verifies (mac key) s ≡ true) (statements ws z k)) e (v .1))),
-      )
+  all-came = each-came (Coded n (reads l)) one-came
 
 -- ---- a sound site's station: its words stand for a state of which all is known
 pub record Line (n : ℕ) (l : List Statement) (i : ℕ) (t : Station) (took : List Statement) : Type 0 where

@@ -93,7 +93,7 @@ module _ (n : ℕ) (l : List Statement) (m : Statement) where
         voted = λ x. absurd (omega arith);
         noned = λ x. absurd (omega arith);
       }
-  backed-just _ a q (rule-5 {c} {d} k v h s o) =
+  backed-just _ a q (rule-5 {c} {d} k v h i s o) =
       no-proposal k
       (λ b. group-supp n l (m .question) (quorum n) kind-P (m .round) (m .value) Any c (all-left (Coded n l) c d a) (all-left (λ s. s .question ≡ m .question) c d q) h)
       (λ b w. absurd (omega arith))

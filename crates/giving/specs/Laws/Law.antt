@@ -4,17 +4,18 @@ use mathlib.Core.Bool.{Bool, true, false}
 use mathlib.Core.List.{List, [], _∷_, _++_, append-nil}
 use mathlib.Core.Path.{_≡_, refl, sym, ap, _∙_, subst}
 use native.Mathlib.Omega.{arith}
-use lib.Dec.{ltb}
+use lib.Dec.{eqb, ltb}
 use lib.ListN.{length, take}
-use borrow.Author.Tests.{ltb-true, lt-ltb, eqb-false}
+use borrow.Author.Tests.{ltb-true, ne-eqb, eqb-false}
 use Rattle.laws.specs.Pick.{pick}
-use Rattle.laws.specs.Bools.{never, join}
+use Rattle.laws.specs.Bools.{never, right}
 use Rattle.laws.specs.All.{All}
 use Rattle.format.specs.Numbers.{none, bundle-words, kind-P, kind-V, D-GET, R-GET, last-round, most-statements, most-stations, output-words}
 use Rattle.format.specs.Group.{quorum, backing}
 use Rattle.format.specs.declared.Fields.{Fields}
 use Rattle.format.specs.Statement.{Statement, step}
-use Rattle.rules.specs.Rules.{some-D-GET}
+use Rattle.rules.specs.Rules.{some-D-GET, has-second, d-get-group}
+use Rattle.rules.specs.Backed.{d-get-size, d-get-most, two-out, two-later}
 use Rattle.certificate.specs.Check.{every}
 use Rattle.modules.specs.declared.Module.{Module}
 use Rattle.modules.specs.Counter.{above, last-for, advanced, module-fits}
@@ -22,20 +23,20 @@ use Rattle.station.specs.declared.Groups.{Groups}
 use Rattle.station.specs.declared.Stage.{Stage}
 use Rattle.station.specs.declared.Stage.the-variants.{Gathering, Proposing, Voting}
 use Rattle.station.specs.declared.Station.{Station}
-use Rattle.station.specs.Machine.{State, Next, next, proposing, voting, began, supplies-for-value, supplies-for-none, has-value, those, first-value, vote-value, carried, follows, closes}
+use Rattle.station.specs.Machine.{State, Next, next, proposing, voting, began, has-value, those, first-value, vote-value, carried, follows, closes}
 use Rattle.station.specs.Calls.{Returned}
 use Rattle.station.specs.Words.{sites, set-of, slots-of, group-words, held-in}
 use Rattle.format.specs.Bundle.{bundle-of, over, all-written}
 use Rattle.station.specs.Words as W
 use Rattle.format.specs.Laws.ReadBack.{Proper}
 use Rattle.station.specs.Laws.Slots.{held-back}
-use Rattle.station.specs.Laws.Sane.{InRounds}
+use Rattle.station.specs.Laws.Sane.{InRounds, Kept}
 use Rattle.station.specs.Laws.End.{Full, Ready, kept-equal, kept-none, both-values}
 use Rattle.writer.specs.Laws.Bundle.{Certificate, all-held, some-held, kept-alone}
 use Rattle.laws.specs.Below.{Below}
 use Rattle.sending.specs.Sent.{sent-count, sent-lent, sent-bundle, sent-station, sent-after}
 use Rattle.sending.specs.Sends.{own-fields, own-statement, lent-is, count-is, station-is, after-is}
-use Rattle.ending.specs.declared.Kept.the-variants.{Nothing, ForValue, ForNone}
+use Rattle.ending.specs.declared.Kept.the-variants.{Nothing, Inits, ForValue, ForNone}
 use Rattle.ending.specs.declared.Following.{Following}
 use Rattle.held.specs.Scan.{lowest}
 use Rattle.held.specs.Laws.Held.{scan-value}
@@ -86,7 +87,7 @@ module _ (n : ℕ) (K : State) (top : n ≤ most-stations) (F : Full n K) where
     pub more : List Statement
     pub made : Certificate n held more slots (group-by (X .kept) groups)
     pub set : X .set ≡ set-of held
-    pub size : count-by (X .kept) (quorum n) ≡ length more
+    pub size : count-by (X .kept) n (X .value) ≡ length more
     pub same : held ++ more ≡ x .first ++ x .second
 
   back : held-in (set-of (K .held)) slots 0 sites ≡ K .held
@@ -142,22 +143,33 @@ module _ (n : ℕ) (K : State) (top : n ≤ most-stations) (F : Full n K) where
   from-proposals : (r : ℕ) (f : ℕ) → K .stage ≡ Proposing (record { 0 = r }) f → (coin : ℕ)
       → Chosen (next-by n (Proposing (record { 0 = r }) f) (set-of (K .held)) slots coin) (follows n (Proposing (record { 0 = r }) f) K coin)
   unfolding next-by proposals-next follows second-group group-by count-by pick
-  from-proposals r f e coin = rw back (choose (ltb 1 r) refl (ltb (vote-value (K .held)) none) refl (some-D-GET (K .held)) refl)
+  from-proposals r f e coin = rw back (choose (has-second kind-V v r (some-D-GET (K .held))) refl (ltb v none) refl (eqb r 1) refl)
     where
-      with-group : (c : List Statement) → All (Proper n) c → length c ≡ quorum n → Certificate n (K .held) c slots (group-words c)
+      v : ℕ
+      v = vote-value (K .held)
+
+      with-group : (c : List Statement) → All (Proper n) c → length c ≤ quorum n → Certificate n (K .held) c slots (group-words c)
       with-group c p q = all-held n (K .held) top (F .rising) (F .proper) c p (omega arith) (omega (arith, F .size))
 
-      choose : (a : Bool) → ltb 1 r ≡ a → (b : Bool) → ltb (vote-value (K .held)) none ≡ b → (c : Bool) → some-D-GET (K .held) ≡ c
-          → Chosen (following kind-V (vote-value (K .held)) D-GET r (set-of (K .held)) (pick a (pick b (pick c ForValue Nothing) ForNone) Nothing) (voting r))
-          (next kind-V (vote-value (K .held)) D-GET r (K .held) (pick a (pick b (pick c (K .for-value) []) (K .for-none)) []) (voting r))
+      for-value : has-second kind-V v r (some-D-GET (K .held)) ≡ true → ltb v none ≡ true → Kept n (K .question) (d-get-group n v r) (K .for-value)
+      for-value x y = kept-equal n K F r f e v (vote-every y) (two-out kind-V v r (some-D-GET (K .held)) (ltb-true v none y) x)
+
+      sized : (c : Bool) → eqb r 1 ≡ c → length (K .for-value) ≡ d-get-group n v r .size → pick c (backing n v) (quorum n) ≡ length (K .for-value)
+      sized c z h = ap (λ (b : Bool). pick b (backing n v) (quorum n)) (sym z) ∙ sym (d-get-size n v r) ∙ sym h
+
+      choose : (a : Bool) → has-second kind-V v r (some-D-GET (K .held)) ≡ a → (b : Bool) → ltb v none ≡ b → (c : Bool) → eqb r 1 ≡ c
+          → Chosen (following kind-V v D-GET r (set-of (K .held)) (pick a (pick b (pick c Inits ForValue) ForNone) Nothing) (voting r))
+          (next kind-V v D-GET r (K .held) (pick a (pick b (K .for-value) (K .for-none)) []) (voting r))
       choose true x true y true z =
-          let g = kept-equal n K F r f e (vote-value (K .held)) (vote-every y) (ltb-true 1 r x) z in
-          record { held = K .held; more = K .for-value; made = with-group (K .for-value) (g .proper) (g .as-asked .size); set = refl; size = sym (g .as-asked .size); same = refl }
-      choose true x true y false z = record { held = K .held; more = []; made = any-group n (K .held) slots (group-words []) alone (group-words (K .for-value)); set = refl; size = refl; same = refl }
+          let g = for-value x y in
+          record { held = K .held; more = K .for-value; made = with-group (K .for-value) (g .proper) (omega (arith, g .as-asked .size, d-get-most n v r)); set = refl; size = sized true z (g .as-asked .size); same = refl }
+      choose true x true y false z =
+          let g = for-value x y in
+          record { held = K .held; more = K .for-value; made = with-group (K .for-value) (g .proper) (omega (arith, g .as-asked .size, d-get-most n v r)); set = refl; size = sized false z (g .as-asked .size); same = refl }
       choose true x false y c z =
-          let v = both-values n K F r f e (vote-none y) in
-          let g = kept-none n K F r f e (ltb-true 1 r x) (v .0) (v .1) in
-          record { held = K .held; more = K .for-none; made = with-group (K .for-none) (g .proper) (g .as-asked .size); set = refl; size = sym (g .as-asked .size); same = refl }
+          let w = both-values n K F r f e (vote-none y) in
+          let g = kept-none n K F r f e (two-later kind-V v r (some-D-GET (K .held)) (vote-none y) x) (w .0) (w .1) in
+          record { held = K .held; more = K .for-none; made = with-group (K .for-none) (g .proper) (omega (arith, g .as-asked .size)); set = refl; size = sym (g .as-asked .size); same = refl }
       choose false x b y c z = record { held = K .held; more = []; made = any-group n (K .held) slots (group-words []) alone (group-words (K .for-value)); set = refl; size = refl; same = refl }
 
   -- a proposal: the kept group of a vote for its value, or all none votes
@@ -174,13 +186,14 @@ module _ (n : ℕ) (K : State) (top : n ≤ most-stations) (F : Full n K) where
           (pick b (next kind-P (carried (K .held)) D-GET (r + 1) (K .for-value) [] (proposing (r + 1) D-GET)) (next kind-P coin R-GET (r + 1) (K .held) [] (proposing (r + 1) R-GET)))
       choose true R =
           let s : Statement = record { kind = kind-P; value = carried (K .held); flag = D-GET; station = 1; round = r + 1; question = K .question; code = [] } in
-          let h = R .for-value s refl refl (join (ltb 1 (r + 1)) _ (lt-ltb 1 (r + 1) (omega arith)) refl) in
+          let h = R .for-value s refl refl (right (eqb (r + 1) 1) true refl) in
+          let z : length (K .for-value) ≡ quorum n = h .size ∙ d-get-size n (carried (K .held)) (r + 1) ∙ ap (λ (b : Bool). pick b (backing n (carried (K .held))) (quorum n)) (ne-eqb (r + 1) 1 (λ e. omega arith)) in
           record {
             held = [];
             more = K .for-value;
-            made = kept-alone n (K .held) top (F .rising) (F .proper) (K .for-value) (R .proper) (omega (arith, h .size)) slots;
+            made = kept-alone n (K .held) top (F .rising) (F .proper) (K .for-value) (R .proper) (omega (arith, z)) slots;
             set = refl;
-            size = sym (h .size);
+            size = sym z;
             same = sym (append-nil (K .for-value));
           }
       choose false R = record { held = K .held; more = []; made = any-group n (K .held) slots (group-words []) alone (group-words (K .for-value)); set = refl; size = refl; same = refl }
@@ -217,25 +230,24 @@ module _ (m : Module) (K : State) (top : m .n ≤ most-stations) (F : Full (m .n
         lent = over (bundle-of s (x .first ++ x .second)) out;
       }
 
-  pub sending-is : Below (sending-words m k X f d out .lent) → (supplies-for-value (x .stage) s ≡ true → length (x .first) ≡ quorum (m .n))
-      → (supplies-for-none (x .stage) s ≡ true → length (x .first) ≡ quorum (m .n)) → sending-words m k X f d out ≡ by-definition
+  pub sending-is : Below (sending-words m k X f d out .lent) → take (quorum (m .n)) (x .first ++ x .second) ≡ x .first → sending-words m k X f d out ≡ by-definition
   unfolding sending-words W.as-station
-  sending-is low one two =
+  sending-is low front =
       let sl : List ℕ = slots-of (K .held) 1 sites in
       let gr : List ℕ = group-by (X .kept) (k .groups) in
       let q : ℕ = K .question in
-      let lent0 : sent-lent m (K .question) f (slots-of (K .held) 1 sites) (X .set) (group-by (X .kept) (k .groups)) (count-by (X .kept) (quorum (m .n))) out
+      let lent0 : sent-lent m (K .question) f (slots-of (K .held) 1 sites) (X .set) (group-by (X .kept) (k .groups)) (count-by (X .kept) (m .n) (X .value)) out
       ≡ sent-lent m (K .question) (own-fields m (x .kind) (x .value) (x .flag) (x .round)) (slots-of (K .held) 1 sites) (set-of (C .held)) (group-by (X .kept) (k .groups)) (length (C .more)) out
       = λ i. sent-lent m (K .question) (own-fields m (ek i) (ev i) (ef i) (er i)) (slots-of (K .held) 1 sites) (C .set i) (group-by (X .kept) (k .groups)) (C .size i) out in
-      let count1 : sent-count (X .set) (count-by (X .kept) (quorum (m .n))) out ≡ bundle-words (length (x .first ++ x .second))
+      let count1 : sent-count (X .set) (count-by (X .kept) (m .n) (X .value)) out ≡ bundle-words (length (x .first ++ x .second))
       = (λ i. sent-count (C .set i) (C .size i) out)
       ∙ count-is m (K .question) (x .kind) (x .value) (x .flag) (x .round) (x .stage) d (C .held) (C .more) (slots-of (K .held) 1 sites) (group-by (X .kept) (k .groups)) (C .made) (x .first) (x .second) (C .same) out room p fit later in
-      let station1 : sent-station m (K .question) (X .stage) d (sent-bundle m (K .question) f (slots-of (K .held) 1 sites) (X .set) (group-by (X .kept) (k .groups)) (count-by (X .kept) (quorum (m .n))) out)
+      let station1 : sent-station m (K .question) (X .stage) d (sent-bundle m (K .question) f (slots-of (K .held) 1 sites) (X .set) (group-by (X .kept) (k .groups)) (count-by (X .kept) (m .n) (X .value)) out)
       ≡ W.as-station (m .n) (m .station) (began (K .question) (x .stage) d s (x .first))
       = (λ i. sent-station m (K .question) (es i) d (sent-bundle m (K .question) (own-fields m (ek i) (ev i) (ef i) (er i)) (slots-of (K .held) 1 sites) (C .set i) (group-by (X .kept) (k .groups)) (C .size i) out))
       ∙ station-is m (K .question) (x .kind) (x .value) (x .flag) (x .round) (x .stage) d (C .held) (C .more) (slots-of (K .held) 1 sites) (group-by (X .kept) (k .groups)) (C .made) (x .first) (x .second) (C .same) out room p fit later
-      (subst Below lent0 low) one two in
-      let after1 : sent-after m (K .question) f (slots-of (K .held) 1 sites) (X .set) (group-by (X .kept) (k .groups)) (count-by (X .kept) (quorum (m .n))) out
+      (subst Below lent0 low) front in
+      let after1 : sent-after m (K .question) f (slots-of (K .held) 1 sites) (X .set) (group-by (X .kept) (k .groups)) (count-by (X .kept) (m .n) (X .value)) out
       ≡ advanced m (K .question) (step s)
       = (λ i. sent-after m (K .question) (own-fields m (ek i) (ev i) (ef i) (er i)) (slots-of (K .held) 1 sites) (C .set i) (group-by (X .kept) (k .groups)) (C .size i) out)
       ∙ after-is m (K .question) (x .kind) (x .value) (x .flag) (x .round) (x .stage) d (C .held) (C .more) (slots-of (K .held) 1 sites) (group-by (X .kept) (k .groups)) (C .made) (x .first) (x .second) (C .same) out room p fit later in

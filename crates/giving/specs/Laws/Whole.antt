@@ -23,7 +23,7 @@ use Rattle.modules.specs.Counter.{above, last-for}
 use Rattle.station.specs.declared.Stage.{Stage}
 use Rattle.station.specs.declared.Stage.the-variants.{Gathering, Proposing, Voting}
 use Rattle.station.specs.declared.Station.{Station}
-use Rattle.station.specs.Machine.{State, Next, supplies-for-value, Outcome, refused, keeps, sends, began, moved, shut, ended, taken, follows, closes, decision-at, round-in, value-group}
+use Rattle.station.specs.Machine.{State, Next, Outcome, refused, keeps, sends, began, moved, shut, ended, taken, follows, closes, decision-at, round-in}
 use Rattle.station.specs.Words.{sites, set-of, slot-of, slots-of, held-in, held-by, state-of, Lengths}
 use Rattle.station.specs.Words as W
 use Rattle.station.specs.Calls.{Returned, returned, give-tests, giving}
@@ -57,12 +57,6 @@ in-range-of : (g : Stage) → InRounds g → round-in g ≤ last-round
 in-range-of Gathering i = omega arith
 in-range-of (Proposing r f) i = i .1
 in-range-of (Voting r) i = i .1
-
--- a group for a value that is supplied has q statements
-for-value-full : (n : ℕ) (g : Stage) (v : ℕ) (s : Statement) → supplies-for-value g s ≡ true → value-group n g v .size ≡ quorum n
-for-value-full n Gathering v s h = never false refl h
-for-value-full n (Proposing r f) v s h = refl
-for-value-full n (Voting r) v s h = refl
 
 module _ (m : Module) (t : Station) (ws : List ℕ) (coin : ℕ) (out : List ℕ) (L : Lengths t) (A : Accepted hmac-code m t ws coin out) where
   abbrev K : State
@@ -124,8 +118,7 @@ module _ (m : Module) (t : Station) (ws : List ℕ) (coin : ℕ) (out : List ℕ
           skip _ _ _ _ (not-12 (ltb (t .decision) none || eqb d none))
           (sym (sending-is m K (A .range .at-most-31) F d out (A .room) X x ek (ap (λ (y : Next). y .value) e) (ap (λ (y : Next). y .flag) e) er (ap (λ (y : Next). y .stage) e)
           (chosen (m .n) K (A .range .at-most-31) F (t .stage) refl goes coin R) (sent-proper hmac-code hmac-eight m t ws coin out L A size goes)
-          (range-fits m (A .range)) (ap (above (last-for m q) q) (sym (λ i. step-of (ek i) (er i))) ∙ later) low
-          (λ h. R .for-value s refl refl h .size ∙ for-value-full (m .n) (x .stage) (x .value) s h) (λ h. R .for-none s refl refl h .size)))
+          (range-fits m (A .range)) (ap (above (last-for m q) q) (sym (λ i. step-of (ek i) (er i))) ∙ later) low (R .front)))
       go false later low = refl
 
   -- the step has ended

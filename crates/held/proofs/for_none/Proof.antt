@@ -12,8 +12,8 @@ enum-told c = search needs
 enum-known-stage : tie.Need-enum-known-stage
 enum-known-stage c = search needs
 
-flagged-requires : tie.Need-flagged-requires
-flagged-requires c κs = search needs
+later-r-get-requires : tie.Need-later-r-get-requires
+later-r-get-requires c κs = search needs
 
 enum-told-2 : tie.Need-enum-told-2
 enum-told-2 c = search needs
@@ -24,7 +24,7 @@ returns c =
     rw (c .enum-told .given .1) (scan-nothing (a .set) (a .slots .now) (λ s. false) (λ s. refl))
 
 returns-2 : tie.Need-returns-2
-returns-2 c = rw (c .flagged .ensures, c .before .before .stage .given .1)
+returns-2 c = rw (c .later-r-get .ensures, c .before .before .stage .given .1)
 
 returns-3 : tie.Need-returns-3
 returns-3 c =
@@ -34,4 +34,4 @@ returns-3 c =
 pub for-none-spec : {M : Type 1} → statement M
 for-none-spec =
     tie.close
-    (tie.spec enum-told enum-known-stage flagged-requires enum-told-2 returns returns-2 returns-3)
+    (tie.spec enum-told enum-known-stage later-r-get-requires enum-told-2 returns returns-2 returns-3)

@@ -15,8 +15,8 @@ enum-told c = search needs
 enum-known-stage : tie.Need-enum-known-stage
 enum-known-stage c = search needs
 
-flagged-requires : tie.Need-flagged-requires
-flagged-requires c κs = search needs
+first-or-d-get-requires : tie.Need-first-or-d-get-requires
+first-or-d-get-requires c κs = search needs
 
 enum-told-2 : tie.Need-enum-told-2
 enum-told-2 c = search needs
@@ -40,7 +40,7 @@ returns c =
     rw (c .enum-told .given .1) (scan-nothing (a .set) (a .slots .now) (λ s. false) (λ s. refl))
 
 returns-2 : tie.Need-returns-2
-returns-2 c = rw (c .flagged .ensures, c .before .before .stage .given .1)
+returns-2 c = rw (c .first-or-d-get .ensures, c .before .before .stage .given .1)
 
 returns-3 : tie.Need-returns-3
 returns-3 c =
@@ -53,7 +53,7 @@ for-value-spec =
     (tie.spec
     enum-told
     enum-known-stage
-    flagged-requires
+    first-or-d-get-requires
     enum-told-2
     scan-requires
     scan-requires-2

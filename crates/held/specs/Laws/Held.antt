@@ -1,6 +1,6 @@
 -- The statements that a scan finds are those of the held ones that its test takes: whether there is one, how many, whether all, and the value of the first.
 use Prim.Native.Nat.{ℕ, zero, suc, _+_, _*_, _/_, _%_, _^_, _≤_, _<_}
-use mathlib.Core.Bool.{Bool, true, false, _&&_}
+use mathlib.Core.Bool.{Bool, true, false, _&&_, _||_}
 use mathlib.Core.List.{List, _∷_}
 use mathlib.Core.Path.{_≡_, refl, sym, ap, _∙_}
 use native.Mathlib.Nat.{div-one, zero-add}
@@ -12,7 +12,7 @@ use borrow.Author.Tests.{eqb-true, eqb-false, eq-eqb, ne-eqb, lt-ltb, le-ltb, lt
 use Rattle.laws.specs.Pick.{pick}
 use Rattle.laws.specs.Count.{one-if}
 use Rattle.laws.specs.Sets.{bit}
-use Rattle.format.specs.Numbers.{statement-words}
+use Rattle.format.specs.Numbers.{statement-words, D-GET, R-GET}
 use Rattle.format.specs.declared.Fields.{Fields}
 use Rattle.format.specs.Words.{fields-of}
 use Rattle.format.specs.Statement.{Statement, statement}
@@ -165,12 +165,19 @@ module _ (set : ℕ) (slots : List ℕ) where
       go true c e = e
       go false c e = refl
 
-  -- the proposals with a flag, where they are of a round over 1
-  pub scan-flagged : (r flag : ℕ) → 1 < r → scan (such Any (Only flag)) set slots ≡ scan (λ s. ltb 1 r && eqb (s .flag) flag) set slots
-  scan-flagged r flag l = rw (lt-ltb 1 r l)
+  -- the D-GET proposals, and in round 1 all
+  pub scan-first-round : (r : ℕ) → r ≡ 1 → scan (such Any Any) set slots ≡ scan (λ s. eqb r 1 || eqb (s .flag) D-GET) set slots
+  scan-first-round r e = rw (eq-eqb r 1 e)
 
-  pub scan-early : (r flag : ℕ) → r ≤ 1 → 0 ≡ scan (λ s. ltb 1 r && eqb (s .flag) flag) set slots
-  scan-early r flag l = scan-nothing (λ s. ltb 1 r && eqb (s .flag) flag) (λ s. rw (le-ltb 1 r l))
+  pub scan-d-get : (r : ℕ) → (r ≡ 1 → ⊥) → scan (such Any (Only D-GET)) set slots ≡ scan (λ s. eqb r 1 || eqb (s .flag) D-GET) set slots
+  scan-d-get r e = rw (ne-eqb r 1 e)
+
+  -- the R-GET proposals, where they are of a round over 1
+  pub scan-r-get : (r : ℕ) → 1 < r → scan (such Any (Only R-GET)) set slots ≡ scan (λ s. ltb 1 r && eqb (s .flag) R-GET) set slots
+  scan-r-get r l = rw (lt-ltb 1 r l)
+
+  pub scan-early : (r : ℕ) → r ≤ 1 → 0 ≡ scan (λ s. ltb 1 r && eqb (s .flag) R-GET) set slots
+  scan-early r l = scan-nothing (λ s. ltb 1 r && eqb (s .flag) R-GET) (λ s. rw (le-ltb 1 r l))
 
   -- the votes for 0, and those for 1
   pub scan-values : scan (such (Only 0) Any) set slots + scan (such (Only 1) Any) set slots ≡ scan (λ s. ltb (s .value) 2) set slots

@@ -13,6 +13,9 @@ enum-told-2 c = search needs
 enum-told-3 : tie.Need-enum-told-3
 enum-told-3 c = search needs
 
+enum-told-4 : tie.Need-enum-told-4
+enum-told-4 c = search needs
+
 returns : tie.Need-returns
 unfolding group-by
 returns c = cc
@@ -25,5 +28,9 @@ returns-3 : tie.Need-returns-3
 unfolding group-by
 returns-3 c = cc
 
+returns-4 : tie.Need-returns-4
+unfolding group-by
+returns-4 c = cc
+
 pub group-by-spec : {M : Type 1} → statement M
-group-by-spec = tie.close (tie.spec enum-told enum-told-2 enum-told-3 returns returns-2 returns-3)
+group-by-spec = tie.close (tie.spec enum-told enum-told-2 enum-told-3 enum-told-4 returns returns-2 returns-3 returns-4)

@@ -7,9 +7,6 @@ use Rattle.moving.proofs.send_next.Tie as tie
 group-by-requires : tie.Need-group-by-requires
 group-by-requires c κs = search needs
 
-quorum-requires : tie.Need-quorum-requires
-quorum-requires c κs = search needs
-
 count-by-requires : tie.Need-count-by-requires
 count-by-requires c κs = search needs
 
@@ -22,17 +19,15 @@ same-length c = search needs
 returns : tie.Need-returns
 returns c =
     let n = c .before .before .before .before .before .before in
-    let q = n .before in
-    let g = q .before in
+    let g = n .before in
     let a = g .before .before .before .before .before .before .args in
-    next-sent (a .m) (a .k) (a .x) (a .d) (a .out .now) (a .f) _ _ _ _ _ _ _ (g .group-by .ensures) (q .quorum .ensures) (n .count-by .ensures) (c .before .before .send .ensures)
+    next-sent (a .m) (a .k) (a .x) (a .d) (a .out .now) (a .f) _ _ _ _ _ _ (g .group-by .ensures) (n .count-by .ensures) (c .before .before .send .ensures)
 
 pub send-next-spec : {M : Type 1} → statement M
 send-next-spec =
     tie.close
     (tie.spec
     group-by-requires
-    quorum-requires
     count-by-requires
     send-requires
     same-length

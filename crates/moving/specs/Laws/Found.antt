@@ -8,7 +8,6 @@ use Rattle.laws.specs.Pick.{here, skip}
 use Rattle.format.specs.declared.Fields.{Fields}
 use Rattle.format.specs.declared.Step.{Step}
 use Rattle.format.specs.Numbers.{not-above, kept}
-use Rattle.format.specs.Group.{quorum}
 use Rattle.format.specs.Words.{step-of, step-in}
 use Rattle.modules.specs.declared.Module.{Module}
 use Rattle.modules.specs.Counter.{above, last-for}
@@ -44,17 +43,15 @@ answers-same x y number count t after lent e a =
 
 module _ (m : Module) (k : Station) (x : Following) (d : ℕ) (out : List ℕ) where
   -- all that `send` promises, with the certificate that was chosen
-  pub next-sent : (f : Fields) (count : ℕ) (t : Station) (after : Module) (xs group : List ℕ) (z q : ℕ)
-      → group ≡ group-by (x .kept) (k .groups) → q ≡ quorum (m .n) → z ≡ count-by (x .kept) q
+  pub next-sent : (f : Fields) (count : ℕ) (t : Station) (after : Module) (xs group : List ℕ) (z : ℕ)
+      → group ≡ group-by (x .kept) (k .groups) → z ≡ count-by (x .kept) (m .n) (x .value)
       → (count ≡ sent-count (x .set) z out) × (t ≡ sent-station m (k .identity .question) (x .stage) d (sent-bundle m (k .identity .question) f (k .held .slots) (x .set) group z out))
       × (after ≡ sent-after m (k .identity .question) f (k .held .slots) (x .set) group z out) × (xs ≡ sent-lent m (k .identity .question) f (k .held .slots) (x .set) group z out)
-      → (count ≡ sent-count (x .set) (count-by (x .kept) (quorum (m .n))) out)
-      × (t ≡ sent-station m (k .identity .question) (x .stage) d (sent-bundle m (k .identity .question) f (k .held .slots) (x .set) (group-by (x .kept) (k .groups)) (count-by (x .kept) (quorum (m .n))) out))
-      × (after ≡ sent-after m (k .identity .question) f (k .held .slots) (x .set) (group-by (x .kept) (k .groups)) (count-by (x .kept) (quorum (m .n))) out)
-      × (xs ≡ sent-lent m (k .identity .question) f (k .held .slots) (x .set) (group-by (x .kept) (k .groups)) (count-by (x .kept) (quorum (m .n))) out)
-  next-sent f count t after xs group z q eg eq ez h =
-      let e : z ≡ count-by (x .kept) (quorum (m .n)) = ez ∙ ap (count-by (x .kept)) eq in
-      rw (eg, e) at h
+      → (count ≡ sent-count (x .set) (count-by (x .kept) (m .n) (x .value)) out)
+      × (t ≡ sent-station m (k .identity .question) (x .stage) d (sent-bundle m (k .identity .question) f (k .held .slots) (x .set) (group-by (x .kept) (k .groups)) (count-by (x .kept) (m .n) (x .value)) out))
+      × (after ≡ sent-after m (k .identity .question) f (k .held .slots) (x .set) (group-by (x .kept) (k .groups)) (count-by (x .kept) (m .n) (x .value)) out)
+      × (xs ≡ sent-lent m (k .identity .question) f (k .held .slots) (x .set) (group-by (x .kept) (k .groups)) (count-by (x .kept) (m .n) (x .value)) out)
+  next-sent f count t after xs group z eg ez h = rw (eg, ez) at h
 
   module _ (f : Fields) (st : Step) (v : Bool) (ef : f ≡ own-fields m (x .kind) (x .value) (x .flag) (x .round .0)) (et : st ≡ step-in f)
       (ev : v ≡ above (last-for m (k .identity .question)) (k .identity .question) (st .0)) where
@@ -67,10 +64,10 @@ module _ (m : Module) (k : Station) (x : Following) (d : ℕ) (out : List ℕ) w
     moved-12 h = answers-by (with-no-bundle not-above k m out) (moving m k x d out) (skip _ _ _ _ (sym tested ∙ not-true v h) refl)
 
     pub moved-sent : (number count : ℕ) (t : Station) (after : Module) (xs : List ℕ) → not v ≡ false → number ≡ answer (k .decision) d
-        → (count ≡ sent-count (x .set) (count-by (x .kept) (quorum (m .n))) out)
-        × (t ≡ sent-station m (k .identity .question) (x .stage) d (sent-bundle m (k .identity .question) f (k .held .slots) (x .set) (group-by (x .kept) (k .groups)) (count-by (x .kept) (quorum (m .n))) out))
-        × (after ≡ sent-after m (k .identity .question) f (k .held .slots) (x .set) (group-by (x .kept) (k .groups)) (count-by (x .kept) (quorum (m .n))) out)
-        × (xs ≡ sent-lent m (k .identity .question) f (k .held .slots) (x .set) (group-by (x .kept) (k .groups)) (count-by (x .kept) (quorum (m .n))) out)
+        → (count ≡ sent-count (x .set) (count-by (x .kept) (m .n) (x .value)) out)
+        × (t ≡ sent-station m (k .identity .question) (x .stage) d (sent-bundle m (k .identity .question) f (k .held .slots) (x .set) (group-by (x .kept) (k .groups)) (count-by (x .kept) (m .n) (x .value)) out))
+        × (after ≡ sent-after m (k .identity .question) f (k .held .slots) (x .set) (group-by (x .kept) (k .groups)) (count-by (x .kept) (m .n) (x .value)) out)
+        × (xs ≡ sent-lent m (k .identity .question) f (k .held .slots) (x .set) (group-by (x .kept) (k .groups)) (count-by (x .kept) (m .n) (x .value)) out)
         → Answers (moving m k x d out) number count t after xs
     unfolding moving sending-words
     moved-sent number count t after xs h en s =

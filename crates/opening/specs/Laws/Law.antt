@@ -4,11 +4,11 @@ use mathlib.Core.List.{List, []}
 use mathlib.Core.Path.{_≡_, refl, sym, ap, _∙_}
 use native.Mathlib.Omega.{arith}
 use lib.ListN.{length}
+use lib.Seq.{take-all}
 use borrow.Author.Tests.{le-leb, ltb-true}
-use mathlib.Core.Bool.{false}
-use Rattle.laws.specs.Bools.{never}
 use Rattle.format.specs.declared.Fields.{Fields}
 use Rattle.format.specs.Numbers.{kind-INIT, D-GET, sent, none, output-words, most-stations}
+use Rattle.format.specs.Group.{quorum}
 use Rattle.format.specs.Statement.{step}
 use Rattle.hmac.specs.Code.{hmac-code, hmac-eight}
 use Rattle.format.specs.Words.{step-of}
@@ -53,7 +53,7 @@ module _ (m : Module) (question proposal : ℕ) (out slots group : List ℕ) whe
         number-is = ap (λ (y : Returned). y .number) (sym r);
         count-is = s .0 ∙ count-is m question kind-INIT proposal D-GET 0 Gathering none [] [] slots group C [] [] refl out (P .room) p (P .fit) (P .later) ∙ ap (λ (y : Returned). y .count) (sym r);
         station-is = rw (← ef) (s .1)
-            ∙ station-is m question kind-INIT proposal D-GET 0 Gathering none [] [] slots group C [] [] refl out (P .room) p (P .fit) (P .later) lo (λ z. never false refl z) (λ z. never false refl z)
+            ∙ station-is m question kind-INIT proposal D-GET 0 Gathering none [] [] slots group C [] [] refl out (P .room) p (P .fit) (P .later) lo (take-all (quorum (m .n)) [] (omega arith))
             ∙ ap (λ (y : Returned). y .station) (sym r);
         after-is = rw (← ef) (s .2) ∙ after-is m question kind-INIT proposal D-GET 0 Gathering none [] [] slots group C [] [] refl out (P .room) p (P .fit) (P .later) ∙ ap (λ (y : Returned). y .after) (sym r);
         lent-is = x ∙ lent-is m question kind-INIT proposal D-GET 0 Gathering none [] [] slots group C [] [] refl out (P .room) p (P .fit) (P .later) ∙ ap (λ (y : Returned). y .lent) (sym r);

@@ -4,10 +4,11 @@ use mathlib.Core.Bool.{Bool, true, false}
 use mathlib.Core.List.{List, [], _∷_, _++_, append-nil}
 use mathlib.Core.Path.{_≡_, refl, sym, ap, _∙_, subst}
 use native.Mathlib.Omega.{arith}
-use lib.Dec.{ltb}
+use lib.Dec.{eqb, ltb}
 use lib.ListN.{length, getD, drop, length-append}
 use lib.Seq.{drop-at}
-use Rattle.laws.specs.Bools.{join}
+use borrow.Author.Tests.{eqb-true, eqb-false, ltb-true, ltb-false}
+use Rattle.laws.specs.Bools.{never, join}
 use Rattle.laws.specs.All.{All, all-map}
 use Rattle.format.specs.Numbers.{most-statements, bundle-words, least-stations, most-stations, place-of}
 use Rattle.format.specs.Group.{backing-most}
@@ -81,15 +82,16 @@ backed-few n m c top (rule-1 k) = omega arith
 backed-few n m c top (rule-2 k r f h) = omega (arith, h .size, backing-most n (m .value))
 backed-few n m c top (rule-3 k r f h) = omega (arith, h .size)
 backed-few n m c top (rule-4 k r f h) = omega (arith, h .size)
-backed-few n m _ top (rule-5 {c} {d} k v h s o) = go (ltb 1 (m .round)) refl (some-D-GET c) refl
+backed-few n m _ top (rule-5 {c} {d} k v h i s o) = go (eqb (m .round) 1) refl (ltb 1 (m .round)) refl (some-D-GET c) refl
   where
-    go : (x : Bool) → ltb 1 (m .round) ≡ x → (y : Bool) → some-D-GET c ≡ y → length (c ++ d) ≤ most-statements
-    go true p true q = omega (arith, length-append c d, h .size, s (borrow.Author.Tests.ltb-true 1 (m .round) p, q) .size)
-    go true p false q =
-        let z : d ≡ [] = o (λ w. Rattle.laws.specs.Bools.never (some-D-GET c) q (w .1)) in
+    go : (w : Bool) → eqb (m .round) 1 ≡ w → (x : Bool) → ltb 1 (m .round) ≡ x → (y : Bool) → some-D-GET c ≡ y → length (c ++ d) ≤ most-statements
+    go true e x p y q = omega (arith, length-append c d, h .size, i (eqb-true (m .round) 1 e) .size, backing-most n (m .value))
+    go false e true p true q = omega (arith, length-append c d, h .size, s (ltb-true 1 (m .round) p, q) .size)
+    go false e true p false q =
+        let z : d ≡ [] = o (eqb-false (m .round) 1 e) (λ w. never (some-D-GET c) q (w .1)) in
         omega (arith, length-append c d, h .size, ap length z)
-    go false p y q =
-        let z : d ≡ [] = o (λ w. omega (arith, borrow.Author.Tests.ltb-false 1 (m .round) p, w .0)) in
+    go false e false p y q =
+        let z : d ≡ [] = o (eqb-false (m .round) 1 e) (λ w. omega (arith, ltb-false 1 (m .round) p, w .0)) in
         omega (arith, length-append c d, h .size, ap length z)
 backed-few n m c top (rule-6 k v r h b) = omega (arith, h .size)
 backed-few n m _ top (rule-7 {c} {d} k v r h b s) = omega (arith, length-append c d, h .size, s .size)

@@ -2,22 +2,24 @@
 -- station keeps of it are those that its next step asks for.
 use Prim.Native.Nat.{ℕ, _+_, _-_, _≤_, _<_}
 use mathlib.Core.Bool.{Bool, true, false, _&&_}
+use mathlib.Core.Logic.{_⊎_, inl, inr}
 use mathlib.Core.List.{List, [], _∷_, _++_, append-nil}
 use mathlib.Core.Path.{_≡_, refl, sym, ap, _∙_, subst}
 use native.Mathlib.Omega.{arith}
 use lib.Dec.{eqb, ltb}
 use lib.ListN.{length, take}
-use lib.Seq.{length-take-le}
+use lib.Seq.{length-take-le, take-at, take-all}
 use borrow.Author.Tests.{eqb-true, eqb-false, eq-eqb, ltb-true, ltb-false, lt-ltb, le-ltb}
 use Rattle.laws.specs.Pick.{pick}
-use Rattle.laws.specs.Bools.{never, both, join}
+use Rattle.laws.specs.Bools.{never, both, join, either, left, right, is-false}
 use Rattle.laws.specs.All.{All, all-map, all-two}
 use Rattle.format.specs.Numbers.{kind-INIT, kind-P, kind-V, none, D-GET, R-GET, last-round}
-use Rattle.format.specs.Group.{quorum, backing}
+use Rattle.format.specs.Group.{quorum, backing, backing-most}
 use Rattle.format.specs.Statement.{Statement, step}
 use Rattle.format.specs.Laws.Shape.{Shape, init, proposal, vote, Formed, formed-out}
 use Rattle.rules.specs.declared.Which.the-variants.{Any, Only}
-use Rattle.rules.specs.Rules.{which, matches, Rising, Holds, some, some-D-GET, some-value, inits, proposals, none-votes, Backed, rule-2, rule-3, rule-4, rule-5, rule-6, rule-7}
+use Rattle.rules.specs.Rules.{which, matches, Rising, Holds, some, some-D-GET, some-value, inits, proposals, none-votes, d-get-group, has-second, NeedsSecond, Backed, rule-2, rule-3, rule-4, rule-5, rule-6, rule-7}
+use Rattle.rules.specs.Backed.{d-get-first, d-get-later, one-early, two-early, two-none, two-D, two-out}
 use Rattle.certificate.specs.Check.{every}
 use Rattle.certificate.specs.Exact.{every-out}
 use Rattle.station.specs.declared.Stage.{Stage}
@@ -28,7 +30,7 @@ use Rattle.station.specs.First.{first-bit, first-exact}
 use Rattle.station.specs.Laws.Sane.{Kept, InRounds, FlagOf, Sane}
 use Rattle.station.specs.Laws.Insert.{conflict-insert}
 use Rattle.station.specs.Laws.Keep.{Fitting, same-step, all-take, grown, kept-for-value-on, kept-for-none-on}
-use Rattle.station.specs.Laws.Pieces.{asked-for, those-length, those-all, those-rising, take-rising, some-other, none-some, some-weaker, leading-is}
+use Rattle.station.specs.Laws.Pieces.{asked-for, those-length, those-all, those-rising, take-rising, some-other, some-all, none-some, some-weaker, leading-is}
 
 -- q statements of the step, and the groups kept with them
 pub record Full (n : ℕ) (k : State) : Type 0 where
@@ -82,6 +84,7 @@ pub record Ready (n : ℕ) (question : ℕ) (x : Next) : Type 0 where
   pub alike : All (λ s. s .question ≡ question) (x .first)
   pub more-proper : All (Proper n) (x .second)
   pub more-alike : All (λ s. s .question ≡ question) (x .second)
+  pub front : take (quorum n) (x .first ++ x .second) ≡ x .first
   pub for-value : (s : Statement) → s .value ≡ x .value → s .flag ≡ x .flag → supplies-for-value (x .stage) s ≡ true → Holds (value-group n (x .stage) (x .value)) (x .first)
   pub for-none : (s : Statement) → s .value ≡ x .value → s .flag ≡ x .flag → supplies-for-none (x .stage) s ≡ true → Holds (none-votes n (round-in (x .stage) - 1)) (x .first)
 
@@ -122,6 +125,7 @@ module _ (n : ℕ) (k : State) (F : Full n k) where
         }
 
     pub inits-ready : Ready n (k .question) (after-inits n h)
+    unfolding d-get-group pick
     inits-ready =
         record {
           shape = λ s a b c d. proposal a (omega arith) (omega arith) (omega (arith, first-bit h)) (omega arith);
@@ -134,7 +138,8 @@ module _ (n : ℕ) (k : State) (F : Full n k) where
               (all-map (λ s p. p .0) (those (has-value proposed) h) (those-all (λ s. s .question ≡ k .question) (has-value proposed) h (all-map (λ s p. p .0) h (F .alike))));
           more-proper = tt;
           more-alike = tt;
-          for-value = λ s a b c. never false refl c;
+          front = ap (take (quorum n)) (append-nil (after-inits n h .first)) ∙ take-all (quorum n) (after-inits n h .first) (omega (arith, inits-hold .size, backing-most n proposed));
+          for-value = λ s a b c. inits-hold;
           for-none = λ s a b c. never false refl c;
         }
 
@@ -193,16 +198,25 @@ module _ (n : ℕ) (k : State) (F : Full n k) where
               (all-two P-facts (λ s. has-value v s ≡ true) h p-facts (every-out (has-value v) h a));
         }
 
-    -- the group kept for a value, where one of them is D-GET and the round is over 1
-    pub kept-equal : (v : ℕ) → every (has-value v) h ≡ true → 1 < r → some-D-GET h ≡ true → Kept n (k .question) (proposals n (r - 1) (Only v) Any) (k .for-value)
+    -- the group kept for a value: in round 1, and later where one of them is D-GET
+    pub kept-equal : (v : ℕ) → every (has-value v) h ≡ true → (r ≡ 1) ⊎ ((1 < r) × (some-D-GET h ≡ true)) → Kept n (k .question) (d-get-group n v r) (k .for-value)
     unfolding kept-for-value pick
-    kept-equal v a b c =
-        let s : some (supplies-for-value (k .stage)) h ≡ true
-        = some-weaker (λ s. which Any (s .value) && which (Only D-GET) (s .flag)) (supplies-for-value (k .stage)) h (all-map (λ s p z. rw (e, lt-ltb 1 r b) z) h p-facts) c in
+    kept-equal v a b =
+        let s : some (supplies-for-value (k .stage)) h ≡ true = supplied b in
         let l : leading (supplies-for-value (k .stage)) h ≡ v
         = leading-is (supplies-for-value (k .stage)) v h (all-map (λ s p z. eqb-true _ _ p) h (every-out (has-value v) h a)) s in
-        let g : value-group n (k .stage) v ≡ proposals n (r - 1) (Only v) Any = ap (λ (x : Stage). value-group n x v) e in
+        let g : value-group n (k .stage) v ≡ d-get-group n v r = ap (λ (x : Stage). value-group n x v) e in
         rw g at (rw (s, l) at (F .for-value))
+      where
+        by-round : (s : Statement) → r ≡ 1 → supplies-for-value (k .stage) s ≡ true
+        by-round s one = ap (λ (x : Stage). supplies-for-value x s) e ∙ left (eqb r 1) (eqb (s .flag) D-GET) (eq-eqb r 1 one)
+
+        by-flag : (s : Statement) → eqb (s .flag) D-GET ≡ true → supplies-for-value (k .stage) s ≡ true
+        by-flag s d = ap (λ (x : Stage). supplies-for-value x s) e ∙ right (eqb r 1) (eqb (s .flag) D-GET) d
+
+        supplied : (r ≡ 1) ⊎ ((1 < r) × (some-D-GET h ≡ true)) → some (supplies-for-value (k .stage)) h ≡ true
+        supplied (inl one) = some-all (supplies-for-value (k .stage)) h (omega (arith, F .size)) (all-map (λ s p. by-round s one) h p-facts)
+        supplied (inr later) = some-weaker (λ s. which Any (s .value) && which (Only D-GET) (s .flag)) (supplies-for-value (k .stage)) h (all-map (λ s p z. by-flag s z) h p-facts) (later .1)
 
     -- the group kept for a none vote, where both values are there and the round is over 1: one of them is R-GET
     pub kept-none : 1 < r → some-value 0 h ≡ true → some-value 1 h ≡ true → Kept n (k .question) (none-votes n (r - 1)) (k .for-none)
@@ -233,8 +247,11 @@ module _ (n : ℕ) (k : State) (F : Full n k) where
             (join (ltb 1 r) _ (lt-ltb 1 r b) (join (some (λ s. eqb (s .flag) D-GET && has-value 0 s) h) _ (of-value 0 q x) (of-value 1 q y)))
 
     -- the second group of the vote, by its value
+    abbrev asks : ℕ → Bool
+    asks v = has-second kind-V v r (some-D-GET h)
+
     abbrev second-of : ℕ → List Statement
-    second-of v = pick (ltb 1 r) (pick (ltb v none) (pick (some-D-GET h) (k .for-value) []) (k .for-none)) []
+    second-of v = pick (asks v) (pick (ltb v none) (k .for-value) (k .for-none)) []
 
     pub record Second (v : ℕ) : Type 0 where
       pub proper : All (Proper n) (second-of v)
@@ -242,22 +259,32 @@ module _ (n : ℕ) (k : State) (F : Full n k) where
 
     equal-second : (v : ℕ) → v < none → every (has-value v) h ≡ true → Second v
     unfolding pick
-    equal-second v low a = go (ltb 1 r) refl (some-D-GET h) refl
+    equal-second v low a = go (asks v) refl
       where
-        go : (x : Bool) → ltb 1 r ≡ x → (y : Bool) → some-D-GET h ≡ y → Second v
-        go true p true q =
-            let g = kept-equal v a (ltb-true _ _ p) q in
-            record { proper = rw (p, lt-ltb v none low, q) (g .proper); alike = rw (p, lt-ltb v none low, q) (g .alike) }
-        go true p false q = record { proper = rw (p, lt-ltb v none low, q) tt; alike = rw (p, lt-ltb v none low, q) tt }
-        go false p y q = record { proper = rw p tt; alike = rw p tt }
+        go : (x : Bool) → asks v ≡ x → Second v
+        go true p =
+            let g = kept-equal v a (two-out kind-V v r (some-D-GET h) low p) in
+            record { proper = rw (p, lt-ltb v none low) (g .proper); alike = rw (p, lt-ltb v none low) (g .alike) }
+        go false p = record { proper = rw p tt; alike = rw p tt }
+
+    later-asks : 1 < r → asks none ≡ true
+    later-asks l = two-none kind-V none r (some-D-GET h) refl refl l
+
+    first-asks : r ≡ 1 → asks none ≡ false
+    first-asks one = one-early kind-V none r (some-D-GET h) refl one
 
     none-second : some-value 0 h ≡ true → some-value 1 h ≡ true → Second none
     unfolding pick
     none-second a b = go (ltb 1 r) refl
       where
         go : (x : Bool) → ltb 1 r ≡ x → Second none
-        go true p = let g = kept-none (ltb-true _ _ p) a b in record { proper = rw p (g .proper); alike = rw p (g .alike) }
-        go false p = record { proper = rw p tt; alike = rw p tt }
+        go true p =
+            let l : 1 < r = ltb-true _ _ p in
+            let g = kept-none l a b in
+            record { proper = rw (later-asks l) (g .proper); alike = rw (later-asks l) (g .alike) }
+        go false p =
+            let one : r ≡ 1 = omega (arith, ltb-false 1 r p, in-round .0) in
+            record { proper = rw (first-asks one) tt; alike = rw (first-asks one) tt }
 
     seconds : Second (vote-value h)
     seconds = vote-cases Second (equal-second 0 (omega arith)) (equal-second 1 (omega arith)) none-second
@@ -280,38 +307,39 @@ module _ (n : ℕ) (k : State) (F : Full n k) where
           alike = all-map (λ s p. p .0) h (F .alike);
           more-proper = seconds .proper;
           more-alike = seconds .alike;
+          front = take-at h (second-of (vote-value h)) (quorum n) (F .size);
           for-value = λ s a b c. vote-holds (omega (arith, ltb-true (s .value) none c));
           for-none = λ s a b c. never false refl c;
         }
 
     -- which of the three it is
-    second-for-value : (v : ℕ) → v < none → 1 < r → some-D-GET h ≡ true → second-of v ≡ k .for-value
+    second-for-value : (v : ℕ) → v < none → asks v ≡ true → second-of v ≡ k .for-value
     unfolding pick
-    second-for-value v low x y = rw (lt-ltb 1 r x, lt-ltb v none low, y)
+    second-for-value v low x = rw (x, lt-ltb v none low)
 
-    second-nil : (v : ℕ) → v < none → (1 < r → some-D-GET h ≡ true → ⊥) → second-of v ≡ []
+    second-nil : (v : ℕ) → asks v ≡ false → second-of v ≡ []
     unfolding pick
-    second-nil v low z = go (ltb 1 r) refl (some-D-GET h) refl
-      where
-        go : (a : Bool) → ltb 1 r ≡ a → (b : Bool) → some-D-GET h ≡ b → second-of v ≡ []
-        go true x true y = absurd (z (ltb-true _ _ x) y)
-        go true x false y = rw (x, lt-ltb v none low, y)
-        go false x b y = rw x
+    second-nil v x = rw x
 
     second-later : 1 < r → second-of none ≡ k .for-none
     unfolding pick
-    second-later x = rw (lt-ltb 1 r x)
-
-    second-early : r ≡ 1 → second-of none ≡ []
-    unfolding pick
-    second-early x = rw (le-ltb 1 r (omega arith))
+    second-later l = rw (later-asks l)
 
     -- rule 5, where all are equal
     five : (s : Statement) → s .kind ≡ kind-V → s .round ≡ r → (v : ℕ) → v < none → every (has-value v) h ≡ true → s .value ≡ v → Backed n s (h ++ second-of v)
     five s a d v low q w =
         rule-5 {c = h} {d = second-of v} a (omega arith) (rw (w, d) (equal-hold v q))
-        (λ z. let x : 1 < r = omega (arith, z .0) in rw (w, d, second-for-value v low x (z .1)) (kept-equal v q x (z .1) .as-asked))
-        (λ z. second-nil v low (λ x y. z (omega arith, y)))
+        (λ z.
+        let one : r ≡ 1 = sym d ∙ z in
+        rw (w, second-for-value v low (two-early kind-V v r (some-D-GET h) refl low one)) (rw (d-get-first n v r one) at (kept-equal v q (inl one) .as-asked)))
+        (λ z.
+        let l : 1 < r = omega (arith, z .0) in
+        rw (w, d, second-for-value v low (two-D kind-V v r (some-D-GET h) refl l (z .1))) (rw (d-get-later n v r l) at (kept-equal v q (inr (l, z .1)) .as-asked)))
+        (λ one later. second-nil v (is-false _ (λ x. neither one later (two-out kind-V v r (some-D-GET h) low x))))
+      where
+        neither : (s .round ≡ 1 → ⊥) → (NeedsSecond s h → ⊥) → (r ≡ 1) ⊎ ((1 < r) × (some-D-GET h ≡ true)) → ⊥
+        neither one later (inl x) = one (d ∙ x)
+        neither one later (inr x) = later (omega (arith, x .0), x .1)
 
     -- rules 6 and 7, where both values are there
     any-hold : Holds (proposals n r Any Any) h
@@ -337,7 +365,7 @@ module _ (n : ℕ) (k : State) (F : Full n k) where
             rule-7 {c = h} {d = second-of none} a w (omega arith) (rw d any-hold) (x, y) (rw (d, second-later l) (kept-none l x y .as-asked))
         go false z =
             let one : r ≡ 1 = omega (arith, ltb-false 1 r z, in-round .0) in
-            let e' : h ≡ h ++ second-of none = sym (append-nil h) ∙ ap (λ (l : List Statement). h ++ l) (sym (second-early one)) in
+            let e' : h ≡ h ++ second-of none = sym (append-nil h) ∙ ap (λ (l : List Statement). h ++ l) (sym (second-nil none (first-asks one))) in
             subst (λ (l : List Statement). Backed n s l) e' (rule-6 a w (d ∙ one) (early-hold early one) (x, y))
 
     pub votes-backed : Given h → (s : Statement) → s .kind ≡ kind-V → s .value ≡ vote-value h → s .round ≡ r → Backed n s (h ++ second-of (vote-value h))
@@ -452,7 +480,8 @@ module _ (n : ℕ) (k : State) (F : Full n k) where
           alike = K .alike;
           more-proper = tt;
           more-alike = tt;
-          for-value = λ s a b c. rw back (K .as-asked);
+          front = ap (take (quorum n)) (append-nil (k .for-value)) ∙ take-all (quorum n) (k .for-value) (omega (arith, K .as-asked .size));
+          for-value = λ s a b c. rw (d-get-later n v (r + 1) (omega (arith, from-1)), back) (K .as-asked);
           for-none = λ s a b c. let z : s .flag ≡ R-GET = eqb-true _ _ (both (ltb 1 (r + 1)) _ c .1) in absurd (omega arith);
         })
 
@@ -469,9 +498,14 @@ module _ (n : ℕ) (k : State) (F : Full n k) where
           alike = all-map (λ s p. p .0) h (F .alike);
           more-proper = tt;
           more-alike = tt;
-          for-value = λ s a b c. let z : s .flag ≡ D-GET = eqb-true _ _ (both (ltb 1 (r + 1)) _ c .1) in absurd (omega arith);
+          front = ap (take (quorum n)) (append-nil h) ∙ take-all (quorum n) h (omega (arith, F .size));
+          for-value = λ s a b c. absurd (not-given s b (either (eqb (r + 1) 1) _ c));
           for-none = λ s a b c. rw back (none-hold x y);
         }
+      where
+        not-given : (s : Statement) → s .flag ≡ R-GET → (eqb (r + 1) 1 ≡ true) ⊎ (eqb (s .flag) D-GET ≡ true) → ⊥
+        not-given s b (inl z) = omega (arith, eqb-true (r + 1) 1 z, from-1)
+        not-given s b (inr z) = omega (arith, eqb-true (s .flag) D-GET z)
 
     pub proposals-ready : (coin : ℕ) → coin < 2 → Ready n (k .question) (after-votes r k coin)
     proposals-ready coin low =

@@ -22,7 +22,7 @@ use Rattle.format.specs.Bundle.{all-formed}
 use Rattle.format.specs.Laws.Layout.{formed-well, all-well}
 use Rattle.rules.specs.declared.Group.{Group}
 use Rattle.rules.specs.Rules.{Rising, holds, some, none-votes}
-use Rattle.rules.specs.Backed.{holds-out}
+use Rattle.rules.specs.Backed.{holds-out, d-get-most}
 use Rattle.certificate.specs.Check.{every}
 use Rattle.certificate.specs.Exact.{every-out}
 use Rattle.station.specs.declared.Stage.{Stage}
@@ -145,7 +145,7 @@ for-value-size n g h top = go (some (supplies-for-value g) h) g (leading (suppli
     go : (b : Bool) (g : Stage) (v : ℕ) → pick b (value-group n g v) no-group .size ≤ quorum sites
     go false g v = omega arith
     go true Gathering v = omega arith
-    go true (Proposing r f) v = omega arith
+    go true (Proposing r f) v = omega (arith, d-get-most n v (r .0))
     go true (Voting r) v = omega arith
 
 pub for-none-size : (n : ℕ) (g : Stage) (h : List Statement) → n ≤ most-stations → kept-for-none n g h .size ≤ quorum sites

@@ -1,6 +1,7 @@
 -- A station that takes a valid bundle of its step, and does not end the step with it, stays sane.
-use Prim.Native.Nat.{ℕ, zero, suc, _+_, _-_, _*_, _<_}
+use Prim.Native.Nat.{ℕ, zero, suc, _+_, _-_, _*_, _≤_, _<_}
 use mathlib.Core.Bool.{Bool, true, false, not, _&&_, _||_}
+use mathlib.Core.Logic.{_⊎_, inl, inr}
 use mathlib.Core.List.{List, [], _∷_, _++_}
 use mathlib.Core.Path.{_≡_, refl, sym, ap, _∙_, subst}
 use native.Mathlib.Omega.{arith}
@@ -9,16 +10,17 @@ use lib.ListN.{length, take}
 use lib.Seq.{take-at, take-all}
 use borrow.Author.Tests.{eqb-true, eq-eqb, ne-eqb, ltb-true}
 use Rattle.laws.specs.Pick.{pick}
-use Rattle.laws.specs.Bools.{never, both}
+use Rattle.laws.specs.Bools.{never, both, either}
 use Rattle.laws.specs.All.{All}
 use Rattle.format.specs.Numbers.{kind-INIT, kind-P, kind-V, none, D-GET, R-GET}
-use Rattle.format.specs.Group.{quorum}
+use Rattle.format.specs.Group.{quorum, backing-most}
 use Rattle.format.specs.Words.{step-of}
 use Rattle.format.specs.Statement.{Statement, step}
 use Rattle.format.specs.Laws.Shape.{Shape, init, proposal, vote, formed-out}
 use Rattle.rules.specs.declared.Group.{Group}
 use Rattle.rules.specs.declared.Which.the-variants.{Any, Only}
-use Rattle.rules.specs.Rules.{Rising, Holds, some, proposals, none-votes, Backed, rule-1, rule-2, rule-3, rule-4, rule-5, rule-6, rule-7}
+use Rattle.rules.specs.Backed.{d-get-first, d-get-later}
+use Rattle.rules.specs.Rules.{Rising, Holds, some, inits, proposals, none-votes, d-get-group, Backed, rule-1, rule-2, rule-3, rule-4, rule-5, rule-6, rule-7}
 use Rattle.station.specs.declared.Stage.{Stage}
 use Rattle.station.specs.declared.Stage.the-variants.{Gathering, Proposing, Voting}
 use Rattle.station.specs.Machine.{State, kind-in, round-in, stage-step, held-of, supplies-for-value, supplies-for-none, takes, insert, keeping, kept-for-value, kept-for-none, value-group, leading, no-group}
@@ -61,30 +63,32 @@ same-step m (Voting p) (proposal k l r v f) i e = absurd (omega (arith, steps-P 
 same-step m (Voting p) (vote k l r v f) i e = (k, omega (arith, steps-V (m .kind) (m .round) k, steps-V kind-V (p .0) refl))
 
 -- ---- the groups that a bundle supplies
-whole : (g : Group) (c : List Statement) (k : ℕ) → g .size ≡ k → Holds g c → Holds g (take k c)
+whole : (g : Group) (c : List Statement) (k : ℕ) → g .size ≤ k → Holds g c → Holds g (take k c)
 whole g c k e h = subst (λ (x : List Statement). Holds g x) (sym (take-all k c (omega (arith, h .size)))) h
 
 front : (g : Group) (c d : List Statement) (k : ℕ) → g .size ≡ k → Holds g c → Holds g (take k (c ++ d))
 front g c d k e h = subst (λ (x : List Statement). Holds g x) (sym (take-at c d k (h .size ∙ e))) h
 
--- a D-GET proposal of a later round has q proposals of the round before with its value
-proposal-group : (n : ℕ) (m : Statement) (c : List Statement) → m .kind ≡ kind-P → 1 < m .round → m .flag ≡ D-GET → Backed n m c
-    → Holds (proposals n (m .round - 1) (Only (m .value)) Any) (take (quorum n) c)
-proposal-group n m c k r f (rule-1 a) = absurd (omega arith)
-proposal-group n m c k r f (rule-2 a b d h) = absurd (omega arith)
-proposal-group n m c k r f (rule-3 a b d h) = whole (proposals n (m .round - 1) (Only (m .value)) Any) c (quorum n) refl h
-proposal-group n m c k r f (rule-4 a b d h) = absurd (omega arith)
-proposal-group n m _ k r f (rule-5 a b h s o) = absurd (omega arith)
-proposal-group n m c k r f (rule-6 a b d h s) = absurd (omega arith)
-proposal-group n m _ k r f (rule-7 a b d h s o) = absurd (omega arith)
+-- a proposal of round 1 has the INITs of its value, a D-GET proposal of a later round q proposals of the round before with it
+proposal-group : (n : ℕ) (m : Statement) (c : List Statement) → m .kind ≡ kind-P → (m .round ≡ 1) ⊎ (m .flag ≡ D-GET) → Backed n m c
+    → Holds (d-get-group n (m .value) (m .round)) (take (quorum n) c)
+proposal-group n m c k f (rule-1 a) = absurd (omega arith)
+proposal-group n m c k f (rule-2 a b d h) = rw (d-get-first n (m .value) (m .round) b) (whole (inits n (m .value)) c (quorum n) (backing-most n (m .value)) h)
+proposal-group n m c k f (rule-3 a b d h) =
+    rw (d-get-later n (m .value) (m .round) b) (whole (proposals n (m .round - 1) (Only (m .value)) Any) c (quorum n) (omega arith) h)
+proposal-group n m c k (inl e) (rule-4 a b d h) = absurd (omega arith)
+proposal-group n m c k (inr e) (rule-4 a b d h) = absurd (omega arith)
+proposal-group n m _ k f (rule-5 a b h i s o) = absurd (omega arith)
+proposal-group n m c k f (rule-6 a b d h s) = absurd (omega arith)
+proposal-group n m _ k f (rule-7 a b d h s o) = absurd (omega arith)
 
 -- an R-GET proposal has q none votes of the round before
 toss-group : (n : ℕ) (m : Statement) (c : List Statement) → m .kind ≡ kind-P → m .flag ≡ R-GET → Backed n m c → Holds (none-votes n (m .round - 1)) (take (quorum n) c)
 toss-group n m c k f (rule-1 a) = absurd (omega arith)
 toss-group n m c k f (rule-2 a b d h) = absurd (omega arith)
 toss-group n m c k f (rule-3 a b d h) = absurd (omega arith)
-toss-group n m c k f (rule-4 a b d h) = whole (none-votes n (m .round - 1)) c (quorum n) refl h
-toss-group n m _ k f (rule-5 a b h s o) = absurd (omega arith)
+toss-group n m c k f (rule-4 a b d h) = whole (none-votes n (m .round - 1)) c (quorum n) (omega arith) h
+toss-group n m _ k f (rule-5 a b h i s o) = absurd (omega arith)
 toss-group n m c k f (rule-6 a b d h s) = absurd (omega arith)
 toss-group n m _ k f (rule-7 a b d h s o) = absurd (omega arith)
 
@@ -95,7 +99,7 @@ vote-group n m c k v (rule-1 a) = absurd (omega arith)
 vote-group n m c k v (rule-2 a b d h) = absurd (omega arith)
 vote-group n m c k v (rule-3 a b d h) = absurd (omega arith)
 vote-group n m c k v (rule-4 a b d h) = absurd (omega arith)
-vote-group n m _ k v (rule-5 {c} {d} a b h s o) = front (proposals n (m .round) (Only (m .value)) Any) c d (quorum n) refl h
+vote-group n m _ k v (rule-5 {c} {d} a b h i s o) = front (proposals n (m .round) (Only (m .value)) Any) c d (quorum n) refl h
 vote-group n m c k v (rule-6 a b d h s) = absurd (omega arith)
 vote-group n m _ k v (rule-7 a b d h s o) = absurd (omega arith)
 
@@ -103,14 +107,16 @@ module _ (n question : ℕ) (g : Stage) (m : Statement) (c : List Statement) (F 
   is-so : (m .kind ≡ kind-in g) × (m .round ≡ round-in g)
   is-so = same-step m g (formed-out n m (F .proper .formed) .shape) i (F .in-step)
 
+  first-or-given : (r : ℕ) → m .round ≡ r → (eqb r 1 ≡ true) ⊎ (eqb (m .flag) D-GET ≡ true) → (m .round ≡ 1) ⊎ (m .flag ≡ D-GET)
+  first-or-given r e (inl x) = inl (e ∙ eqb-true r 1 x)
+  first-or-given r e (inr x) = inr (eqb-true (m .flag) D-GET x)
+
   taken-for-value : supplies-for-value g m ≡ true → Holds (value-group n g (m .value)) (take (quorum n) c)
   taken-for-value e = go g e is-so
     where
       go : (g : Stage) → supplies-for-value g m ≡ true → (m .kind ≡ kind-in g) × (m .round ≡ round-in g) → Holds (value-group n g (m .value)) (take (quorum n) c)
       go Gathering e k = never false refl e
-      go (Proposing p x) e k =
-          let a = both (ltb 1 (p .0)) _ e in
-          rw (← k .1) (proposal-group n m c (k .0) (omega (arith, k .1, ltb-true 1 (p .0) (a .0))) (eqb-true _ _ (a .1)) (F .backed))
+      go (Proposing p x) e k = rw (← k .1) (proposal-group n m c (k .0) (first-or-given (p .0) (k .1) (either (eqb (p .0) 1) _ e)) (F .backed))
       go (Voting p) e k = rw (← k .1) (vote-group n m c (k .0) (ltb-true _ _ e) (F .backed))
 
   taken-for-none : supplies-for-none g m ≡ true → Holds (none-votes n (round-in g - 1)) (take (quorum n) c)

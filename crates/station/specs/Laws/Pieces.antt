@@ -1,5 +1,5 @@
 -- Lists of statements at the end of a step: counts, parts, and what all or some of them have.
-use Prim.Native.Nat.{ℕ, zero, suc, _+_, _-_, _<_}
+use Prim.Native.Nat.{ℕ, zero, suc, _+_, _-_, _≤_, _<_}
 use mathlib.Core.Bool.{Bool, true, false, not, _&&_, _||_}
 use mathlib.Core.List.{List, [], _∷_}
 use mathlib.Core.Path.{_≡_, refl, ap}
@@ -116,6 +116,12 @@ some-weaker p q (s ∷ h) a e = go (p s) refl e (some-weaker p q h (a .1))
     go : (b : Bool) → p s ≡ b → (b || some p h) ≡ true → (some p h ≡ true → some q h ≡ true) → (q s || some q h) ≡ true
     go true x y ih = left (q s) _ (a .0 x)
     go false x y ih = right (q s) _ (ih y)
+
+-- where all do and there is one
+pub some-all : (p : Statement → Bool) (h : List Statement) → 1 ≤ length h → All (λ s. p s ≡ true) h → some p h ≡ true
+unfolding some
+some-all p [] l a = absurd (omega arith)
+some-all p (s ∷ h) l a = left (p s) _ (a .0)
 
 -- the leading value is one that a test knows of each that leads
 pub leading-is : (p : Statement → Bool) (v : ℕ) (h : List Statement) → All (λ s. p s ≡ true → s .value ≡ v) h → some p h ≡ true → leading p h ≡ v
