@@ -1,13 +1,14 @@
-//! Times the proved validity check beside the second implementation's, on valid bundles of 33 statements at n 31.
+//! Times the proved validity check beside the second implementation's, on valid bundles at n 31.
 //!   check         prints the table
 //!   check ours    runs the proved check alone, for a profiler
+//!   check times   prints the proved check's times alone, for bench/compare
 
 use std::hint::black_box;
 
 use second::check::{check, is_backed};
-use second::group::size_in_range;
+use second::group::{size_in_range, STATEMENT_WORDS};
 use second::hmac::{bytes_of, Key};
-use second::samples::{both_values, bundle, none_votes, proposals, v, D, KEY, R};
+use second::samples::{both_values, bundle, inits, none_votes, proposals, v, D, KEY, R};
 use second::sha256::{compress, BLOCK_BYTES};
 use second::words::{Bundle, Statement, NONE};
 
@@ -15,8 +16,10 @@ const N: u32 = 31;
 const ROUNDS: usize = 200;
 const CALLS: usize = 10;
 
-/// What one check compresses where the key is prepared once: a pair of blocks for the key, and one for each of the 33 statements.
-const PAIRS: usize = 1 + 33;
+/// What one check compresses where the key is prepared once: a pair of blocks for the key, and one for each statement.
+fn pairs(case: &Case) -> usize {
+    1 + case.words.len() / STATEMENT_WORDS
+}
 
 // The proved functions. A slice is a pointer and a length, a reference to an array a pointer.
 #[link(name = "check_exports", kind = "static")]
@@ -123,7 +126,15 @@ fn cases() -> Vec<Case> {
         v(1, 3, NONE),
         &[both_values(N, 3, &[R], true), none_votes(N, 2, false)],
     );
+    let first = bundle(
+        v(1, 1, 0),
+        &[proposals(N, 1, 0, &[D], true), inits(N, 0, false)],
+    );
     vec![
+        Case {
+            name: "rule 5, round 1",
+            words: first.words(),
+        },
         Case {
             name: "rule 5, two groups",
             words: second_group.words(),
@@ -161,8 +172,8 @@ fn agree(key: &[u8], case: &Case) {
 }
 
 /// The compressions of one check alone: pairs, in each of which the second waits for the first.
-fn our_compressions(first: &[u32; 16], second: &mut [u32; 16]) {
-    for _ in 0..PAIRS {
+fn our_compressions(pairs: usize, first: &[u32; 16], second: &mut [u32; 16]) {
+    for _ in 0..pairs {
         let mut state = black_box(INITIAL);
         unsafe { check_exports_compress(state.as_mut_ptr(), first.as_ptr()) };
         second[..8].copy_from_slice(&state);
@@ -172,17 +183,30 @@ fn our_compressions(first: &[u32; 16], second: &mut [u32; 16]) {
     }
 }
 
+/// The proved check alone, each case by its best round.
+fn our_times(key: &[u8], cases: &[Case]) {
+    for case in cases {
+        let time = || timed(|| assert_eq!(ours(black_box(key), black_box(&case.words)), 0));
+        let best = (0..ROUNDS).map(|_| time()).fold(f64::INFINITY, f64::min);
+        let statements = case.words.len() / STATEMENT_WORDS;
+        println!("check, {}\t{statements} statements\t{best:.0}", case.name);
+    }
+}
+
 fn main() {
     let key = bytes_of(&KEY);
     let cases = cases();
-    if std::env::args().nth(1).as_deref() == Some("ours") {
-        for case in cases.iter().cycle().take(200_000) {
-            assert_eq!(ours(&key, &case.words), 0);
+    match std::env::args().nth(1).as_deref() {
+        Some("ours") => {
+            for case in cases.iter().cycle().take(200_000) {
+                assert_eq!(ours(&key, &case.words), 0);
+            }
+            return;
         }
-        return;
+        Some("times") => return our_times(&key, &cases),
+        _ => {}
     }
     for case in &cases {
-        assert_eq!(case.words.len(), 331);
         agree(&key, case);
     }
     let mut best = vec![[f64::INFINITY; 4]; cases.len()];
@@ -194,7 +218,7 @@ fn main() {
             let words = &case.words;
             let times = [
                 timed(|| assert_eq!(ours(black_box(&key), black_box(words)), 0)),
-                timed(|| our_compressions(&first, &mut second)),
+                timed(|| our_compressions(pairs(case), &first, &mut second)),
                 timed(|| assert_eq!(check(black_box(&KEY), N, black_box(words)), 0)),
                 timed(|| assert_eq!(prepared_check(black_box(&KEY), N, black_box(words)), 0)),
             ];
@@ -205,8 +229,8 @@ fn main() {
         }
     }
 
-    println!("Checking a valid bundle of 33 statements at n 31: nanoseconds of processor time, the best of {ROUNDS} rounds. Ratios are of speed.");
-    println!("Compressions: the {} of one check alone. Share: that time in the check's, the median of the rounds.", 2 * PAIRS);
+    println!("Checking a valid bundle at n 31, of 26 statements in round 1 and else of 33: nanoseconds of processor time, the best of {ROUNDS} rounds. Ratios are of speed.");
+    println!("Compressions: those of one check alone, two a statement and two for the key. Share: that time in the check's, the median of the rounds.");
     println!();
     let columns = [
         "",
