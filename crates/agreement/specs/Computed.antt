@@ -21,7 +21,7 @@ use Rattle.format.specs.Statement.{statements, covered-at, code-at, same-words,
 use Rattle.format.specs.Bundle.{laid-out, all-formed, bundle-fits, all-written, bundle-of}
 use Rattle.format.specs.Laws.Layout.{same-out}
 use Rattle.rules.specs.Rules.{wanted, some, in-order, holds, d-get-group, first-group, second-group, has-second, early-toss, rest-holds, spread, groups-hold, rule}
-use Rattle.certificate.specs.Check.{every}
+use Rattle.certificate.specs.Check.{every, check-by}
 use Rattle.modules.specs.Counter.{above, making}
 use Rattle.sealed.specs.Sealed.{coding-plain, coding-coin}
 use Rattle.station.specs.declared.Stage.{Stage}
@@ -248,5 +248,5 @@ module _ (mac : List ℕ → List ℕ → List ℕ) (key : List ℕ) (n : ℕ) w
 
 -- ---- all that the tests compute by
 unfoldable pub computes : Unit {0}
-unfolding pick count first-failed ones backing fields-of word-of formed step-of statements same-words verifies well-formed step laid-out all-formed bundle-fits wanted some in-order holds d-get-group first-group second-group has-second early-toss rest-holds spread groups-hold rule every above making coding-plain coding-coin insert number-of first-value those vote-value decided carried follows ended taken conflict held-in leading kept-for-value kept-for-none state-of set-of slot-of slots-of all-written as-station bundle-of zeros slots-fit fits returned opening giving no-station act modules log openings lineage below given sound
+unfolding pick count first-failed ones backing fields-of word-of formed step-of statements same-words verifies well-formed step laid-out all-formed bundle-fits wanted some in-order holds d-get-group first-group second-group has-second early-toss rest-holds spread groups-hold rule every check-by above making coding-plain coding-coin insert number-of first-value those vote-value decided carried follows ended taken conflict held-in leading kept-for-value kept-for-none state-of set-of slot-of slots-of all-written as-station bundle-of zeros slots-fit fits returned opening giving no-station act modules log openings lineage below given sound
 computes = tt

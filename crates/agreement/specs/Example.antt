@@ -9,13 +9,17 @@ use native.Mathlib.Omega.{arith}
 use lib.ListN.{getD, take, drop, replicate}
 use Rattle.laws.specs.Count.{count}
 use Rattle.format.specs.Numbers.{kind-P, kind-V, none, D-GET, R-GET}
+use Rattle.format.specs.Group.{backing}
+use Rattle.format.specs.Bundle.{main-of}
+use Rattle.rules.specs.declared.Which.the-variants.{Any}
+use Rattle.certificate.specs.Check.{check-by}
 use Rattle.station.specs.declared.Stage.the-variants.{Gathering}
 use Rattle.station.specs.declared.Station.{Station}
 use Rattle.agreement.specs.Maths.Votes.{votes}
-use Rattle.agreement.specs.Demand.{opens, gives, codes, tosses, Call, call, member, proposed, log, Sound, FewFaulty, Given, Decides, Claim}
-use Rattle.agreement.specs.Prefix.{sound-before}
+use Rattle.agreement.specs.Demand.{opens, gives, codes, tosses, Call, call, member, proposed, log, Sound, FewFaulty, CodesCame, Given, Decides, Claim}
+use Rattle.agreement.specs.Prefix.{given-before, sound-before}
 use Rattle.agreement.specs.Theorem.{claim}
-use Rattle.agreement.specs.FirstVotes.{names-proposer}
+use Rattle.agreement.specs.FirstVotes.{names-proposer, FirstVote, first-votes-by}
 use Rattle.agreement.specs.Computed.{computes, last, written, numbers, line, present, given, given-out, few, others-out, few-out, decides, decides-out}
 
 abbrev pub toy : List ℕ → List ℕ → List ℕ
@@ -145,7 +149,7 @@ record Facts : Type 0 where
   in-round-1 : ℕ
   poisoned : Bool
   proposed : ℕ
-  named : ℕ
+  vote : List ℕ
 
 abbrev facts : List Call → Facts
 facts cs =
@@ -158,10 +162,10 @@ facts cs =
       in-round-1 = count (votes (line toy [] 3 cs 1 0 .took) 1 1 0) 3;
       poisoned = votes (line toy [] 3 cs 1 0 .took) 1 1 none 3;
       proposed = count (proposed (log toy [] 3 cs) 1 1) 3;
-      named = count (λ i. names-proposer (bundle calls-7) 0 i && proposed (log toy [] 3 cs) 1 0 i) 3;
+      vote = check-by (toy []) 3 Any (bundle calls-7) ∷ main-of (bundle calls-7) .kind ∷ main-of (bundle calls-7) .round ∷ main-of (bundle calls-7) .value ∷ main-of (bundle calls-7) .question ∷ [];
     }
 
-computed : facts example ≡ record { numbers = answers; given = true; few = true; first = true; second = true; in-round-1 = 1; poisoned = true; proposed = 0; named = 2 }
+computed : facts example ≡ record { numbers = answers; given = true; few = true; first = true; second = true; in-round-1 = 1; poisoned = true; proposed = 0; vote = 0 ∷ kind-V ∷ 1 ∷ 0 ∷ 1 ∷ [] }
 unfolding computes
 computed = refl
 
@@ -209,6 +213,17 @@ faulty-3 : Sound toy [] 3 3 example → ⊥
 unfolding Sound
 faulty-3 s = sound-before toy [] 3 3 (take 6 example) calls-12 s .0 refl (answered .toss)
 
+-- ---- the vote of round 1 that site 1 sent in calls-7 and site 2 is given in calls-11
+first-vote : FirstVote toy [] 3 (bundle calls-7) 1 0
+first-vote = record { valid = at 0; kind = at 1; round = at 2; value = at 3; bit = omega arith; asked = at 4 }
+  where
+    at : (k : ℕ) → getD (facts example .vote) k 0 ≡ getD (0 ∷ kind-V ∷ 1 ∷ 0 ∷ 1 ∷ []) k 0
+    at k = ap (λ (f : Facts). getD (f .vote) k 0) computed
+
+vote-came : CodesCame toy [] 3 (log toy [] 3 calls-10) (bundle calls-7)
+unfolding Given
+vote-came = given-before toy [] 3 (take 7 example) calls-11 within .1 .0 .1
+
 -- ---- all of it: a list within the premises, for which the claim therefore holds
 pub record Witness (cs : List Call) : Type 1 where
   pub within : Given toy [] 3 cs
@@ -225,8 +240,9 @@ pub record Witness (cs : List Call) : Type 1 where
   -- no site proposed 1 on question 1, and site 1's station took station 3's none vote of round 1
   pub unbacked : count (proposed (log toy [] 3 cs) 1 1) 3 ≡ 0
   pub poisoned : votes (second .line .took) 1 1 none 3 ≡ true
-  -- site 1's vote of round 1 for 0, by which site 2 decides, names two sites that proposed 0, which is the backing of 0
-  pub named : count (λ i. names-proposer (bundle calls-7) 0 i && proposed (log toy [] 3 cs) 1 0 i) 3 ≡ 2
+  -- site 1's vote of round 1 for 0, by which site 2 decides: by the theorem on such votes it names at least the backing of 0, which is 2, in sites that proposed 0
+  pub first-vote : FirstVote toy [] 3 (bundle calls-7) 1 0
+  pub named : backing 3 0 ≤ count (λ i. names-proposer (bundle calls-7) 0 i && proposed (log toy [] 3 calls-10) 1 0 i) 3
   pub claimed : Claim toy [] 3 cs
 
 pub witness : Witness example
@@ -245,6 +261,7 @@ witness =
       not-before = ap (λ (f : Facts). f .in-round-1) computed;
       unbacked = ap (λ (f : Facts). f .proposed) computed;
       poisoned = ap (λ (f : Facts). f .poisoned) computed;
-      named = ap (λ (f : Facts). f .named) computed;
+      first-vote = first-vote;
+      named = first-votes-by toy [] 3 calls-10 (bundle calls-7) 1 0 vote-came first-vote;
       claimed = claim toy (λ key ws. refl) [] 3 (omega arith) (omega arith) example within few-faulty;
     }

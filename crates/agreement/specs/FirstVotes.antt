@@ -20,10 +20,11 @@ use Rattle.hmac.specs.Code.{hmac-code}
 use Rattle.format.specs.Bundle.{count-in, main-of, certificate-of}
 use Rattle.format.specs.Laws.Layout.{all-well, same-out}
 use Rattle.format.specs.Laws.Shape.{formed-out}
+use Rattle.rules.specs.declared.Which.the-variants.{Any}
 use Rattle.rules.specs.Rules.{wanted, matches, some, inits, Backed, rule-1, rule-2, rule-3, rule-4, rule-5, rule-6, rule-7}
-use Rattle.certificate.specs.Check.{checked}
+use Rattle.certificate.specs.Check.{check-by, judged, checked}
 use Rattle.certificate.specs.Valid.{Valid}
-use Rattle.certificate.specs.Exact.{check-exact}
+use Rattle.certificate.specs.Exact.{found-valid}
 use Rattle.agreement.specs.Maths.Log.{In, some-in}
 use Rattle.agreement.specs.Maths.Just.{rising-count}
 use Rattle.agreement.specs.Demand.{Call, Entry, logged, proposed, log, CodesCame}
@@ -37,9 +38,9 @@ is-init v i s = eqb (s .kind) kind-INIT && eqb (s .value) v && eqb (s .station) 
 abbrev pub names-proposer : List ℕ → ℕ → ℕ → Bool
 names-proposer ws v i = some (is-init v i) (certificate-of ws)
 
--- the bundle ws, valid under a key and for n, with a vote of round 1 for v
-pub record FirstVote (key : List ℕ) (n : ℕ) (ws : List ℕ) (question v : ℕ) : Type 0 where
-  pub valid : checked key n ws ≡ 0
+-- by a code function, the bundle ws, valid under a key and for n (under HMAC, `checked` answers 0), with a vote of round 1 for v
+pub record FirstVote (mac : List ℕ → List ℕ → List ℕ) (key : List ℕ) (n : ℕ) (ws : List ℕ) (question v : ℕ) : Type 0 where
+  pub valid : check-by (mac key) n Any ws ≡ 0
   pub kind : main-of ws .kind ≡ kind-V
   pub round : main-of ws .round ≡ 1
   pub value : main-of ws .value ≡ v
@@ -48,10 +49,10 @@ pub record FirstVote (key : List ℕ) (n : ℕ) (ws : List ℕ) (question v : �
 
 -- behind every list of calls, for every such bundle of which "every code that verifies … came from that site's module": of the sites 1 to n at least
 -- the backing of v are named by it and have proposed v
-abbrev pub First-votes : Type 0
-First-votes =
-    (key : List ℕ) (n : ℕ) (cs : List Call) (ws : List ℕ) (question v : ℕ) → CodesCame hmac-code key n (log hmac-code key n cs) ws → FirstVote key n ws question v
-    → backing n v ≤ count (λ i. names-proposer ws v i && proposed (log hmac-code key n cs) question v i) n
+abbrev pub First-votes : (List ℕ → List ℕ → List ℕ) → Type 0
+First-votes mac =
+    (key : List ℕ) (n : ℕ) (cs : List Call) (ws : List ℕ) (question v : ℕ) → CodesCame mac key n (log mac key n cs) ws → FirstVote mac key n ws question v
+    → backing n v ≤ count (λ i. names-proposer ws v i && proposed (log mac key n cs) question v i) n
 
 -- ---- an INIT whose code came was proposed
 init-proposed : (l : List Entry) (i w q : ℕ) → kind-of w ≡ kind-INIT → logged l i (w ∷ q ∷ []) ≡ true → proposed l q (value-of w) i ≡ true
@@ -107,7 +108,7 @@ members [] = tt
 members (s ∷ c) = (List·Memᴰ·head refl, all-map (λ t m. List·Memᴰ·tail m) c (members c))
 
 -- ---- the theorem
-module _ (key : List ℕ) (n : ℕ) (l : List Entry) (ws : List ℕ) (came : CodesCame hmac-code key n l ws) (ok : Valid (hmac-code key) n ws) where
+module _ (mac : List ℕ → List ℕ → List ℕ) (key : List ℕ) (n : ℕ) (l : List Entry) (ws : List ℕ) (came : CodesCame mac key n l ws) (ok : Valid (mac key) n ws) where
   abbrev Was : Statement → Type 0
   Was s = ((1 ≤ s .station) × (s .station ≤ n)) × (s .kind ≡ kind-INIT → proposed l (s .question) (s .value) (s .station) ≡ true)
 
@@ -120,7 +121,7 @@ module _ (key : List ℕ) (n : ℕ) (l : List Entry) (ws : List ℕ) (came : Cod
   all-was : Was (main-of ws) × All Was (certificate-of ws)
   unfolding statements
   all-was =
-      each-came hmac-code key n l ws came Was was (suc (count-in ws)) 0 (omega (arith, ok .bundle .size)) (ok .bundle .fields) (all-well n ws 1 (suc (count-in ws)) (ok .bundle .fields)) (ok .codes)
+      each-came mac key n l ws came Was was (suc (count-in ws)) 0 (omega (arith, ok .bundle .size)) (ok .bundle .fields) (all-well n ws 1 (suc (count-in ws)) (ok .bundle .fields)) (ok .codes)
 
   abbrev both-ways : ℕ → Bool
   both-ways i = names-proposer ws (main-of ws .value) i && proposed l (main-of ws .question) (main-of ws .value) i
@@ -144,8 +145,16 @@ module _ (key : List ℕ) (n : ℕ) (l : List Entry) (ws : List ℕ) (came : Cod
   vote-named : main-of ws .kind ≡ kind-V → main-of ws .round ≡ 1 → main-of ws .value < none → backing n (main-of ws .value) ≤ count both-ways n
   vote-named k r low = vote-counts n (main-of ws) (certificate-of ws) both-ways k r low all-counted (ok .backed)
 
-pub first-votes : First-votes
-first-votes key n cs ws question v came F =
-    subst (λ (w : ℕ). backing n w ≤ count (λ i. names-proposer ws w i && proposed (log hmac-code key n cs) question w i) n) (F .value)
-    (subst (λ (q : ℕ). backing n (main-of ws .value) ≤ count (λ i. names-proposer ws (main-of ws .value) i && proposed (log hmac-code key n cs) q (main-of ws .value) i) n) (F .asked)
-    (vote-named key n (log hmac-code key n cs) ws came (check-exact key n ws .0 (F .valid)) (F .kind) (F .round) (omega (arith, F .value, F .bit))))
+pub first-votes-by : (mac : List ℕ → List ℕ → List ℕ) → First-votes mac
+first-votes-by mac key n cs ws question v came F =
+    subst (λ (w : ℕ). backing n w ≤ count (λ i. names-proposer ws w i && proposed (log mac key n cs) question w i) n) (F .value)
+    (subst (λ (q : ℕ). backing n (main-of ws .value) ≤ count (λ i. names-proposer ws (main-of ws .value) i && proposed (log mac key n cs) q (main-of ws .value) i) n) (F .asked)
+    (vote-named mac key n (log mac key n cs) ws came (found-valid (mac key) n ws (F .valid)) (F .kind) (F .round) (omega (arith, F .value, F .bit))))
+
+-- for HMAC-SHA-256, where valid is what the public check answers 0 to
+pub first-votes : First-votes hmac-code
+first-votes = first-votes-by hmac-code
+
+pub checked-valid : (key : List ℕ) (n : ℕ) (ws : List ℕ) → checked key n ws ≡ 0 → check-by (hmac-code key) n Any ws ≡ 0
+unfolding checked judged
+checked-valid key n ws h = h

@@ -10,7 +10,6 @@ use lib.Dec.{eqb, ltb}
 use lib.ListN.{length}
 use borrow.Author.Tests.{eq-eqb, ltb-false}
 use Rattle.laws.specs.Pick.{pick, skip}
-use Rattle.laws.specs.Bools.{never}
 use Rattle.laws.specs.Refusals.{first-failed}
 use Rattle.format.specs.Numbers.{none, kept, sent, sent-decided, closed-now, not-above, last-round}
 use Rattle.format.specs.Group.{quorum}
