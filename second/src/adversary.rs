@@ -5,8 +5,9 @@ use crate::group::{backing, quorum, LAST_ROUND, STATEMENT_WORDS};
 use crate::rng::Rng;
 use crate::script::Command;
 use crate::station::{set_of, StationWords, FIRST_START, HEARD_WORD, HELD_START, SECOND_START};
+use crate::station::{JUMP_WORD, STATION_WORDS};
 use crate::words::{head, Flag, Kind, Statement, NONE};
-use crate::world::{World, DAMAGED};
+use crate::world::{Jumps, World, DAMAGED};
 
 /// What a faulty site tries to be let through with: certificates that are nearly as the rules want
 /// them. A check that is not strict in one of these is found out by what follows.
@@ -236,13 +237,8 @@ impl World {
         let held = self.forged_held(site, like);
         let (first, second) = self.forged_groups(&like, &held);
         let own_flag = held.iter().find(|s| s.station == site).map(|s| s.flag);
-        let (stage, flag) = match (like.kind, own_flag) {
-            (Kind::Init, _) => (0, 0),
-            (Kind::P, Some(Flag::RGet)) => (1, 1),
-            (Kind::P, _) => (1, 0),
-            (Kind::V, _) => (2, 0),
-        };
-        let mut words = [0; crate::station::STATION_WORDS];
+        let (stage, flag) = stage_and_flag(like.kind, own_flag);
+        let mut words = [0; STATION_WORDS];
         let decision = self.rng.pick(&[0, 1, NONE, NONE]);
         let front = [
             self.n,
@@ -261,11 +257,13 @@ impl World {
             let slot = statement.station as usize - 1;
             put_slot(&mut words[HELD_START..], slot, statement);
         }
-        for (slot, statement) in first.iter().enumerate() {
-            put_slot(&mut words[FIRST_START..], slot, statement);
+        for (start, group) in [(FIRST_START, first), (SECOND_START, second)] {
+            for (slot, statement) in group.iter().enumerate() {
+                put_slot(&mut words[start..], slot, statement);
+            }
         }
-        for (slot, statement) in second.iter().enumerate() {
-            put_slot(&mut words[SECOND_START..], slot, statement);
+        if self.jumps != Jumps::Off {
+            words[JUMP_WORD] = self.rng.bit();
         }
         words
     }
@@ -372,9 +370,10 @@ impl World {
             .set(Command::Words(DAMAGED, at, other.words().to_vec()));
     }
 
-    /// Changes one word of a station so that it rarely fits.
+    /// Changes one word of a station so that it rarely fits; not the jump setting, of which a script
+    /// can hold no other than 0 and 1.
     pub fn damage_station(&mut self, words: &mut StationWords) {
-        let end = words.len();
+        let end = JUMP_WORD;
         let index = match self.rng.below(4) {
             0 => self.rng.pick(&[0, 1, 2, 7, HEARD_WORD]),
             1 => HELD_START + STATEMENT_WORDS * self.rng.below(self.n as usize),
@@ -386,6 +385,16 @@ impl World {
 }
 
 type Group = Vec<Statement>;
+
+/// The words of a stage and of its flag, from the kind of its statements and the own one's flag.
+fn stage_and_flag(kind: Kind, own: Option<Flag>) -> (u32, u32) {
+    match (kind, own) {
+        (Kind::Init, _) => (0, 0),
+        (Kind::P, Some(Flag::RGet)) => (1, 1),
+        (Kind::P, _) => (1, 0),
+        (Kind::V, _) => (2, 0),
+    }
+}
 
 fn put_slot(slots: &mut [u32], slot: usize, statement: &Statement) {
     let start = STATEMENT_WORDS * slot;

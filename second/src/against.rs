@@ -11,6 +11,7 @@
 use crate::author::Author;
 use crate::group::BUNDLE_WORDS;
 use crate::script::Command;
+use crate::station::JUMP_OFF;
 
 const SITES: usize = 3;
 const KEY: [u32; 8] = [0x0c01_0c01; 8];
@@ -46,7 +47,8 @@ impl Against {
             author.call(Command::Make(site, KEY, SITES as u32, site as u32 + 1));
             author.set(Command::Fill(output, BUNDLE_WORDS, 0));
             author.set(Command::Fill(output + 1, BUNDLE_WORDS, 0));
-            let opened = author.call(Command::Open(site, site, QUESTION, value, output));
+            let open = Command::Open(site, site, QUESTION, value, JUMP_OFF, output);
+            let opened = author.call(open);
             author.set(Command::Length(output, opened.count));
         }
         Against {

@@ -13,7 +13,8 @@ use crate::hmac::code;
 use crate::returns::is_refusal;
 use crate::script::{Command, LAST_STEP, MODULES};
 use crate::sealed::Module;
-use crate::station::{fits, refused_station, step_and_decision, StationWords, STATION_WORDS};
+use crate::station::{fits, refused_station, step_and_decision, StationWords, JUMP_ON};
+use crate::station::{JUMP_WORD, STATION_WORDS};
 use crate::words::{Bundle, Flag, Statement, Step, NONE};
 use crate::world::{Message, World, AIR_BUFFERS, ASIDE, SPARE_OUTPUT};
 
@@ -148,22 +149,27 @@ impl World {
     }
 
     /// A giving by hand: a station of any stage, with statements held and groups kept, and a bundle
-    /// that is mostly of its step.
+    /// that is mostly of its step; else of any other, and mostly of its question.
     fn made_setup(&mut self) -> Setup {
         let (site, other) = (self.any_site(), self.any_site());
         let main = self.any_statement(other);
-        let mut own = match self.rng.percent(12) {
+        let mut own = match self.rng.percent(30) {
             true => self.any_statement(site),
             false => main,
         };
+        if self.rng.percent(85) {
+            own.question = main.question;
+        }
         if own.value != NONE && self.rng.percent(20) {
             own.value = 1 - own.value;
         }
         self.by_hand = true;
-        let station = self.forge_station(site, own);
+        let mut station = self.forge_station(site, own);
         self.by_hand = false;
+        station[JUMP_WORD] = self.rng.bit();
         let mut module = self.module(site);
-        module.last = self.last_near(own.question, own.step());
+        let coded = self.rng.pick(&[own, own, main]);
+        module.last = self.last_near(coded.question, coded.step());
         Setup {
             module,
             station,
@@ -209,7 +215,7 @@ impl World {
 
     /// Puts a fault into one part of a giving, or something that is none.
     fn put_fault(&mut self, setup: &mut Setup) {
-        match self.rng.below(8) {
+        match self.rng.below(9) {
             0 => setup.coin = self.rng.pick(&[2, 3, 256, u32::MAX]),
             1 => setup.output = self.any_length(),
             2 => self.change_module(&mut setup.module),
@@ -217,6 +223,7 @@ impl World {
             4 => self.change_station(setup),
             5 => self.change_state(&mut setup.station),
             6 => self.recode(&mut setup.given),
+            7 => setup.station[JUMP_WORD] ^= JUMP_ON,
             _ => self.rearrange(&mut setup.given),
         }
     }
@@ -334,8 +341,10 @@ impl World {
         let length = self.any_length();
         let question = self.any_question();
         let proposal = self.rng.pick(&[0, 1, 0, 1, 0, 1, 2, 3, u32::MAX]);
+        let jump = self.rng.pick(&[0, 1, 0, 1, 0, 1, 2, 3, u32::MAX]);
         self.author.set(Command::Fill(OUTPUT, length, 0xa5));
-        self.call_aside(Command::Open(MODULE, STATION, question, proposal, OUTPUT));
+        let open = Command::Open(MODULE, STATION, question, proposal, jump, OUTPUT);
+        self.call_aside(open);
         if let (Some(message), true) = (self.any_message(), self.rng.percent(30)) {
             self.give_aside(message.buffer);
         }
@@ -446,12 +455,14 @@ impl World {
         }
     }
 
-    /// Gives the station beside the list a further bundle of its step, made by hand.
+    /// Gives the station beside the list a further bundle, made by hand: of its step, or one that is a
+    /// little later.
     fn go_on_aside(&mut self, push: u32) {
         let station = *self.station(STATION);
-        let step = step_and_decision(&station).0;
+        let later = self.rng.pick(&[0, 0, 0, 0, 0, 1, 2, 3]);
+        let step = (step_and_decision(&station).0 .0 + later).min(LAST_STEP);
         let who = (self.any_site(), station[2]);
-        let main = random_statement(&mut self.rng, self.n, who, step.0, push);
+        let main = random_statement(&mut self.rng, self.n, who, step, push);
         let words = self.made_bundle(main).words();
         self.author.put_all(GIVEN, &words);
         self.give_aside(GIVEN);

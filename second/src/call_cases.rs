@@ -1,9 +1,11 @@
 //! Scripts of calls: each call with each number that it can return, the marked cases, the edges,
-//! the order of the tests, and random lists. Where 01 fixes a number it is stated here by hand.
+//! the order of the tests, and random lists; all with jump off. Stations that jump follow behind them
+//! (`jump_cases.rs`). Where 01 fixes a number it is stated here by hand.
 
 use crate::author::Author;
 use crate::fit_cases::fit_cases;
 use crate::group::{backing, quorum, BUNDLE_WORDS, LAST_ROUND, MOST_CERTIFICATE, STATEMENT_WORDS};
+use crate::jump_cases::jump_cases;
 use crate::random::{one_list, List};
 use crate::samples::{
     both_values, bundle, init, inits, module, none_votes, p, proposals, some, station, v,
@@ -11,15 +13,16 @@ use crate::samples::{
 use crate::samples::{D, KEY, QUESTION, R};
 use crate::script::{Command, Report, LAST_STEP};
 use crate::sealed::{Module, MODULE_WORDS};
-use crate::station::{StationWords, FIRST_START, SECOND_START};
+use crate::station::{StationWords, FIRST_START, JUMP_OFF, SECOND_START};
 use crate::words::{Bundle, Flag, Kind, Statement, NONE};
+use crate::world::Jumps;
 
 /// Registers: what a call takes, what it is made from, and the lent output.
-const USED: usize = 0;
+pub const USED: usize = 0;
 const BASE: usize = 1;
-const OUTPUT: usize = 2;
+pub const OUTPUT: usize = 2;
 /// What lent words hold before a call.
-const BACKGROUND: u32 = 0xa5;
+pub const BACKGROUND: u32 = 0xa5;
 
 /// All that a giving takes.
 #[derive(Clone)]
@@ -91,7 +94,7 @@ impl Calls {
     }
 
     /// Puts a base and gives by it.
-    fn try_once(&mut self, name: &str, setup: &Setup, expected: u32) -> Report {
+    pub fn try_once(&mut self, name: &str, setup: &Setup, expected: u32) -> Report {
         self.base(name, setup);
         self.give(setup, Some(expected))
     }
@@ -253,34 +256,45 @@ impl Calls {
                         (_, _, Some((QUESTION, _))) => 12,
                         _ => 20,
                     };
-                    self.open(&module(4, 2, last), QUESTION, proposal, length, expected);
+                    let opening = (QUESTION, proposal, JUMP_OFF);
+                    self.open(&module(4, 2, last), opening, length, expected);
                 }
             }
         }
         for (n, number) in [(1, 1), (32, 1), (4, 0), (4, 5), (0, 0), (u32::MAX, 1)] {
-            self.open(&module(n, number, None), QUESTION, 0, 331, 2);
-            self.open(&module(n, number, None), QUESTION, 0, 330, 1);
+            self.open(&module(n, number, None), (QUESTION, 0, JUMP_OFF), 331, 2);
+            self.open(&module(n, number, None), (QUESTION, 0, JUMP_OFF), 330, 1);
         }
         for (n, number) in [(2, 1), (2, 2), (31, 1), (31, 31), (7, 4)] {
-            self.open(&module(n, number, None), 0, 1, 331, 20);
-            self.open(&module(n, number, None), u32::MAX, 0, 331, 20);
+            self.open(&module(n, number, None), (0, 1, JUMP_OFF), 331, 20);
+            self.open(&module(n, number, None), (u32::MAX, 0, JUMP_OFF), 331, 20);
         }
         for last in [(0, 0), (0, 4), (1, 0), (u32::MAX, 131_071)] {
-            self.open(&module(4, 1, Some(last)), 0, 1, 331, 12);
+            self.open(&module(4, 1, Some(last)), (0, 1, JUMP_OFF), 331, 12);
         }
     }
 
-    fn open(&mut self, module: &Module, question: u32, proposal: u32, length: usize, number: u32) {
+    /// Opens on a question with a proposal and a jump setting.
+    pub fn open(
+        &mut self,
+        module: &Module,
+        opening: (u32, u32, u32),
+        length: usize,
+        number: u32,
+    ) -> Report {
+        let (question, proposal, jump) = opening;
         self.raw(module.words());
         self.author.set(Command::Fill(OUTPUT, length, BACKGROUND));
-        let command = Command::Open(USED, USED, question, proposal, OUTPUT);
-        assert_eq!(self.author.call(command).number, number);
+        let command = Command::Open(USED, USED, question, proposal, jump, OUTPUT);
+        let report = self.author.call(command);
+        assert_eq!(report.number, number);
+        report
     }
 }
 
 // ---- setups of every stage ----------------------------------------------------------------
 
-fn vote_bundle(n: u32, from: u32, round: u32, value: u32) -> Bundle {
+pub fn vote_bundle(n: u32, from: u32, round: u32, value: u32) -> Bundle {
     let groups = match (value, round) {
         (NONE, 1) => vec![both_values(n, 1, &[D], true)],
         (NONE, _) => vec![
@@ -294,11 +308,11 @@ fn vote_bundle(n: u32, from: u32, round: u32, value: u32) -> Bundle {
     bundle(v(from, round, value), &groups)
 }
 
-fn first_proposal(n: u32, from: u32, value: u32) -> Bundle {
+pub fn first_proposal(n: u32, from: u32, value: u32) -> Bundle {
     bundle(p(from, 1, value, D), &[inits(n, value, true)])
 }
 
-fn later_proposal(n: u32, from: u32, round: u32, value: u32, flag: Flag) -> Bundle {
+pub fn later_proposal(n: u32, from: u32, round: u32, value: u32, flag: Flag) -> Bundle {
     let group = match flag {
         Flag::DGet => proposals(n, round - 1, value, &[D, R], true),
         Flag::RGet => none_votes(n, round - 1, true),
@@ -307,7 +321,7 @@ fn later_proposal(n: u32, from: u32, round: u32, value: u32, flag: Flag) -> Bund
 }
 
 /// Whose bundle is given to station 2: the last station's, or at n 2 the first's.
-fn giver(n: u32) -> u32 {
+pub fn giver(n: u32) -> u32 {
     if n == 2 {
         1
     } else {
@@ -834,20 +848,26 @@ impl Calls {
 // ---- the order of the tests ---------------------------------------------------------------
 
 /// A fault in what a giving takes, by the number that it is refused by.
-const FAULTS: [u32; 12] = [1, 2, 11, 3, 4, 5, 6, 7, 8, 9, 10, 12];
+pub const FAULTS: [u32; 12] = [1, 2, 11, 3, 4, 5, 6, 7, 8, 9, 10, 12];
 
 /// A giving to a station voting in round 2, with these faults; none where they exclude one
 /// another.
 fn with_faults(faults: &[u32], unfit: usize) -> Option<Setup> {
     let has = |number| faults.contains(&number);
-    let kept = proposals(4, 2, 0, &[R], true);
-    let words = station(4, v(2, 2, 0), &[v(3, 2, NONE)], [&kept, &[]]);
     let round = match (has(7), has(8)) {
         (true, true) => return None,
         (true, false) => 1,
         (false, true) => 3,
         (false, false) => 2,
     };
+    Some(faulty_giving(faults, unfit, round))
+}
+
+/// A giving of a vote of this round to a station voting in round 2, with these faults beside it.
+pub fn faulty_giving(faults: &[u32], unfit: usize, round: u32) -> Setup {
+    let has = |number| faults.contains(&number);
+    let kept = proposals(4, 2, 0, &[R], true);
+    let words = station(4, v(2, 2, 0), &[v(3, 2, NONE)], [&kept, &[]]);
     let from = if has(9) { 3 } else { 1 };
     let mut given = vote_bundle(4, from, round, u32::from(has(10)));
     if has(6) {
@@ -865,7 +885,20 @@ fn with_faults(faults: &[u32], unfit: usize) -> Option<Setup> {
     if has(2) {
         add_fault_2(&mut setup, unfit);
     }
-    Some(setup)
+    setup
+}
+
+/// Each fault alone, and each two and three of them together.
+pub fn fault_sets() -> Vec<Vec<u32>> {
+    let mut sets = Vec::new();
+    for (i, a) in FAULTS.iter().enumerate() {
+        sets.push(vec![*a]);
+        for (j, b) in FAULTS.iter().enumerate().skip(i + 1) {
+            sets.push(vec![*a, *b]);
+            sets.extend(FAULTS[j + 1..].iter().map(|c| vec![*a, *b, *c]));
+        }
+    }
+    sets
 }
 
 /// The faults that are put into words, module and output.
@@ -908,15 +941,7 @@ impl Calls {
         let base = with_faults(&[], 0).expect("nothing excludes");
         self.base("the order of the tests", &base);
         self.give(&base, Some(20));
-        let mut sets: Vec<Vec<u32>> = Vec::new();
-        for (i, a) in FAULTS.iter().enumerate() {
-            sets.push(vec![*a]);
-            for (j, b) in FAULTS.iter().enumerate().skip(i + 1) {
-                sets.push(vec![*a, *b]);
-                sets.extend(FAULTS[j + 1..].iter().map(|c| vec![*a, *b, *c]));
-            }
-        }
-        for (i, faults) in sets.iter().enumerate() {
+        for (i, faults) in fault_sets().iter().enumerate() {
             // a conflict or a second hearing is none in another step
             if let Some(setup) = with_faults(faults, i % 6) {
                 self.give(&setup, Some(faults[0]));
@@ -1094,25 +1119,31 @@ impl Calls {
         for (n, count, turns) in lists {
             for seed in 0..count {
                 let all_faulty = seed + 1 == count;
-                self.random_list(n, 1_000 * n as u64 + seed, all_faulty, turns);
+                self.random_list(off_list(n, 1_000 * n as u64 + seed, all_faulty, turns));
             }
         }
-        self.random_list(31, 31_000, false, 700);
-        self.random_list(31, 31_001, true, 60);
+        self.random_list(off_list(31, 31_000, false, 700));
+        self.random_list(off_list(31, 31_001, true, 60));
     }
 
-    fn random_list(&mut self, n: u32, seed: u64, all_faulty: bool, turns: usize) {
-        self.author.comment(&format!("a random list at n {n}"));
+    pub fn random_list(&mut self, list: List) {
+        self.author
+            .comment(&format!("a random list at n {}", list.n));
         let author = std::mem::take(&mut self.author);
-        let list = List {
-            n,
-            seed,
-            all_faulty,
-            turns,
-            asides: 0,
-        };
         let (author, _) = one_list(list, author).expect("all holds");
         self.author = author;
+    }
+}
+
+/// A list in which no station jumps.
+fn off_list(n: u32, seed: u64, all_faulty: bool, turns: usize) -> List {
+    List {
+        n,
+        seed,
+        all_faulty,
+        jumps: Jumps::Off,
+        turns,
+        asides: 0,
     }
 }
 
@@ -1169,5 +1200,6 @@ pub fn calls(author: Author) -> Author {
     calls.first_vote_order();
     calls.without_kept_inits();
     calls.random_lists();
+    jump_cases(&mut calls);
     calls.author
 }

@@ -364,22 +364,22 @@ pub fn fit_cases(calls: &mut Calls) {
             some && *number != 10
         });
         for (_, (name, setup, number)) in chosen {
-            fit_cases_of(calls, name, setup, *number);
+            fit_cases_of(calls, name, setup, *number, true);
         }
     }
     let chosen: [(u32, &[usize]); 4] = [(2, &[0, 6]), (4, &[2, 5, 18]), (6, &[0, 10]), (31, &[2])];
     for (n, places) in chosen {
         let all = first_rounds(n);
         for one in places.iter().map(|i| &all[*i]) {
-            fit_cases_of(calls, &one.name, &one.setup, 20);
+            fit_cases_of(calls, &one.name, &one.setup, 20, true);
         }
     }
 }
 
 /// One station with each of the changes.
-fn fit_cases_of(calls: &mut Calls, name: &str, setup: &Setup, number: u32) {
+pub fn fit_cases_of(calls: &mut Calls, name: &str, setup: &Setup, number: u32, every_bit: bool) {
     calls.base(&format!("fit, {name}"), setup);
-    for (station, expected) in changes(setup, number, true) {
+    for (station, expected) in changes(setup, number, every_bit) {
         let mut changed = setup.clone();
         changed.station = station;
         calls.give(&changed, expected);

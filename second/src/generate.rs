@@ -8,6 +8,7 @@ use crate::bundle_cases::bundles;
 use crate::call_cases::calls;
 use crate::group_simulation;
 use crate::hmac::{bytes_of, hmac};
+use crate::lossy_host;
 use crate::sha256::sha256;
 use crate::small_host;
 use crate::valley_cases::valleys;
@@ -29,6 +30,7 @@ pub fn files() -> Vec<(&'static str, Vec<u8>)> {
     vec![
         ("crates/hash_vectors/stdout", hashes().into_bytes()),
         ("crates/small_host/stdout", small_host::run().into_bytes()),
+        ("crates/lossy_host/stdout", lossy_host::run().into_bytes()),
         ("crates/group_simulation/stdin", GROUP_SIMULATION.to_vec()),
         (
             "crates/group_simulation/stdout",

@@ -10,7 +10,7 @@ use crate::group::BUNDLE_WORDS;
 use crate::hmac::Key;
 use crate::returns::{is_refusal, CLOSED_NOW, DECIDED, OTHER_QUESTION, SENT, STEP_BELOW};
 use crate::sealed::{make, Module};
-use crate::station::{give, open, StationWords, STATION_WORDS};
+use crate::station::{give, open, StationWords, JUMP_OFF, STATION_WORDS};
 use crate::status::status;
 use crate::words::{Bundle, Step, NONE};
 
@@ -107,7 +107,7 @@ impl Site {
             return;
         }
         let mut lent = [0; BUNDLE_WORDS];
-        let (answer, station) = open(&mut self.own, question, value, &mut lent);
+        let (answer, station) = open(&mut self.own, question, value, JUMP_OFF, &mut lent);
         if answer.number != SENT {
             counts.refused += 1;
             return;

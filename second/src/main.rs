@@ -7,13 +7,14 @@ use std::process::ExitCode;
 use second::group::LAST_ROUND;
 use second::random::{many_lists, missing};
 use second::returns::TABLE;
+use second::world::{Counts, JUMP_KINDS};
 
 const USAGE: &str = "second run FILE | valley | random [--seed S] [--runs N] | generate [DIR] \
                      | script --seed S --calls N DIR | script --against ROUNDS DIR";
 
 /// The fixed seed and number of lists of the random tester.
 const SEED: u64 = 20_181_217;
-const RUNS: u64 = 2_800;
+const RUNS: u64 = 4_200;
 
 fn run_script(path: &str) -> Result<(), String> {
     let bytes = std::fs::read(path).map_err(|error| format!("{path}: {error}"))?;
@@ -53,26 +54,38 @@ fn run_random(arguments: &[String]) -> Result<(), String> {
     let runs = option(arguments, "--runs", RUNS)?;
     let counts = many_lists(seed, runs)?;
     println!("seed {seed}, {runs} lists, {} calls", counts.calls);
-    for number in TABLE {
-        let count = counts.returned.get(&number).unwrap_or(&0);
-        println!("returned {number:2}: {count}");
-    }
-    println!("10 at a forged station: {}", counts.forged_conflicts);
-    println!("bundles of sound sites: {}", counts.sound_bundles);
-    println!("R-GET proposals of sound sites: {}", counts.tosses);
-    println!("decisions of sound sites: {}", counts.decisions);
-    println!("deepest round of a sound site: {}", counts.deepest_round);
-    println!("valid first votes for 0 or 1: {}", counts.first_votes);
-    println!("those that sound sites wrote: {}", counts.sound_first_votes);
-    println!("refused without their INITs: {}", counts.without_inits);
-    let missing = missing(&counts);
+    print_counts(&counts);
+    let (missing, never) = (missing(&counts), counts.never_jumped_onto());
     if !missing.is_empty() || counts.forged_conflicts == 0 {
         return Err(format!("never returned: {missing:?}"));
+    }
+    if !never.is_empty() {
+        return Err(format!("no sound site jumped onto: {never:?}"));
     }
     match counts.looked_at_first_votes() {
         true => Ok(()),
         false => Err("no first votes to look at".to_string()),
     }
+}
+
+fn print_counts(counts: &Counts) {
+    for number in TABLE {
+        let count = counts.returned.get(&number).unwrap_or(&0);
+        println!("returned {number:2}: {count}");
+    }
+    for (kind, count) in JUMP_KINDS.iter().zip(counts.jumps) {
+        println!("23 at sound sites, onto {kind}: {count}");
+    }
+    println!("10 at a forged station: {}", counts.forged_conflicts);
+    println!("bundles of sound sites: {}", counts.sound_bundles);
+    println!("R-GET proposals of sound sites: {}", counts.tosses);
+    println!("decisions of sound sites: {}", counts.decisions);
+    println!("with jump off, and so backed: {}", counts.backed_decisions);
+    println!("with jump on and not backed: {}", counts.unbacked_decisions);
+    println!("deepest round of a sound site: {}", counts.deepest_round);
+    println!("valid first votes for 0 or 1: {}", counts.first_votes);
+    println!("those that sound sites wrote: {}", counts.sound_first_votes);
+    println!("refused without their INITs: {}", counts.without_inits);
 }
 
 fn write_seeded(seed: &str, calls: &str, directory: &str) -> Result<(), String> {

@@ -9,7 +9,8 @@ use crate::script::Command;
 use crate::sealed::Module;
 use crate::station::{give, step_and_decision};
 use crate::words::{Bundle, Flag, Kind, Statement, Step, NONE};
-use crate::world::{Counts, Message, World, COPIES, DAMAGED, FORGED, SHORT, SPARE_OUTPUT};
+use crate::world::{Counts, Jumps, Message, World, JUMPS};
+use crate::world::{COPIES, DAMAGED, FORGED, SHORT, SPARE_OUTPUT};
 
 /// The group sizes tried, in turn.
 const SIZES: [u32; 7] = [2, 3, 4, 5, 6, 7, 31];
@@ -29,6 +30,8 @@ struct Manner {
     loose: Loose,
     /// The value that they propose and push, mostly.
     push: u32,
+    /// How often, in a hundred, a sound site gets a bundle of a later step, where some site jumps.
+    ahead: usize,
 }
 
 /// What makes a list of calls.
@@ -37,6 +40,8 @@ pub struct List {
     pub n: u32,
     pub seed: u64,
     pub all_faulty: bool,
+    /// Which jump settings the openings have. With all off a list is what it was without the setting.
+    pub jumps: Jumps,
     pub turns: usize,
     /// How many turns in a hundred are calls beside the list.
     pub asides: usize,
@@ -74,10 +79,14 @@ impl Run {
             further: rng.pick(&[0, 0, 2, 10]),
             loose: rng.pick(&LOOSE),
             push: rng.bit(),
+            ahead: match list.jumps {
+                Jumps::Off => 0,
+                Jumps::On | Jumps::Mixed => rng.pick(&[2, 10, 30]),
+            },
         };
         let base_question = rng.pick(&[0, 1, 7, u32::MAX - 2, 1 << 31]);
         Run {
-            world: World::new(list.n, faulty, rng, author),
+            world: World::new(list.n, faulty, list.jumps, rng, author),
             manner,
             base_question,
             asides: list.asides,
@@ -140,8 +149,9 @@ impl Run {
             true => u32::from(one),
             false => self.manner.push,
         };
+        let jump = self.world.any_jump();
         let output = self.world.output();
-        self.world.open(site, question, proposal, output);
+        self.world.open(site, (question, proposal, jump), output);
     }
 
     /// Opens on the question that follows the site's last.
@@ -194,6 +204,11 @@ impl Run {
     fn choose(&mut self, register: usize) -> Option<Message> {
         let words = *self.world.station(register);
         let step = step_and_decision(&words).0;
+        if self.manner.ahead > 0 && self.world.rng.percent(self.manner.ahead) {
+            if let Some(later) = self.choose_later(words[2], step) {
+                return Some(later);
+            }
+        }
         let of_step = |m: &&Message| m.main.question == words[2] && m.main.step() == step;
         let new = |m: &&Message| words[8] >> (m.main.station - 1) & 1 == 0;
         let messages = &self.world.messages;
@@ -220,6 +235,16 @@ impl Run {
         Some(self.world.rng.pick(&fit))
     }
 
+    /// A message of a question and of a later step, if there is one.
+    fn choose_later(&mut self, question: u32, step: Step) -> Option<Message> {
+        let messages = self.world.messages.iter();
+        let later: Vec<Message> = messages
+            .filter(|m| m.main.question == question && m.main.step() > step)
+            .copied()
+            .collect();
+        (!later.is_empty()).then(|| self.world.rng.pick(&later))
+    }
+
     /// Keeps a copy of a station as it is now, to hand it in when it is stale.
     fn keep_copy(&mut self, register: usize) {
         let copies: Vec<usize> = COPIES.collect();
@@ -236,12 +261,10 @@ impl Run {
         let any = self.world.rng.below(self.world.messages.len().max(1));
         let given = self.world.messages.get(any).map_or(DAMAGED, |m| m.buffer);
         match self.world.rng.below(8) {
-            0 => {
-                let proposal = self.world.rng.pick(&[2, 3, u32::MAX]);
-                self.world.open(site, u32::MAX, proposal, output);
-            }
+            0 => self.refused_opening(site, output),
             1 => {
-                self.world.open(site, self.base_question, 0, SHORT);
+                let jump = self.world.any_jump();
+                self.world.open(site, (self.base_question, 0, jump), SHORT);
             }
             2 => self.open(site, self.base_question),
             3 => {
@@ -256,6 +279,17 @@ impl Run {
             5 => self.refused_coding(site),
             _ => self.refused_giving(site, given, output),
         }
+    }
+
+    /// An opening with a proposal out of range or, where some site jumps, with such a setting.
+    fn refused_opening(&mut self, site: u32, output: usize) {
+        let wrong = self.world.rng.pick(&[2, 3, u32::MAX]);
+        let some_jump = self.world.jumps != Jumps::Off;
+        let opening = match some_jump && self.world.rng.percent(50) {
+            true => (u32::MAX, 0, wrong),
+            false => (u32::MAX, wrong, self.world.any_jump()),
+        };
+        self.world.open(site, opening, output);
     }
 
     fn any_faulty(&self) -> bool {
@@ -555,6 +589,11 @@ fn add(total: &mut Counts, one: &Counts) {
     total.first_votes += one.first_votes;
     total.sound_first_votes += one.sound_first_votes;
     total.without_inits += one.without_inits;
+    for (total, one) in total.jumps.iter_mut().zip(one.jumps) {
+        *total += one;
+    }
+    total.backed_decisions += one.backed_decisions;
+    total.unbacked_decisions += one.unbacked_decisions;
 }
 
 /// Runs so many lists from a seed on. Answers the counts, or the first failure with the list's
@@ -563,10 +602,12 @@ pub fn many_lists(seed: u64, lists: u64) -> Result<Counts, String> {
     let mut total = Counts::default();
     for i in 0..lists {
         let n = SIZES[(i % SIZES.len() as u64) as usize];
+        let turn = i / SIZES.len() as u64;
         let list = List {
             n,
             seed: seed.wrapping_mul(1_000_003).wrapping_add(i),
-            all_faulty: i / SIZES.len() as u64 % 5 == 4,
+            all_faulty: turn % 5 == 4,
+            jumps: JUMPS[(turn % JUMPS.len() as u64) as usize],
             turns: if n == 31 { 2500 } else { 150 * n as usize },
             asides: 0,
         };

@@ -3,7 +3,7 @@
 use crate::group::{backing, quorum};
 use crate::hmac::Key;
 use crate::sealed::Module;
-use crate::station::{Stage, Station, StationWords};
+use crate::station::{Stage, Station, StationWords, JUMP_ON, JUMP_WORD};
 use crate::words::{Bundle, Flag, Kind, Statement, Step, NONE};
 
 pub const KEY: Key = [
@@ -84,7 +84,8 @@ pub fn module(n: u32, number: u32, last: Option<(u32, u32)>) -> Module {
     }
 }
 
-/// A station in the step of its own statement, with others held and the kept groups given.
+/// A station in the step of its own statement, with others held and the kept groups given. Its jump
+/// setting is off.
 pub fn station(
     n: u32,
     own: Statement,
@@ -103,6 +104,13 @@ pub fn station(
         held,
         first: groups[0].to_vec(),
         second: groups[1].to_vec(),
+        jump: false,
     }
     .words()
+}
+
+/// The same station with its jump setting on.
+pub fn jumping(mut words: StationWords) -> StationWords {
+    words[JUMP_WORD] = JUMP_ON;
+    words
 }

@@ -5,7 +5,7 @@ use crate::check::check;
 use crate::group::LAST_ROUND;
 use crate::hmac::Key;
 use crate::sealed::{code_coin, code_plain, make, Module, MODULE_WORDS};
-use crate::station::{give, open, StationWords, STATION_WORDS};
+use crate::station::{give, open, StationWords, JUMP_ON, JUMP_WORD, STATION_WORDS};
 
 pub const MODULES: usize = 32;
 pub const STATIONS: usize = 64;
@@ -48,8 +48,8 @@ pub enum Command {
     Length(usize, usize),
     /// `make M K0 .. K7 N I`: makes a module.
     Make(usize, Key, u32, u32),
-    /// `open M S Q V O`: opens a station; buffer O is lent.
-    Open(usize, usize, u32, u32, usize),
+    /// `open M S Q V J O`: opens a station with jump setting J; buffer O is lent.
+    Open(usize, usize, u32, u32, u32, usize),
     /// `plain M B`: codes buffer B the plain way.
     Plain(usize, usize),
     /// `raw M W0 .. W12`: the words of module M.
@@ -120,7 +120,9 @@ impl Command {
             Command::Keep(s, from) => format!("keep {s:x} {from:x}\n"),
             Command::Length(b, l) => format!("length {b:x} {l:x}\n"),
             Command::Make(m, key, n, i) => format!("make {m:x}{} {n:x} {i:x}\n", hex(key)),
-            Command::Open(m, s, q, v, o) => format!("open {m:x} {s:x} {q:x} {v:x} {o:x}\n"),
+            Command::Open(m, s, q, v, j, o) => {
+                format!("open {m:x} {s:x} {q:x} {v:x} {j:x} {o:x}\n")
+            }
             Command::Plain(m, b) => format!("plain {m:x} {b:x}\n"),
             Command::Raw(m, words) => format!("raw {m:x}{}\n", hex(words)),
             Command::Station(s, i, words) => format!("station {s:x} {i:x}{}\n", hex(words)),
@@ -217,7 +219,9 @@ fn read_call(keyword: &str, numbers: &[u32]) -> Option<Command> {
             Command::Give(module(m)?, station(s)?, buffer(b)?, c, buffer(o)?)
         }
         ("make", &[m, ref key @ .., n, i]) => Command::Make(module(m)?, key.try_into().ok()?, n, i),
-        ("open", &[m, s, q, v, o]) => Command::Open(module(m)?, station(s)?, q, v, buffer(o)?),
+        ("open", &[m, s, q, v, j, o]) => {
+            Command::Open(module(m)?, station(s)?, q, v, j, buffer(o)?)
+        }
         ("plain", &[m, b]) => Command::Plain(module(m)?, buffer(b)?),
         ("toss", &[m, b, c]) => Command::Toss(module(m)?, buffer(b)?, c),
         _ => return None,
@@ -262,10 +266,10 @@ fn is_module(words: &[u32; MODULE_WORDS]) -> bool {
     }
 }
 
-/// Whether the words of a stage and the closed word are those of a station.
+/// Whether the words of a stage, the closed word and the jump setting are those of a station.
 fn is_station(words: &StationWords) -> bool {
     let is_stage = matches!(words[3..6], [0, 0, 0] | [1, _, 0] | [1, _, 1] | [2, _, 0]);
-    is_stage && words[6] <= 1
+    is_stage && words[6] <= 1 && words[JUMP_WORD] <= JUMP_ON
 }
 
 /// The registers that a call may change: module, station, lent buffer.
@@ -287,7 +291,7 @@ impl Machine {
     pub fn carry_out(&mut self, command: &Command) -> Option<Report> {
         let touched: Touched = match *command {
             Command::Check(_, b) => (None, None, Some(b)),
-            Command::Give(m, s, _, _, o) | Command::Open(m, s, _, _, o) => {
+            Command::Give(m, s, _, _, o) | Command::Open(m, s, _, _, _, o) => {
                 (Some(m), Some(s), Some(o))
             }
             Command::Make(m, ..) => (Some(m), None, None),
@@ -353,10 +357,10 @@ impl Machine {
                 self.modules[m] = module.words();
                 (returned, 0)
             }
-            Command::Open(m, s, question, proposal, o) => self.with_module(m, |machine, module| {
+            Command::Open(m, s, q, v, jump, o) => self.with_module(m, |machine, module| {
                 let lent = &mut machine.buffers[o];
                 let lent = &mut lent.words[..lent.length];
-                let (answer, station) = open(module, question, proposal, lent);
+                let (answer, station) = open(module, q, v, jump, lent);
                 machine.stations[s] = station;
                 (answer.number, answer.count)
             }),

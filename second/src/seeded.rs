@@ -8,12 +8,13 @@ use crate::author::Author;
 use crate::random::{one_list, List};
 use crate::rng::Rng;
 use crate::script::is_call;
+use crate::world::JUMPS;
 
 /// The sizes of the groups, in turn; 0 stands for any other.
 const SIZES: [u32; 8] = [2, 3, 4, 5, 6, 7, 31, 0];
 
-/// A random list at the next size: sound and faulty sites, or faulty ones alone, with calls beside
-/// them.
+/// A random list at the next size: sound and faulty sites, or faulty ones alone, with jump off, on or
+/// both, and with calls beside them.
 fn any_list(rng: &mut Rng, place: usize) -> List {
     let n = match SIZES[place % SIZES.len()] {
         0 => 8 + rng.below(23) as u32,
@@ -23,6 +24,7 @@ fn any_list(rng: &mut Rng, place: usize) -> List {
         n,
         seed: rng.draw(),
         all_faulty: rng.percent(25),
+        jumps: rng.pick(&JUMPS),
         turns: (10 + rng.below(90)) * (n as usize).min(10),
         asides: 45,
     }

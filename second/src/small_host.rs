@@ -6,7 +6,7 @@ use crate::group::BUNDLE_WORDS;
 use crate::hmac::Key;
 use crate::returns::{DECIDED, KEPT, SENT, STEP_BELOW};
 use crate::sealed::{make, Module};
-use crate::station::{give, open, StationWords};
+use crate::station::{give, open, StationWords, JUMP_OFF};
 use crate::status::status;
 use crate::words::{Bundle, Step, NONE};
 
@@ -39,7 +39,7 @@ fn step_of(words: &[u32]) -> Step {
 fn start(n: u32, number: u32, proposal: u32) -> (Site, u32, u32) {
     let (made, mut own) = make(&KEY, n, number);
     let mut lent = [0; BUNDLE_WORDS];
-    let (answer, station) = open(&mut own, QUESTION, proposal, &mut lent);
+    let (answer, station) = open(&mut own, QUESTION, proposal, JUMP_OFF, &mut lent);
     let bundles = vec![lent[..answer.count].to_vec()];
     let site = Site {
         own,

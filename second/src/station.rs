@@ -6,7 +6,7 @@ use crate::group::{
     STATEMENT_WORDS,
 };
 use crate::returns::{
-    CLOSED, CLOSED_NOW, CONFLICT, DECIDED, HEARD, KEPT, NOT_ABOVE, OUT_OF_RANGE, SENT,
+    CLOSED, CLOSED_NOW, CONFLICT, DECIDED, HEARD, JUMPED, KEPT, NOT_ABOVE, OUT_OF_RANGE, SENT,
     SHORT_OUTPUT, STEP_ABOVE, STEP_BELOW,
 };
 use crate::sealed::Module;
@@ -17,7 +17,12 @@ pub const HEARD_WORD: usize = 8;
 pub const HELD_START: usize = 9;
 pub const FIRST_START: usize = HELD_START + STATEMENT_WORDS * MOST_SITES as usize;
 pub const SECOND_START: usize = FIRST_START + STATEMENT_WORDS * GROUP_SLOTS;
-pub const STATION_WORDS: usize = SECOND_START + STATEMENT_WORDS * GROUP_SLOTS;
+pub const JUMP_WORD: usize = SECOND_START + STATEMENT_WORDS * GROUP_SLOTS;
+pub const STATION_WORDS: usize = JUMP_WORD + 1;
+
+/// Job 3 of 02: "Opening gains a setting, jump off (0) or on (1)."
+pub const JUMP_OFF: u32 = 0;
+pub const JUMP_ON: u32 = 1;
 
 /// The words of a station at the edge.
 pub type StationWords = [u32; STATION_WORDS];
@@ -93,6 +98,8 @@ pub struct Station {
     pub held: Vec<Statement>,
     pub first: Vec<Statement>,
     pub second: Vec<Statement>,
+    /// Whether a bundle of a later step makes it enter that step.
+    pub jump: bool,
 }
 
 /// A station whose words fit a module.
@@ -139,12 +146,14 @@ impl Station {
             words[start..start + STATEMENT_WORDS].copy_from_slice(&statement.words());
         }
         put_group(&mut words[FIRST_START..SECOND_START], &self.first);
-        put_group(&mut words[SECOND_START..], &self.second);
+        put_group(&mut words[SECOND_START..JUMP_WORD], &self.second);
+        words[JUMP_WORD] = if self.jump { JUMP_ON } else { JUMP_OFF };
         words
     }
 }
 
-/// The closed station: group, number, question, the last stage and the decision; all else zero.
+/// The closed station: group, number, question, the last stage and the decision; all else zero, its
+/// jump setting too.
 fn closed_words(station: &Station, decision: u32) -> StationWords {
     let mut words = [0; STATION_WORDS];
     words[0] = station.n;
@@ -244,7 +253,7 @@ fn read_groups(words: &StationWords, module: &Module, held: &Group) -> Option<(G
     let second = (second_size, &second_wanted as &dyn Fn(&Statement) -> bool);
     Some((
         read_group(&words[FIRST_START..SECOND_START], module, question, first)?,
-        read_group(&words[SECOND_START..], module, question, second)?,
+        read_group(&words[SECOND_START..JUMP_WORD], module, question, second)?,
     ))
 }
 
@@ -252,6 +261,10 @@ fn read_groups(words: &StationWords, module: &Module, held: &Group) -> Option<(G
 /// given module's, or whose stage, set and held statements don't fit one another" is none.
 pub fn fitting(words: &StationWords, module: &Module) -> Option<Fitting> {
     if words[0] != module.n || words[1] != module.number {
+        return None;
+    }
+    // a setting that is neither off nor on is that of no station, closed or not
+    if words[JUMP_WORD] > JUMP_ON {
         return None;
     }
     // "A station fits if, unless closed, ..."
@@ -281,6 +294,7 @@ pub fn fitting(words: &StationWords, module: &Module) -> Option<Fitting> {
         held,
         first,
         second,
+        jump: words[JUMP_WORD] == JUMP_ON,
     }))
 }
 
@@ -335,6 +349,7 @@ impl Station {
             held: Vec::new(),
             first: Vec::new(),
             second: Vec::new(),
+            jump: self.jump,
         };
         station.hold(own, certificate);
         station
@@ -362,19 +377,30 @@ impl Station {
 
 // ---- opening ------------------------------------------------------------------------------
 
+/// Tests 1 and 2 of an opening.
+fn may_open(module: &Module, proposal: u32, jump: u32, lent: &[u32]) -> Result<(), u32> {
+    if lent.len() < BUNDLE_WORDS {
+        return Err(SHORT_OUTPUT);
+    }
+    // Job 3 of 02: "a jump setting outside 0 and 1 is 2"
+    if !module.in_range() || proposal > 1 || jump > JUMP_ON {
+        return Err(OUT_OF_RANGE);
+    }
+    Ok(())
+}
+
 /// "Opening tests 1, 2, 12." It answers 20 and writes the INIT; a refused opening returns the
-/// station that is none and changes nothing.
+/// station that is none and changes nothing. Job 3 of 02: "Opening gains a setting, jump off (0) or
+/// on (1)."
 pub fn open(
     module: &mut Module,
     question: u32,
     proposal: u32,
+    jump: u32,
     lent: &mut [u32],
 ) -> (Answer, StationWords) {
-    if lent.len() < BUNDLE_WORDS {
-        return (without_bundle(SHORT_OUTPUT), refused_station());
-    }
-    if !module.in_range() || proposal > 1 {
-        return (without_bundle(OUT_OF_RANGE), refused_station());
+    if let Err(number) = may_open(module, proposal, jump, lent) {
+        return (without_bundle(number), refused_station());
     }
     let who = (module.number, question);
     let init = Statement::uncoded(Kind::Init, 0, proposal, Flag::DGet, who);
@@ -390,6 +416,7 @@ pub fn open(
         held: vec![init],
         first: Vec::new(),
         second: Vec::new(),
+        jump: jump == JUMP_ON,
     };
     let bundle = Bundle {
         main: init,
@@ -407,15 +434,30 @@ pub fn open(
 
 // ---- giving -------------------------------------------------------------------------------
 
+/// What a station does with a valid bundle that it does not refuse.
+enum Taken {
+    /// It holds the main statement, which is of its step.
+    Held,
+    /// It enters the main statement's step, a later one.
+    Jumped,
+}
+
 impl Station {
-    /// Tests 7, 8, 9 and 10 on a valid bundle's main statement.
-    fn admits(&self, new: &Statement) -> Result<(), u32> {
+    /// Tests 7, 8, 9 and 10 on a valid bundle's main statement. With jump on 9 and 10 do not apply to
+    /// one of a later step: they are about what is held in the step that is left.
+    fn admits(&self, new: &Statement) -> Result<Taken, u32> {
         // "A bundle for another step is refused; the host may give it again."
         if new.step() < self.stage.step() {
             return Err(STEP_BELOW);
         }
         if new.step() > self.stage.step() {
-            return Err(STEP_ABOVE);
+            // Job 3 of 02: "With it on, a valid bundle of a later step makes the station enter that
+            // step"; "8 is given only with jump off; 12 follows the checks up to 7"
+            return if self.jump {
+                Ok(Taken::Jumped)
+            } else {
+                Err(STEP_ABOVE)
+            };
         }
         if self.held.iter().any(|s| s.station == new.station) {
             return Err(HEARD);
@@ -423,7 +465,7 @@ impl Station {
         if self.would_conflict(new) {
             return Err(CONFLICT);
         }
-        Ok(())
+        Ok(Taken::Held)
     }
 
     /// "the held and the new would have votes for both 0 and 1, or, in a round over 1, D-GET of
@@ -442,12 +484,13 @@ impl Station {
     }
 }
 
-/// What the end of a step makes: a statement not yet coded, its certificate, and the decision as
-/// it is after the step.
+/// What the end of a step, or a jump, makes: a statement not yet coded, its certificate, the decision
+/// as it is then, and the number that is returned if the module codes the statement.
 struct Ended {
     statement: Statement,
     certificate: Vec<Statement>,
     decision: u32,
+    number: u32,
 }
 
 impl Station {
@@ -466,6 +509,7 @@ impl Station {
             statement: self.statement(Kind::P, 1, value, Flag::DGet),
             certificate: with_value.take(backing(self.n, value)).copied().collect(),
             decision: self.decision,
+            number: SENT,
         }
     }
 
@@ -487,6 +531,7 @@ impl Station {
             statement: self.statement(Kind::V, round, vote, Flag::DGet),
             certificate,
             decision: self.decision,
+            number: SENT,
         }
     }
 
@@ -515,23 +560,45 @@ impl Station {
                 self.held.clone(),
             ),
         };
+        let decision = self.decision_after_votes();
+        let decided_now = self.decision == NONE && decision != NONE;
         Ended {
             statement,
             certificate,
-            decision: self.decision_after_votes(),
+            decision,
+            number: if decided_now { DECIDED } else { SENT },
+        }
+    }
+
+    /// Job 3 of 02: "For a D-GET P or a V it writes its own statement with the same content and
+    /// certificate; for an R-GET P it tosses its own coin with that certificate." The coin is put in
+    /// where the statement is coded. The decision stays as it is.
+    fn jump_onto(&self, given: Bundle) -> Ended {
+        let Statement {
+            kind,
+            round,
+            value,
+            flag,
+            ..
+        } = given.main;
+        Ended {
+            statement: self.statement(kind, round, value, flag),
+            certificate: given.certificate,
+            decision: self.decision,
+            number: JUMPED,
         }
     }
 }
 
-/// "A station given a bundle tests 1, 2, 11, 3, 4, 5, 6, 7, 8, 9, 10": answers the station and
-/// the bundle, or the first refusal.
+/// "A station given a bundle tests 1, 2, 11, 3, 4, 5, 6, 7, 8, 9, 10": answers the station, the
+/// bundle and what is done with it, or the first refusal.
 fn accept(
     module: &Module,
     words: &StationWords,
     given: &[u32],
     coin: u32,
     lent: &[u32],
-) -> Result<(Station, Bundle), u32> {
+) -> Result<(Station, Bundle, Taken), u32> {
     if lent.len() < BUNDLE_WORDS {
         return Err(SHORT_OUTPUT);
     }
@@ -544,8 +611,8 @@ fn accept(
         Some(Fitting::Open(station)) => station,
     };
     let bundle = judge(&module.key, module.n, Some(station.question), given)?;
-    station.admits(&bundle.main)?;
-    Ok((station, bundle))
+    let taken = station.admits(&bundle.main)?;
+    Ok((station, bundle, taken))
 }
 
 /// Gives a bundle to a station, with the call's coin. At a refusal nothing is changed.
@@ -556,10 +623,14 @@ pub fn give(
     coin: u32,
     lent: &mut [u32],
 ) -> Answer {
-    let (mut station, bundle) = match accept(module, words, given, coin, lent) {
+    let (mut station, bundle, taken) = match accept(module, words, given, coin, lent) {
         Ok(accepted) => accepted,
         Err(number) => return without_bundle(number),
     };
+    if let Taken::Jumped = taken {
+        let ended = station.jump_onto(bundle);
+        return send(module, &station, ended, coin, (words, lent));
+    }
     station.hold(bundle.main, &bundle.certificate);
     // "The q-th statement ends the step in that call."
     if station.held.len() < quorum(station.n) {
@@ -580,7 +651,8 @@ pub fn give(
 }
 
 /// Codes the new statement, by the coin where one is tossed, and writes the bundle; "only where a
-/// bundle would be written, 12".
+/// bundle would be written, 12". Behind a step's end as behind a jump "Only its own statement is held
+/// afterwards."
 fn send(
     module: &mut Module,
     station: &Station,
@@ -605,9 +677,8 @@ fn send(
         main,
         certificate: ended.certificate,
     };
-    let decided_now = station.decision == NONE && ended.decision != NONE;
     Answer {
-        number: if decided_now { DECIDED } else { SENT },
+        number: ended.number,
         count: bundle.write(output),
     }
 }

@@ -4,7 +4,7 @@ use crate::group::BUNDLE_WORDS;
 use crate::hmac::Key;
 use crate::returns::is_refusal;
 use crate::sealed::{make, Module};
-use crate::station::{give, open, step_and_decision, Answer, StationWords};
+use crate::station::{give, open, step_and_decision, Answer, StationWords, JUMP_OFF};
 use crate::words::NONE;
 
 /// "Its input starts with `n` and a number from 2 to 7."
@@ -80,16 +80,16 @@ impl Valley {
     }
 
     /// "`open s v` opens station s with proposal v on question 1". A number outside 1 to n has a
-    /// module that is refused by 2.
+    /// module that is refused by 2. Job 3 of 02: "The program valley opens with jump off."
     fn open(&mut self, s: u32, v: u32) -> (Answer, Vec<u32>) {
         let n = self.modules.len() as u32;
         let mut lent = vec![0; BUNDLE_WORDS];
         if s < 1 || s > n {
             let mut module = make(&KEY, n, s).1;
-            return (open(&mut module, QUESTION, v, &mut lent).0, lent);
+            return (open(&mut module, QUESTION, v, JUMP_OFF, &mut lent).0, lent);
         }
         let i = s as usize - 1;
-        let (answer, station) = open(&mut self.modules[i], QUESTION, v, &mut lent);
+        let (answer, station) = open(&mut self.modules[i], QUESTION, v, JUMP_OFF, &mut lent);
         if !is_refusal(answer.number) {
             self.stations[i] = Some(station);
         }

@@ -12,8 +12,9 @@ use crate::returns::is_refusal;
 use crate::rng::Rng;
 use crate::script::{Command, Report};
 use crate::sealed::{Module, MODULE_WORDS};
-use crate::station::{fits, refused_station, StationWords};
-use crate::words::{Bundle, Kind, Statement, NONE};
+use crate::station::{fits, refused_station, step_and_decision, StationWords};
+use crate::station::{HEARD_WORD, JUMP_OFF, JUMP_ON, JUMP_WORD};
+use crate::words::{Bundle, Flag, Kind, Statement, Step, NONE};
 
 /// Buffers that hold bundles on the air, used again in turn; the others are for one call.
 pub const AIR_BUFFERS: usize = 118;
@@ -32,6 +33,37 @@ pub const FORGED: usize = 63;
 pub struct Message {
     pub buffer: usize,
     pub main: Statement,
+}
+
+/// Which jump settings the openings of a list have.
+#[derive(Clone, Copy, Debug, PartialEq, Eq)]
+pub enum Jumps {
+    Off,
+    On,
+    Mixed,
+}
+
+pub const JUMPS: [Jumps; 3] = [Jumps::Off, Jumps::On, Jumps::Mixed];
+
+/// The kinds of statements that a station can jump onto.
+pub const JUMP_KINDS: [&str; 5] = [
+    "a D-GET proposal of round 1",
+    "a D-GET proposal of a later round",
+    "an R-GET proposal",
+    "a vote for 0 or 1",
+    "a vote for none",
+];
+
+/// Of which of these kinds a statement is. An INIT is of no later step than any.
+pub fn jump_kind(main: &Statement) -> usize {
+    match (main.kind, main.flag, main.round, main.value) {
+        (Kind::Init, ..) => unreachable!("an INIT is of the first step"),
+        (Kind::P, Flag::DGet, 1, _) => 0,
+        (Kind::P, Flag::DGet, ..) => 1,
+        (Kind::P, Flag::RGet, ..) => 2,
+        (Kind::V, _, _, NONE) => 4,
+        (Kind::V, ..) => 3,
+    }
 }
 
 /// A station from its opening on, with the votes that it has kept.
@@ -59,6 +91,12 @@ pub struct Counts {
     pub first_votes: u64,
     pub sound_first_votes: u64,
     pub without_inits: u64,
+    /// How often sound sites jumped, by the kind of statement.
+    pub jumps: [u64; JUMP_KINDS.len()],
+    /// Decisions for which the backing was required, and those on what too few sites proposed, made
+    /// where a sound site had jump on.
+    pub backed_decisions: u64,
+    pub unbacked_decisions: u64,
 }
 
 impl Counts {
@@ -66,6 +104,15 @@ impl Counts {
     /// put to the test.
     pub fn looked_at_first_votes(&self) -> bool {
         self.first_votes > 0 && self.sound_first_votes > 0 && self.without_inits > 0
+    }
+
+    /// The kinds of statements that no sound site jumped onto.
+    pub fn never_jumped_onto(&self) -> Vec<&'static str> {
+        let kinds = JUMP_KINDS.iter().zip(self.jumps);
+        kinds
+            .filter(|(_, count)| *count == 0)
+            .map(|(kind, _)| *kind)
+            .collect()
     }
 }
 
@@ -86,6 +133,9 @@ pub struct World {
     /// Whether certificates and forged stations are coded by hand just now, under the group's key,
     /// and not found among what the modules coded.
     pub by_hand: bool,
+    pub jumps: Jumps,
+    /// The questions on which a sound site has opened with jump on.
+    jumped_questions: BTreeSet<u32>,
     decisions: Vec<(u32, u32, u32)>,
     next_buffer: usize,
     ready_buffer: Option<usize>,
@@ -111,7 +161,7 @@ pub fn least_backing(n: u32, v: u32) -> usize {
 impl World {
     /// "The list starts, for every n, with the n modules of a group, each made once and with
     /// nothing coded, and no station open."
-    pub fn new(n: u32, faulty: Vec<bool>, mut rng: Rng, author: Author) -> World {
+    pub fn new(n: u32, faulty: Vec<bool>, jumps: Jumps, mut rng: Rng, author: Author) -> World {
         let key = std::array::from_fn(|_| rng.word());
         let mut world = World {
             n,
@@ -127,6 +177,8 @@ impl World {
             failure: None,
             loose: Loose::No,
             by_hand: false,
+            jumps,
+            jumped_questions: BTreeSet::new(),
             decisions: Vec::new(),
             next_buffer: 0,
             ready_buffer: None,
@@ -165,6 +217,15 @@ impl World {
         &self.author.machine.stations[register]
     }
 
+    /// A jump setting in range, as the list's openings have it.
+    pub fn any_jump(&mut self) -> u32 {
+        match self.jumps {
+            Jumps::Off => JUMP_OFF,
+            Jumps::On => JUMP_ON,
+            Jumps::Mixed => self.rng.bit(),
+        }
+    }
+
     // ---- bundles on the air -----------------------------------------------------------------
 
     /// A buffer to lend: at least 331 words of a background that shows what is written.
@@ -200,13 +261,16 @@ impl World {
 
     // ---- calls ------------------------------------------------------------------------------
 
-    /// Opens a station at a site into a register; a new lineage where it is not refused.
-    pub fn open(&mut self, site: u32, question: u32, proposal: u32, output: usize) -> u32 {
+    /// Opens a station at a site into a register, on a question with a proposal and a jump setting; a
+    /// new lineage where it is not refused.
+    pub fn open(&mut self, site: u32, opening: (u32, u32, u32), output: usize) -> u32 {
+        let (question, proposal, jump) = opening;
         let register = match self.lineages.len() {
             used if used < LINEAGE_REGISTERS => used,
             _ => FORGED,
         };
-        let command = Command::Open(site as usize - 1, register, question, proposal, output);
+        let m = site as usize - 1;
+        let command = Command::Open(m, register, question, proposal, jump, output);
         let report = self.author.call(command);
         self.count(&report);
         if is_refusal(report.number) {
@@ -218,6 +282,10 @@ impl World {
             return report.number;
         }
         self.require(report.number == 20, "an opening answers 20");
+        self.require(report.station.1[JUMP_WORD] == jump, "it has its setting");
+        if self.is_sound(site) && jump == JUMP_ON {
+            self.jumped_questions.insert(question);
+        }
         self.require_written(&report, site, output, self.is_sound(site));
         if register != FORGED {
             self.lineages.push(Lineage {
@@ -251,12 +319,9 @@ impl World {
         let report = self.author.call(command);
         self.count(&report);
         self.look_at_given(given, report.number);
-        self.require(
-            own.is_none() || report.number != 10,
-            "10 never answers a sound site's own station",
-        );
+        self.require_step(&report, given);
         if is_refusal(report.number) {
-            self.require_unchanged(&report, true);
+            self.require_refusal(&report, own.is_some());
             self.counts.forged_conflicts += u64::from(report.number == 10);
             return report.number;
         }
@@ -265,6 +330,9 @@ impl World {
             "a sound site's module takes its own stations only",
         );
         self.require_given(&report, site, output, own.is_some());
+        if report.number == 23 {
+            self.require_jump(&report, given, coin, own.is_some());
+        }
         if let Some(own) = own {
             self.note_votes(own, given, &report);
             self.require_naming(own, &report);
@@ -320,6 +388,33 @@ impl World {
         self.require(report.count == 0, "a refusal counts no words");
     }
 
+    /// What holds of a giving that is refused, to a sound site's own station or to any.
+    fn require_refusal(&mut self, report: &Report, own: bool) {
+        self.require(
+            !own || report.number != 10,
+            "10 never answers a sound site's own station",
+        );
+        self.require_unchanged(report, true);
+    }
+
+    /// What the number says of the given step, beside the station's. "8 is given only with jump off".
+    fn require_step(&mut self, report: &Report, given: usize) {
+        let words = self.author.machine.buffers[given].seen();
+        let Some(given) = Bundle::read(words, self.n) else {
+            return;
+        };
+        let jump = report.station.0[JUMP_WORD];
+        let order = given.main.step().cmp(&step_of(&report.station.0));
+        let (suits, what) = match report.number {
+            7 => (order.is_lt(), "7 is of an earlier step"),
+            8 => (order.is_gt() && jump == JUMP_OFF, "8 is of jump off"),
+            23 => (order.is_gt() && jump == JUMP_ON, "23 is of jump on"),
+            0 | 9 | 10 | 20..=22 => (order.is_eq(), "it is of the station's step"),
+            _ => return,
+        };
+        self.require(suits, what);
+    }
+
     /// What holds of a giving that is not refused, at any site.
     fn require_given(&mut self, report: &Report, site: u32, output: usize, own: bool) {
         match report.number {
@@ -338,9 +433,54 @@ impl World {
                     "22 exactly where it closes",
                 );
             }
-            20 | 21 => self.require_written(report, site, output, own),
+            20 | 21 | 23 => self.require_written(report, site, output, own),
             _ => self.require(false, "a giving answers a number of the table"),
         }
+        let setting = match report.number {
+            22 => JUMP_OFF,
+            _ => report.station.0[JUMP_WORD],
+        };
+        self.require(
+            report.station.1[JUMP_WORD] == setting,
+            "it keeps its setting",
+        );
+    }
+
+    /// Job 3 of 02: "With it on, a valid bundle of a later step makes the station enter that step
+    /// and return 23. For a D-GET P or a V it writes its own statement with the same content and
+    /// certificate; for an R-GET P it tosses its own coin with that certificate. Only its own
+    /// statement is held afterwards."
+    fn require_jump(&mut self, report: &Report, given: usize, coin: u32, own: bool) {
+        let given = Bundle::read(self.author.machine.buffers[given].seen(), self.n);
+        let written = Bundle::read(&report.lent.1[..report.count], self.n);
+        let (Some(given), Some(written)) = (given, written) else {
+            self.require(false, "a jump goes from one bundle to another");
+            return;
+        };
+        let content = |s: &Statement| (s.kind, s.round, s.flag);
+        let value = match given.main.flag {
+            Flag::DGet => given.main.value,
+            Flag::RGet => coin,
+        };
+        let (before, after) = (&report.station.0, &report.station.1);
+        self.require(step_of(after) == given.main.step(), "it enters that step");
+        self.require(
+            content(&written.main) == content(&given.main) && written.main.value == value,
+            "with the same content, or its own coin",
+        );
+        self.require(
+            written.certificate == given.certificate,
+            "with the same certificate",
+        );
+        self.require(
+            after[HEARD_WORD] == 1 << (written.main.station - 1),
+            "only its own statement is held",
+        );
+        self.require(
+            before[7] == after[7],
+            "a jump leaves the decision as it was",
+        );
+        self.counts.jumps[jump_kind(&given.main)] += u64::from(own);
     }
 
     /// What holds of a call that writes a bundle; a sound site's own is valid to all.
@@ -434,11 +574,12 @@ impl World {
         self.coded.push(statement);
     }
 
-    /// The votes that a lineage keeps by a giving: the given one, and its own where it writes one.
+    /// The votes that a lineage keeps by a giving: the given one, but for a jump, and its own where it
+    /// writes one.
     fn note_votes(&mut self, own: usize, given: usize, report: &Report) {
         let given = Bundle::read(self.author.machine.buffers[given].seen(), self.n);
         let written = Bundle::read(&report.lent.1[..report.count], self.n);
-        for main in [given, written]
+        for main in [given.filter(|_| report.number != 23), written]
             .into_iter()
             .flatten()
             .map(|bundle| bundle.main)
@@ -485,15 +626,19 @@ impl World {
     }
 
     /// "no two sound sites have decided differently on one question, and no sound site has decided
-    /// a value that too few sites proposed".
+    /// a value that too few sites proposed". Job 3 of 02: "Two sound sites still never decide
+    /// differently. The backing holds only for questions on which every sound site has jump off".
     fn note_decision(&mut self, site: u32, question: u32, v: u32) {
         let mut others = self.decisions.iter();
         let agree = others.all(|(_, other, w)| *other != question || *w == v);
         self.require(agree, "agreement");
-        let proposers = self.proposers(question, v);
-        self.require(proposers.len() >= least_backing(self.n, v), "backing");
+        let backed = self.proposers(question, v).len() >= least_backing(self.n, v);
+        let claimed = !self.jumped_questions.contains(&question);
+        self.require(backed || !claimed, "backing");
         self.decisions.push((site, question, v));
         self.counts.decisions += 1;
+        self.counts.backed_decisions += u64::from(claimed);
+        self.counts.unbacked_decisions += u64::from(!backed);
     }
 
     fn require_deep(&mut self, own: usize, report: &Report) {
@@ -510,6 +655,12 @@ impl World {
 /// A vote of round 1 for 0 or 1.
 fn is_first_vote(main: &Statement) -> bool {
     main.kind == Kind::V && main.round == 1 && main.value != NONE
+}
+
+/// The step that a station's words are in.
+fn step_of(words: &[u32]) -> Step {
+    let words: &StationWords = words.try_into().expect("a station's words");
+    step_and_decision(words).0
 }
 
 fn fits_words(words: &[u32], module: &Module) -> bool {

@@ -1,11 +1,13 @@
 //! What the script of calls contains: which calls, at which n, and which numbers they return.
 
-use std::collections::BTreeMap;
+use std::collections::{BTreeMap, BTreeSet};
 
 use second::generate::script;
 use second::group::{backing, quorum};
 use second::script::{read_line, Command, Machine, Report};
+use second::station::{JUMP_OFF, JUMP_ON, JUMP_WORD};
 use second::words::{Bundle, Kind, NONE};
+use second::world::{jump_kind, JUMP_KINDS};
 
 /// A call of the script: n of its module before the call, the words that it is given to judge, and
 /// what it left.
@@ -73,7 +75,7 @@ fn every_number_is_returned() {
         ("check", &[0, 2, 3, 4, 5, 6]),
         (
             "give",
-            &[0, 1, 2, 3, 4, 5, 6, 7, 8, 9, 10, 11, 12, 20, 21, 22],
+            &[0, 1, 2, 3, 4, 5, 6, 7, 8, 9, 10, 11, 12, 20, 21, 22, 23],
         ),
         ("make", &[0, 2]),
         ("open", &[1, 2, 12, 20]),
@@ -250,4 +252,96 @@ fn refusals_change_nothing() {
             _ => assert!(same(&report.station), "{command:?}"),
         }
     }
+}
+
+/// The stage that a call found its station in: 0 gathering, 1 proposing, 2 voting.
+fn stage_before(call: &Call) -> u32 {
+    call.report.station.0[3]
+}
+
+/// Job 3 of 02: every kind of statement is jumped onto at every n of 2 to 7 and 31, and at n 4 from every
+/// stage; in the first round, a later one and the last; by R-GETs of both values with both coins.
+#[test]
+fn every_jump_is_made() {
+    let calls = all_calls();
+    let jumps: Vec<(&Call, Bundle)> = calls
+        .iter()
+        .filter(|call| call.report.number == 23)
+        .map(|call| (call, Bundle::read(&call.given, call.n).expect("a bundle")))
+        .collect();
+    println!("{} jumps", jumps.len());
+    let found: BTreeSet<(u32, usize)> = jumps
+        .iter()
+        .map(|(call, given)| (call.n, jump_kind(&given.main)))
+        .collect();
+    for n in [2, 3, 4, 5, 6, 7, 31] {
+        for (kind, name) in JUMP_KINDS.iter().enumerate() {
+            assert!(found.contains(&(n, kind)), "n {n}, {name}");
+        }
+    }
+    let from: BTreeSet<(u32, usize)> = jumps
+        .iter()
+        .filter(|(call, _)| call.n == 4)
+        .map(|(call, given)| (stage_before(call), jump_kind(&given.main)))
+        .collect();
+    // onto a first proposal there is no other way than from the INITs
+    assert_eq!(from.len(), 3 * JUMP_KINDS.len() - 2);
+    for kind in [Kind::P, Kind::V] {
+        for round in [1, 2, 3, 65_535] {
+            let of = |given: &Bundle| (given.main.kind, given.main.round) == (kind, round);
+            assert!(jumps.iter().any(|(_, given)| of(given)));
+        }
+    }
+    let tosses: BTreeSet<(u32, u32)> = jumps
+        .iter()
+        .filter(|(_, given)| jump_kind(&given.main) == 2)
+        .map(|(call, given)| match call.command {
+            Command::Give(_, _, _, coin, _) => (given.main.value, coin),
+            _ => unreachable!("only a giving jumps"),
+        })
+        .collect();
+    assert_eq!(tosses.len(), 4);
+}
+
+/// Both settings at openings and at givings, settings out of range, and what is answered with each.
+#[test]
+fn every_setting_is_tried() {
+    let calls = all_calls();
+    let mut opened: BTreeMap<u32, BTreeSet<u32>> = BTreeMap::new();
+    let mut given: BTreeMap<u32, BTreeSet<u32>> = BTreeMap::new();
+    for call in &calls {
+        let number = call.report.number;
+        match call.command {
+            Command::Open(_, _, _, _, jump, _) => {
+                opened.entry(jump).or_default().insert(number);
+            }
+            Command::Give(..) => {
+                let jump = call.report.station.0[JUMP_WORD];
+                given.entry(jump).or_default().insert(number);
+            }
+            _ => {}
+        }
+    }
+    for (jump, numbers) in &opened {
+        let expected: &[u32] = match *jump {
+            JUMP_OFF | JUMP_ON => &[1, 2, 12, 20],
+            _ => &[1, 2],
+        };
+        assert_eq!(numbers.iter().copied().collect::<Vec<u32>>(), expected);
+    }
+    assert!(opened.contains_key(&2) && opened.contains_key(&u32::MAX));
+    let all = |without: u32| -> BTreeSet<u32> {
+        let refusals = 0..=12;
+        let all = refusals.chain([20, 21, 22, 23]);
+        all.filter(|number| *number != without).collect()
+    };
+    assert_eq!(given[&JUMP_OFF], all(23));
+    assert_eq!(given[&JUMP_ON], all(8));
+    // a closing sets it back
+    let closed_on = calls.iter().any(|call| {
+        call.report.number == 22
+            && call.report.station.0[JUMP_WORD] == JUMP_ON
+            && call.report.station.1[JUMP_WORD] == JUMP_OFF
+    });
+    assert!(closed_on);
 }

@@ -58,7 +58,7 @@ fn output_of_330_and_331_words() {
     let answer = give(&mut module, &mut station, &given, 0, &mut enough);
     assert_eq!((answer.number, answer.count), (20, 21));
     assert!(enough[21..].iter().all(|word| *word == 7));
-    let (answer, closed) = open(&mut module, QUESTION + 1, 0, &mut short);
+    let (answer, closed) = open(&mut module, QUESTION + 1, 0, 0, &mut short);
     assert_eq!((answer.number, closed), (1, refused_station()));
 }
 
@@ -314,7 +314,7 @@ fn the_module_and_the_station_that_are_none() {
                 let answer = give(&mut holder, &mut station, words, 0, &mut lent);
                 assert_eq!((answer.number, answer.count, station), (number, 0, none));
             }
-            let answer = open(&mut no_module.clone(), 1, 0, &mut vec![7; length]);
+            let answer = open(&mut no_module.clone(), 1, 0, 1, &mut vec![7; length]);
             assert_eq!((answer.0.number, answer.1), (number, none));
         }
         assert!(!fits(&none, &holder));
@@ -328,7 +328,7 @@ fn the_module_and_the_station_that_are_none() {
 #[test]
 fn earlier_questions() {
     let (mut module, mut station) = opened(5, 1, 0);
-    let (answer, _) = open(&mut module, QUESTION + 1, 1, &mut [0; 331]);
+    let (answer, _) = open(&mut module, QUESTION + 1, 1, 0, &mut [0; 331]);
     assert_eq!(answer.number, 20);
     let mut given = |number| {
         let words = bundle(init(number, 1), &[]);

@@ -10,7 +10,7 @@ fn settings_print_nothing_and_calls_a_line() {
     let script = "# a comment\n\
                   make 0 0 0 0 0 0 0 0 0 3 1\n\
                   fill 0 14b a5\n\
-                  open 0 0 1 0 0\n\
+                  open 0 0 1 0 0 0\n\
                   length 0 b\n\
                   check 0 0\n\
                   words 0 0 0\n\
@@ -23,6 +23,35 @@ fn settings_print_nothing_and_calls_a_line() {
     assert!(lines[1].contains(" w @0 c0000000 10000 1 "));
     assert_eq!(lines[2], "0 0 m = s = w =");
     assert_eq!(lines[3], "3 0 m = s = w =");
+}
+
+/// The setting is a station's last word, and 23 is printed in hex as all numbers are.
+#[test]
+fn a_jump_in_a_script() {
+    let script = "make 0 0 0 0 0 0 0 0 0 2 1\n\
+                  make 1 0 0 0 0 0 0 0 0 2 2\n\
+                  fill 0 14b 0\n\
+                  fill 1 14b 0\n\
+                  open 0 0 1 1 1 0\n\
+                  open 1 1 1 1 0 1\n\
+                  length 0 b\n\
+                  fill 2 14b 0\n\
+                  give 1 1 0 0 2\n\
+                  length 2 15\n\
+                  fill 3 14b 0\n\
+                  give 0 0 2 0 3\n";
+    let output = run(script);
+    let lines: Vec<&str> = output.lines().collect();
+    assert_eq!(lines.len(), 6);
+    assert!(lines[2].contains(" @27f 1 w @0 c0000000 "));
+    assert!(!lines[3].contains("@27f"));
+    assert!(lines[4].starts_with("14 15 m @c 2 s @3 1 1 "));
+    // station 1 goes from its INIT to the proposal of round 1 that station 2 made
+    assert!(lines[5].starts_with("17 15 m @c 2 s @3 1 1 "));
+    assert!(lines[5].contains(" w @0 c0000001 50010001 1 "));
+    assert!(
+        run(&script.replace("open 0 0 1 1 1 0", "open 0 0 1 1 0 0")).ends_with("8 0 m = s = w =\n")
+    );
 }
 
 /// The example of docs/SCRIPT.md, whose dots stand for the eight words of the code.
@@ -60,7 +89,11 @@ fn a_malformed_line_stops_the_run() {
         "fill 0 191 0",
         "words 0 18f 1 2",
         "words 0 0",
-        "station 0 27e 1 2",
+        "station 0 27f 1 2",
+        "station 0 280 1",
+        "open 0 0 1 0 0",
+        "open 0 0 1 0 0 0 0",
+        "open 0 0 1 0 0 80",
         "raw 0 0",
         "give 0 0 1 0 1",
     ] {
@@ -102,7 +135,7 @@ fn a_call_on_words_that_are_none_stops_the_run() {
         for call in [
             "plain 0 0",
             "toss 0 0 0",
-            "open 0 0 0 0 0",
+            "open 0 0 0 0 0 0",
             "give 0 0 0 0 1",
         ] {
             let script = format!("raw 0 {key} 2 1 {last}\ncheck 0 0\n{call}\n");
@@ -117,6 +150,8 @@ fn a_call_on_words_that_are_none_stops_the_run() {
         "3 3 0 0",
         "6 2",
         "6 ffffffff",
+        "27f 2",
+        "27f ffffffff",
     ];
     for words in no_stations {
         let script = format!("raw 0 {key} 2 1 1 0 1ffff\nstation 0 {words}\ngive 0 0 0 0 1\n");

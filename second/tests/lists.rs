@@ -13,8 +13,9 @@ use second::words::{Bundle, Statement, NONE};
 fn random_lists() {
     let counts = many_lists(1, 140).unwrap();
     assert_eq!(missing(&counts), []);
+    assert_eq!(counts.never_jumped_onto(), [""; 0]);
     assert!(counts.forged_conflicts > 0);
-    assert!(counts.decisions > 0);
+    assert!(counts.decisions > counts.backed_decisions && counts.backed_decisions > 0);
     assert!(counts.looked_at_first_votes());
 }
 

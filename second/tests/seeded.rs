@@ -3,9 +3,12 @@
 
 use std::collections::{BTreeMap, BTreeSet};
 
-use second::returns::TABLE;
-use second::script::{is_call, read_line, run};
+use second::returns::{JUMPED, TABLE};
+use second::script::{is_call, read_line, run, Command, Machine};
 use second::seeded::seeded_script;
+use second::station::{step_and_decision, JUMP_OFF, JUMP_ON, JUMP_WORD};
+use second::words::Bundle;
+use second::world::{jump_kind, JUMP_KINDS};
 
 /// The number that a printed line starts with.
 fn returned(line: &str) -> u32 {
@@ -24,12 +27,26 @@ fn numbers(script: &str, printed: &str) -> BTreeMap<char, BTreeSet<u32>> {
     numbers
 }
 
-/// Every number of the table in 5,000 calls, of giving alone; and all that the other calls return.
+/// The jump settings of a script's openings.
+fn settings(script: &str) -> BTreeSet<u32> {
+    let commands = script.lines().filter_map(read_line);
+    commands
+        .filter_map(|command| match command {
+            Command::Open(_, _, _, _, jump, _) => Some(jump),
+            _ => None,
+        })
+        .collect()
+}
+
+/// Every number of the table in 5,000 calls, of giving alone, 23 among them; and all that the other calls
+/// return. Openings with jump off, on, and with settings out of range.
 #[test]
 fn every_number_is_returned() {
     for seed in [0, 1, 0xfeed_0042, u64::MAX] {
         let (script, printed) = seeded_script(seed, 5_000).unwrap();
         let numbers = numbers(&script, &printed);
+        assert!(numbers[&'g'].contains(&JUMPED));
+        assert_eq!(settings(&script), BTreeSet::from([0, 1, 2, 3, u32::MAX]));
         let wanted: [(char, &[u32]); 6] = [
             ('c', &[0, 2, 3, 4, 5, 6]),
             ('g', &TABLE),
@@ -71,4 +88,38 @@ fn the_seed_fixes_them() {
         let made = short.0.lines().filter(|line| is_call(line)).count();
         assert_eq!((made, short.1.lines().count()), (calls, calls));
     }
+}
+
+/// Stations jump onto every kind of statement, and are refused by 8 with jump off and by 12 with jump on.
+#[test]
+fn stations_jump() {
+    let (script, _) = seeded_script(7, 5_000).unwrap();
+    let mut machine = Machine::default();
+    let (mut kinds, mut refused) = (BTreeSet::new(), BTreeSet::new());
+    for command in script.lines().filter_map(read_line) {
+        let given = match command {
+            Command::Give(m, _, b, ..) => {
+                Bundle::read(machine.buffers[b].seen(), machine.modules[m][8])
+            }
+            _ => None,
+        };
+        let (Some(report), Some(given)) = (machine.carry_out(&command), given) else {
+            continue;
+        };
+        let setting = report.station.0[JUMP_WORD];
+        let station = &report.station.0[..].try_into().expect("a station's words");
+        let later = given.main.step() > step_and_decision(station).0;
+        match report.number {
+            23 => {
+                kinds.insert(jump_kind(&given.main));
+            }
+            number if later => {
+                refused.insert((setting, number));
+            }
+            _ => {}
+        }
+    }
+    assert_eq!(kinds.len(), JUMP_KINDS.len());
+    assert!(refused.contains(&(JUMP_OFF, 8)) && !refused.contains(&(JUMP_OFF, 12)));
+    assert!(refused.contains(&(JUMP_ON, 12)) && !refused.contains(&(JUMP_ON, 8)));
 }

@@ -3,7 +3,7 @@
 use second::group::BUNDLE_WORDS;
 use second::returns::{KEPT, OUT_OF_RANGE, SENT};
 use second::sealed::{make, Module};
-use second::station::{open, refused_station, StationWords};
+use second::station::{open, refused_station, StationWords, JUMP_OFF, JUMP_ON, STATION_WORDS};
 use second::status::{status, Status};
 use second::words::NONE;
 
@@ -15,9 +15,13 @@ const NOTHING: Status = Status {
 };
 
 fn opened(n: u32, number: u32, question: u32) -> (Module, StationWords) {
+    opened_with(n, number, question, JUMP_OFF)
+}
+
+fn opened_with(n: u32, number: u32, question: u32, jump: u32) -> (Module, StationWords) {
     let (made, mut own) = make(&[7; 8], n, number);
     assert_eq!(made, KEPT);
-    let (answer, station) = open(&mut own, question, 1, &mut [0; BUNDLE_WORDS]);
+    let (answer, station) = open(&mut own, question, 1, jump, &mut [0; BUNDLE_WORDS]);
     assert_eq!(answer.number, SENT);
     (own, station)
 }
@@ -37,6 +41,17 @@ fn an_opened_station_is_undecided() {
     let told = status(&own, &station, 9);
     assert_eq!((told.number, told.decision), (KEPT, NONE));
     assert_eq!((told.stage, told.closed), ([0; 3], false));
+}
+
+/// What is told does not depend on the jump setting.
+#[test]
+fn a_station_with_jump_on_is_read_like_any() {
+    let (own, off) = opened(3, 2, 9);
+    let (_, on) = opened_with(3, 2, 9, JUMP_ON);
+    assert!(on != off);
+    for question in [8, 9] {
+        assert_eq!(status(&own, &on, question), status(&own, &off, question));
+    }
 }
 
 #[test]
@@ -70,6 +85,6 @@ fn nothing_is_told_of_a_station_that_does_not_fit() {
     for question in [0, 1, 9] {
         assert_eq!(status(&own, &refused_station(), question), NOTHING);
         assert_eq!(status(&none, &refused_station(), question), NOTHING);
-        assert_eq!(status(&none, &[0; 639], question), NOTHING);
+        assert_eq!(status(&none, &[0; STATION_WORDS], question), NOTHING);
     }
 }

@@ -6,7 +6,7 @@ use second::check::check;
 use second::group::{backing, most_faulty, quorum, BUNDLE_WORDS};
 use second::returns::{KEPT, SENT};
 use second::sealed::make;
-use second::station::{give, open};
+use second::station::{give, open, JUMP_OFF};
 
 fn page() -> String {
     let page = Path::new(env!("CARGO_MANIFEST_DIR")).join("../docs/WIRE.md");
@@ -24,9 +24,9 @@ fn the_documented_bundle() {
 
     let (mut one, mut two) = (make(&[0; 8], 3, 1).1, make(&[0; 8], 3, 2).1);
     let mut lent = [0; BUNDLE_WORDS];
-    let (answer, mut station) = open(&mut one, 1, 0, &mut lent);
+    let (answer, mut station) = open(&mut one, 1, 0, JUMP_OFF, &mut lent);
     assert_eq!(answer.number, SENT);
-    let (answer, _) = open(&mut two, 1, 0, &mut lent);
+    let (answer, _) = open(&mut two, 1, 0, JUMP_OFF, &mut lent);
     let init = lent[..answer.count].to_vec();
     let answer = give(&mut one, &mut station, &init, 0, &mut lent);
     assert_eq!((answer.number, answer.count), (SENT, words.len()));

@@ -1,5 +1,5 @@
--- What demand 3 asks of a list of calls, as tests that the checker can compute: where `given`, `few` and `decides` are true, `Given`, `FewFaulty` and
--- `Decides` hold.
+-- What demand 3 asks of a list of calls, as tests that the checker can compute: where `given`, `few`, `off` and `decides` are true, `Given`, `FewFaulty`,
+-- `JumpOff` and `Decides` hold.
 use Prim.Native.Nat.{ℕ, zero, suc, _-_, _/_, _≤_, _<_}
 use mathlib.Core.Bool.{Bool, true, false, not, _&&_, _||_}
 use mathlib.Core.List.{List, [], _∷_}
@@ -33,7 +33,7 @@ use Rattle.station.specs.Fit.{zeros, slots-fit, fits}
 use Rattle.station.specs.Calls.{Returned, returned, opening, giving, no-station}
 use Rattle.station.specs.Returns.{unrefused}
 use Rattle.agreement.specs.Maths.Votes.{votes}
-use Rattle.agreement.specs.Demand.{Call, site, action, View, starting, going-on, apart, view, Entry, Lineage, Found, nothing, found, member, logged, act, modules, answer, log, openings, lineage, Presents, Sound, FewFaulty, CodesCame, Behaves, Brings, Given, Decides}
+use Rattle.agreement.specs.Demand.{Call, site, action, View, starting, going-on, apart, view, Entry, Lineage, Found, nothing, found, member, logged, act, modules, answer, log, openings, lineage, Presents, Sound, BringsOff, JumpOff, FewFaulty, CodesCame, Behaves, Brings, Given, Decides}
 
 -- ---- two stations compared: their numbers in one list, and their three arrays
 abbrev flag-in : Stage → ℕ
@@ -47,7 +47,7 @@ stage-at k r f = pick (eqb k 0) Gathering (pick (eqb k 1) (proposing r f) (votin
 abbrev front : Station → List ℕ
 front t =
     t .identity .n ∷ t .identity .station ∷ t .identity .question ∷ t .decision ∷ t .held .heard ∷ one-if (t .closed)
-    ∷ kind-in (t .stage) ∷ round-in (t .stage) ∷ flag-in (t .stage) ∷ []
+    ∷ kind-in (t .stage) ∷ round-in (t .stage) ∷ flag-in (t .stage) ∷ one-if (t .jump) ∷ []
 
 -- the station of such lists
 abbrev made-of : List ℕ → List ℕ → List ℕ → List ℕ → Station
@@ -56,6 +56,7 @@ made-of f slots first second =
       identity = record { n = getD f 0 0; station = getD f 1 0; question = getD f 2 0 };
       stage = stage-at (getD f 6 0) (getD f 7 0) (getD f 8 0);
       closed = eqb (getD f 5 0) 1;
+      jump = eqb (getD f 9 0) 1;
       decision = getD f 3 0;
       held = record { heard = getD f 4 0; slots = slots };
       groups = record { value = first; none = second };
@@ -67,13 +68,13 @@ stage-again Gathering = refl
 stage-again (Proposing r f) = refl
 stage-again (Voting r) = refl
 
-closed-again : (b : Bool) → eqb (one-if b) 1 ≡ b
-closed-again true = refl
-closed-again false = refl
+truth-again : (b : Bool) → eqb (one-if b) 1 ≡ b
+truth-again true = refl
+truth-again false = refl
 
 made-again : (t : Station) → made-of (front t) (t .held .slots) (t .groups .value) (t .groups .none) ≡ t
 made-again t =
-    λ i. record { identity = t .identity; stage = stage-again (t .stage) i; closed = closed-again (t .closed) i; decision = t .decision; held = t .held; groups = t .groups }
+    λ i. record { identity = t .identity; stage = stage-again (t .stage) i; closed = truth-again (t .closed) i; jump = truth-again (t .jump) i; decision = t .decision; held = t .held; groups = t .groups }
 
 abbrev pub same-station : Station → Station → Bool
 same-station a b =
@@ -171,12 +172,12 @@ module _ (mac : List ℕ → List ℕ → List ℕ) (key : List ℕ) (n : ℕ) w
       (below-out (came l ws) ((length ws - 1) / statement-words) k e (omega arith)) verified
 
   abbrev brings : List Call → View → Bool
-  brings cs starting = true
+  brings cs (starting q j) = true
   brings cs (going-on k t ws) = lengths t && below (came (log mac key n cs) ws) ((length ws - 1) / statement-words)
   brings cs apart = true
 
   brings-out : (cs : List Call) (v : View) → brings cs v ≡ true → Brings mac key n cs v
-  brings-out cs starting e = tt
+  brings-out cs (starting q j) e = tt
   brings-out cs (going-on k t ws) e = let h = both (lengths t) _ e in (lengths-out t (h .0), came-out (log mac key n cs) ws (h .1))
   brings-out cs apart e = tt
 
@@ -202,12 +203,12 @@ module _ (mac : List ℕ → List ℕ → List ℕ) (key : List ℕ) (n : ℕ) w
   presents-out cs i k t (found l) z e = record { line = l; is = z; now = station-out (l .present) t e }
 
   abbrev behaves : List Call → ℕ → View → ℕ → Bool
-  behaves cs i starting number = true
+  behaves cs i (starting q j) number = true
   behaves cs i (going-on k t ws) number = not (unrefused number) || presents (lineage mac key n cs i k) t
   behaves cs i apart number = not (eqb number 0)
 
   behaves-out : (cs : List Call) (i : ℕ) (v : View) (number : ℕ) → behaves cs i v number ≡ true → Behaves mac key n cs i v number
-  behaves-out cs i starting number e = tt
+  behaves-out cs i (starting q j) number e = tt
   behaves-out cs i (going-on k t ws) number e = λ u. presents-out cs i k t _ refl (implied (unrefused number) _ e u)
   behaves-out cs i apart number e = λ z. denied (eqb number 0) e (eq-eqb number 0 z)
 
@@ -237,6 +238,30 @@ module _ (mac : List ℕ → List ℕ → List ℕ) (key : List ℕ) (n : ℕ) w
   pub few-out : (faulty : List ℕ) (cs : List Call) → few faulty cs ≡ true → FewFaulty mac key n cs
   few-out faulty cs e = record { faulty = faulty; few = leb-true _ _ (both (below (but faulty cs) n) _ e .1); others = others-out faulty cs e }
 
+  -- ---- the premise on settings: each opening on the question, at the sites that a test takes, brings 0
+  abbrev brings-off : ℕ → View → Bool
+  brings-off question (starting q jump) = not (eqb q question) || eqb jump 0
+  brings-off question (going-on k t ws) = true
+  brings-off question apart = true
+
+  brings-off-out : (question : ℕ) (v : View) → brings-off question v ≡ true → BringsOff mac key n question v
+  brings-off-out question (starting q jump) e = λ z. eqb-true jump 0 (implied (eqb q question) _ e (eq-eqb q question z))
+  brings-off-out question (going-on k t ws) e = tt
+  brings-off-out question apart e = tt
+
+  unfoldable pub off : (ℕ → Bool) → ℕ → List Call → Bool
+  off at question [] = true
+  off at question (c ∷ cs) = off at question cs && (not (at (site c)) || brings-off question (view (action c)))
+
+  pub off-out : (at : ℕ → Bool) (question : ℕ) (cs : List Call) → off at question cs ≡ true → (i : ℕ) → at i ≡ true → JumpOff mac key n i question cs
+  unfolding off JumpOff
+  off-out at question [] e i a = tt
+  off-out at question (c ∷ cs) e i a =
+      let h = both (off at question cs) _ e in (
+        (λ here done. brings-off-out question (view (action c)) (implied (at (site c)) _ (h .1) (subst (λ (j : ℕ). at j ≡ true) (sym here) a))),
+        off-out at question cs (h .0) i a,
+      )
+
   -- ---- a decision, in a round
   abbrev pub decides : List Call → ℕ → ℕ → ℕ → ℕ → ℕ → Bool
   decides cs i k question v round = there (lineage mac key n cs i k) && leb (quorum n) (count (votes (line cs i k .took) question round v) n)
@@ -248,5 +273,5 @@ module _ (mac : List ℕ → List ℕ → List ℕ) (key : List ℕ) (n : ℕ) w
 
 -- ---- all that the tests compute by
 unfoldable pub computes : Unit {0}
-unfolding pick count first-failed ones backing fields-of word-of formed step-of statements same-words verifies well-formed step laid-out all-formed bundle-fits wanted some in-order holds d-get-group first-group second-group has-second early-toss rest-holds spread groups-hold rule every check-by above making coding-plain coding-coin insert number-of first-value those vote-value decided carried follows ended taken conflict held-in leading kept-for-value kept-for-none state-of set-of slot-of slots-of all-written as-station bundle-of zeros slots-fit fits returned opening giving no-station act modules log openings lineage below given sound
+unfolding pick count first-failed ones backing fields-of word-of formed step-of statements same-words verifies well-formed step laid-out all-formed bundle-fits wanted some in-order holds d-get-group first-group second-group has-second early-toss rest-holds spread groups-hold rule every check-by above making coding-plain coding-coin insert number-of first-value those vote-value decided carried follows ended taken conflict held-in leading kept-for-value kept-for-none state-of set-of slot-of slots-of all-written as-station bundle-of zeros slots-fit fits returned opening giving no-station act modules log openings lineage below given sound off
 computes = tt

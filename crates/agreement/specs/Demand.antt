@@ -25,7 +25,7 @@ use Rattle.agreement.specs.Maths.Votes.{votes}
 -- ---- the list
 -- what a call does: it "brings any settings, words and lent output"; a giving any station too, and which of the site's openings it means
 pub data Action : Type 0 where
-  opens : (question proposal : ℕ) (out : List ℕ) → Action
+  opens : (question proposal jump : ℕ) (out : List ℕ) → Action
   gives : (opening : ℕ) (t : Station) (ws : List ℕ) (coin : ℕ) (out : List ℕ) → Action
   codes : (ws : List ℕ) → Action
   tosses : (ws : List ℕ) (coin : ℕ) → Action
@@ -40,15 +40,15 @@ site (call i a) = i
 abbrev pub action : Call → Action
 action (call i a) = a
 
--- what an action is to the stations of its site: it starts one, it goes on with one (that of an opening, as it is brought, which words are given
+-- what an action is to the stations of its site: it starts one on a question, with a setting of jump, it goes on with one (that of an opening, as it is brought, which words are given
 -- to), or it codes a statement apart from them. All that follows looks at actions by this view.
 pub data View : Type 0 where
-  starting : View
+  starting : (question jump : ℕ) → View
   going-on : (opening : ℕ) (t : Station) (ws : List ℕ) → View
   apart : View
 
 abbrev pub view : Action → View
-view (opens question proposal out) = starting
+view (opens question proposal jump out) = starting question jump
 view (gives opening t ws coin out) = going-on opening t ws
 view (codes ws) = apart
 view (tosses ws coin) = apart
@@ -93,12 +93,12 @@ gave r ws (found l) = found (record { present = r .station; took = written-main 
 -- by the view of a call that its site's station k may be changed by, where `now` says that it is of that site and not refused: how many openings
 -- there are, and the history of station k, where so many openings were before
 abbrev pub counted : View → Bool → ℕ → ℕ
-counted starting now openings = pick now (suc openings) openings
+counted (starting question jump) now openings = pick now (suc openings) openings
 counted (going-on opening t ws) now openings = openings
 counted apart now openings = openings
 
 abbrev pub went : View → Bool → Returned → ℕ → ℕ → Found → Found
-went starting now r openings k l = pick (now && eqb openings k) (opened r) l
+went (starting question jump) now r openings k l = pick (now && eqb openings k) (opened r) l
 went (going-on opening t ws) now r openings k l = pick (now && eqb opening k) (gave r ws l) l
 went apart now r openings k l = l
 
@@ -118,7 +118,7 @@ proposed (e ∷ l) question v i =
     (is-statement e && eqb (e .at) i && eqb (kind-of (getD (e .words) 0 0)) kind-INIT && eqb (value-of (getD (e .words) 0 0)) v && eqb (getD (e .words) 1 0) question)
     || proposed l question v i
 
--- what was coded: an opening answered 20, a giving answered 20 or 21 (words 1 and 2 of the bundle), a coding answered 0
+-- what was coded: an opening answered 20, a giving answered 20, 21 or 23 (words 1 and 2 of the bundle), a coding answered 0
 abbrev pub bundle-coded : ℕ → Returned → List Entry
 bundle-coded i r = pick (wrote (r .number)) (record { at = i; words = covered-at (r .lent) (place-of 0) } ∷ []) []
 
@@ -126,13 +126,13 @@ abbrev pub statement-coded : ℕ → Returned → List Entry
 statement-coded i r = pick (eqb (r .number) 0) (record { at = i; words = covered-at (r .lent) 0 } ∷ []) []
 
 abbrev pub coded-in : ℕ → View → Returned → List Entry
-coded-in i starting r = bundle-coded i r
+coded-in i (starting question jump) r = bundle-coded i r
 coded-in i (going-on k t ws) r = bundle-coded i r
 coded-in i apart r = statement-coded i r
 
 module _ (mac : List ℕ → List ℕ → List ℕ) (key : List ℕ) (n : ℕ) where
   unfoldable pub act : Module → Action → Returned
-  act m (opens question proposal out) = opening mac m question proposal out
+  act m (opens question proposal jump out) = opening mac m question proposal jump out
   act m (gives k t ws coin out) = giving mac m t ws coin out
   act m (codes ws) = as-returned (coding-plain mac m ws)
   act m (tosses ws coin) = as-returned (coding-coin mac m ws coin)
@@ -171,13 +171,28 @@ module _ (mac : List ℕ → List ℕ → List ℕ) (key : List ℕ) (n : ℕ) w
   -- "a site is sound if no coding call on its module is answered 0, and every bundle given there and not refused goes to a station that an opening
   -- there, not refused, returned, as the last call on that station returned it"
   abbrev pub Behaves : List Call → ℕ → View → ℕ → Type 0
-  Behaves cs i starting number = Unit
+  Behaves cs i (starting question jump) number = Unit
   Behaves cs i (going-on k t ws) number = unrefused number ≡ true → Presents cs i k t
   Behaves cs i apart number = number ≡ 0 → ⊥
 
   unfoldable pub Sound : ℕ → List Call → Type 0
   Sound i [] = Unit
   Sound i (c ∷ cs) = (site c ≡ i → Behaves cs i (view (action c)) (answer cs c .number)) × Sound i cs
+
+  -- ---- the setting jump
+  -- "every sound site has jump off": each opening of site i on the question that was not refused brought 0
+  abbrev pub BringsOff : ℕ → View → Type 0
+  BringsOff question (starting q jump) = q ≡ question → jump ≡ 0
+  BringsOff question (going-on k t ws) = Unit
+  BringsOff question apart = Unit
+
+  unfoldable pub JumpOff : ℕ → ℕ → List Call → Type 0
+  JumpOff i question [] = Unit
+  JumpOff i question (c ∷ cs) = (site c ≡ i → unrefused (answer cs c .number) ≡ true → BringsOff question (view (action c))) × JumpOff i question cs
+
+  -- "questions on which every sound site has jump off" (Job 3 of document 02), said over the list's openings: closing clears a station's setting
+  abbrev pub AllOff : List Call → ℕ → Type 0
+  AllOff cs question = (i : ℕ) → 1 ≤ i → i ≤ n → Sound i cs → JumpOff i question cs
 
   -- ---- the premises
   -- "faulty sites are at most half of one less than all, rounded down": so many sites that each other site is sound
@@ -194,7 +209,7 @@ module _ (mac : List ℕ → List ℕ → List ℕ) (key : List ℕ) (n : ℕ) w
 
   -- what a giving brings: a station is a value of its type, with the arrays' declared lengths; the codes in its words came from modules
   abbrev pub Brings : List Call → View → Type 0
-  Brings cs starting = Unit
+  Brings cs (starting question jump) = Unit
   Brings cs (going-on k t ws) = Lengths t × CodesCame (log cs) ws
   Brings cs apart = Unit
 
@@ -215,8 +230,8 @@ module _ (mac : List ℕ → List ℕ → List ℕ) (key : List ℕ) (n : ℕ) w
   pub record Claim (cs : List Call) : Type 1 where
     -- "no two sound sites have decided differently on one question"
     pub agreement : (i j k l question v w : ℕ) → Sound i cs → Sound j cs → Decides cs i k question v → Decides cs j l question w → v ≡ w
-    -- "no sound site has decided a value that too few sites proposed"
-    pub backed : (i k question v : ℕ) → Sound i cs → Decides cs i k question v → backing n v ≤ count (proposed (log cs) question v) n
+    -- "no sound site has decided a value that too few sites proposed"; "The backing holds only for questions on which every sound site has jump off"
+    pub backed : (i k question v : ℕ) → Sound i cs → AllOff cs question → Decides cs i k question v → backing n v ≤ count (proposed (log cs) question v) n
     -- "From then on that station names v as its decision, before that none"
     pub names : (i k v : ℕ) (line : Lineage) → Sound i cs → lineage cs i k ≡ found line → v < none → line .present .decision ≡ v
         → Decides cs i k (line .present .identity .question) v
@@ -227,7 +242,7 @@ module _ (mac : List ℕ → List ℕ → List ℕ) (key : List ℕ) (n : ℕ) w
     pub named-agreement : (i j k l : ℕ) (a b : Lineage) → Sound i cs → Sound j cs → lineage cs i k ≡ found a → lineage cs j l ≡ found b
         → a .present .identity .question ≡ b .present .identity .question → a .present .decision < none → b .present .decision < none
         → a .present .decision ≡ b .present .decision
-    pub named-backed : (i k : ℕ) (a : Lineage) → Sound i cs → lineage cs i k ≡ found a → a .present .decision < none
+    pub named-backed : (i k : ℕ) (a : Lineage) → Sound i cs → lineage cs i k ≡ found a → AllOff cs (a .present .identity .question) → a .present .decision < none
         → backing n (a .present .decision) ≤ count (proposed (log cs) (a .present .identity .question) (a .present .decision)) n
     -- "Under demand 3's premises 10 never occurs at a sound site's station"
     pub no-conflict : (i k : ℕ) (t : Station) (ws : List ℕ) (coin : ℕ) (out : List ℕ) → Sound i cs → Presents cs i k t → CodesCame (log cs) ws

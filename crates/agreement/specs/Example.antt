@@ -16,11 +16,11 @@ use Rattle.certificate.specs.Check.{check-by}
 use Rattle.station.specs.declared.Stage.the-variants.{Gathering}
 use Rattle.station.specs.declared.Station.{Station}
 use Rattle.agreement.specs.Maths.Votes.{votes}
-use Rattle.agreement.specs.Demand.{opens, gives, codes, tosses, Call, call, member, proposed, log, Sound, FewFaulty, CodesCame, Given, Decides, Claim}
+use Rattle.agreement.specs.Demand.{opens, gives, codes, tosses, Call, call, member, proposed, log, Sound, AllOff, FewFaulty, CodesCame, Given, Decides, Claim}
 use Rattle.agreement.specs.Prefix.{given-before, sound-before}
 use Rattle.agreement.specs.Theorem.{claim}
 use Rattle.agreement.specs.FirstVotes.{names-proposer, FirstVote, first-votes-by}
-use Rattle.agreement.specs.Computed.{computes, last, written, numbers, line, present, given, given-out, few, others-out, few-out, decides, decides-out}
+use Rattle.agreement.specs.Computed.{computes, last, written, numbers, line, present, given, given-out, few, others-out, few-out, off-out, decides, decides-out}
 
 abbrev pub toy : List ℕ → List ℕ → List ℕ
 toy key ws = getD ws 0 0 ∷ getD ws 1 0 ∷ 0 ∷ 0 ∷ 0 ∷ 0 ∷ 0 ∷ 0 ∷ []
@@ -51,6 +51,7 @@ forged =
       identity = record { n = 3; station = 3; question = 2 };
       stage = Gathering;
       closed = false;
+      jump = false;
       decision = none;
       held = record { heard = 4; slots = replicate 20 0 ++ ((2 ^ 28 + 3 * 2 ^ 16) ∷ 2 ∷ replicate 288 0) };
       groups = record { value = replicate 160 0; none = replicate 160 0 };
@@ -59,11 +60,11 @@ forged =
 -- ---- the list, call by call, each with the number that it answers
 -- 20: site 1 opens on question 1 with 0
 abbrev pub calls-1 : List Call
-calls-1 = call 1 (opens 1 0 out) ∷ []
+calls-1 = call 1 (opens 1 0 0 out) ∷ []
 
 -- 20: and so does site 2
 abbrev pub calls-2 : List Call
-calls-2 = call 2 (opens 1 0 out) ∷ calls-1
+calls-2 = call 2 (opens 1 0 0 out) ∷ calls-1
 
 -- 5: site 1 is given site 2's INIT with its last code word damaged
 abbrev pub damaged : List ℕ
@@ -129,7 +130,7 @@ calls-16 = call 2 (gives 0 (present toy [] 3 calls-10 2 0) (bundle calls-7) 1 ou
 
 -- 20: site 1 opens on question 2 with 1
 abbrev pub calls-17 : List Call
-calls-17 = call 1 (opens 2 1 out) ∷ calls-16
+calls-17 = call 1 (opens 2 1 0 out) ∷ calls-16
 
 -- 20: site 3 brings the forged station, and is given that INIT
 abbrev pub example : List Call
@@ -208,6 +209,11 @@ few-faulty = few-out toy [] 3 (3 ∷ []) example (ap (λ (f : Facts). f .few) co
 others : (i : ℕ) → 1 ≤ i → i ≤ 3 → member i (3 ∷ []) ≡ false → Sound toy [] 3 i example
 others = others-out toy [] 3 (3 ∷ []) example (ap (λ (f : Facts). f .few) computed)
 
+-- no opening has jump on
+all-off : AllOff toy [] 3 example 1
+unfolding computes
+all-off i low high sound = off-out toy [] 3 (λ j. true) 1 example refl i refl
+
 -- the toss was coded
 faulty-3 : Sound toy [] 3 3 example → ⊥
 unfolding Sound
@@ -237,7 +243,9 @@ pub record Witness (cs : List Call) : Type 1 where
   pub second : Decides toy [] 3 cs 1 0 1 0
   pub second-round : second .round ≡ 2
   pub not-before : count (votes (second .line .took) 1 1 0) 3 ≡ 1
-  -- no site proposed 1 on question 1, and site 1's station took station 3's none vote of round 1
+  -- no sound site has jump on, so that 0 has its backing, which is 2; no site proposed 1 on question 1, and site 1's station took station 3's none vote of round 1
+  pub off : AllOff toy [] 3 cs 1
+  pub backed : backing 3 0 ≤ count (proposed (log toy [] 3 cs) 1 0) 3
   pub unbacked : count (proposed (log toy [] 3 cs) 1 1) 3 ≡ 0
   pub poisoned : votes (second .line .took) 1 1 none 3 ≡ true
   -- site 1's vote of round 1 for 0, by which site 2 decides: by the theorem on such votes it names at least the backing of 0, which is 2, in sites that proposed 0
@@ -259,9 +267,14 @@ witness =
       second = decides-out toy [] 3 example 1 0 1 0 2 (omega arith) (ap (λ (f : Facts). f .second) computed);
       second-round = refl;
       not-before = ap (λ (f : Facts). f .in-round-1) computed;
+      off = all-off;
+      backed = claimed .backed 2 0 1 0 (others 2 (omega arith) (omega arith) refl) all-off (decides-out toy [] 3 example 2 0 1 0 1 (omega arith) (ap (λ (f : Facts). f .first) computed));
       unbacked = ap (λ (f : Facts). f .proposed) computed;
       poisoned = ap (λ (f : Facts). f .poisoned) computed;
       first-vote = first-vote;
       named = first-votes-by toy [] 3 calls-10 (bundle calls-7) 1 0 vote-came first-vote;
-      claimed = claim toy (λ key ws. refl) [] 3 (omega arith) (omega arith) example within few-faulty;
+      claimed = claimed;
     }
+  where
+    claimed : Claim toy [] 3 example
+    claimed = claim toy (λ key ws. refl) [] 3 (omega arith) (omega arith) example within few-faulty

@@ -4,3 +4,4 @@ pub mod Giving
 pub mod Invariant
 pub mod Run
 pub mod Lists
+pub mod Settings

@@ -5,4 +5,5 @@ pub mod Theorem
 pub mod FirstVotes
 pub mod Computed
 pub mod Example
+pub mod Unbacked
 pub mod Laws

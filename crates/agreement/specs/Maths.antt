@@ -7,4 +7,5 @@ pub mod Settles
 pub mod Just
 pub mod Took
 pub mod Standing
+pub mod Entering
 pub mod Taking

@@ -1,5 +1,5 @@
 -- Demand 3, proved: for every n from 2 to 31, key and list of calls that meets the premises, the claim holds.
-use mathlib.Core.Path.{_≡_, refl, sym, _∙_, subst}
+use mathlib.Core.Path.{_≡_, refl, sym, _∙_, ap, subst}
 use mathlib.Core.Bool.{Bool, true, false, not, _&&_, _||_}
 use mathlib.Core.List.{List, [], _∷_}
 use Prim.Native.Nat.{ℕ, zero, suc, _-_, _/_, _≤_, _<_}
@@ -43,9 +43,10 @@ use Rattle.agreement.specs.Laws.Effect.{plain-effect, toss-effect}
 use Rattle.agreement.specs.Laws.Line.{reads, AtSite, all-came, Line, line-asked, line-low, line-named, line-names, line-open}
 use Rattle.agreement.specs.Maths.Standing.{Enough, Open}
 use Rattle.agreement.specs.Laws.Invariant.{Mine, start}
+use Rattle.agreement.specs.Laws.Settings.{setting-known}
 use Rattle.agreement.specs.Laws.Run.{Inv, apart-step, open-step, give-step}
 use Rattle.agreement.specs.Maths.Votes.{is-vote, votes}
-use Rattle.agreement.specs.Demand.{opens, gives, codes, tosses, Call, call, site, action, View, starting, going-on, apart, view, Entry, is-statement, Lineage, Found, found, opened, gave, went, member, proposed, act, modules, answer, log, openings, lineage, Presents, Sound, FewFaulty, CodesCame, Given, Decides, Claim, Demand-3}
+use Rattle.agreement.specs.Demand.{opens, gives, codes, tosses, Call, call, site, action, View, starting, going-on, apart, view, Entry, is-statement, Lineage, Found, found, opened, gave, went, member, proposed, act, modules, answer, log, openings, lineage, Presents, Sound, JumpOff, AllOff, FewFaulty, CodesCame, Given, Decides, Claim, Demand-3}
 
 -- ---- the premise on numbers
 member-few : (l : List ℕ) (n : ℕ) → count (λ i. member i l) n ≤ length l
@@ -119,11 +120,15 @@ module _ (mac : List ℕ → List ℕ → List ℕ) (eight : (key ws : List ℕ)
 
   pub inv : (faulty : List ℕ) (cs : List Call) → Given mac key n cs → AllSound faulty cs → Inv mac eight key n low top faulty cs
   unfolding Given Sound log lineage modules
-  inv faulty [] g s = record { logs = start key n faulty low top; lines = λ i k line a b h e. absurd (let z : _≡_ {A = ℕ} 0 1 = cc in omega arith) }
-  inv faulty (call j (opens q v out) ∷ cs) g s = open-step mac eight key n low top faulty j q v out cs (g .0 .0) (g .0 .1) (inv faulty cs (g .1 .1) (λ i a b h. s i a b h .1))
+  inv faulty [] g s = record { logs = start key n faulty (λ i q. JumpOff mac key n i q []) low top; lines = λ i k line a b h e. absurd (let z : _≡_ {A = ℕ} 0 1 = cc in omega arith) }
+  inv faulty (call j (opens q v setting out) ∷ cs) g s =
+      open-step mac eight key n low top faulty j q v setting out cs (g .0 .0) (g .0 .1) (inv faulty cs (g .1 .1) (λ i a b h. s i a b h .1))
   inv faulty (call j (gives o t ws coin out) ∷ cs) g s =
       give-step mac eight key n low top faulty j o t ws coin out cs (g .0 .0) (g .0 .1) (inv faulty cs (g .1 .1) (λ i a b h. s i a b h .1)) (g .1 .0 .0) (g .1 .0 .1)
       (λ h u. s j (g .0 .0) (g .0 .1) h .0 refl u)
+      (λ h u on off. let p = s j (g .0 .0) (g .0 .1) h .0 refl u in
+      setting-known mac key n cs (g .1 .1) j o (p .line) (s j (g .0 .0) (g .0 .1) h .1) (p .is) (ap (λ (x : Station). x .jump) (p .now) ∙ on)
+      (subst (λ (x : Station). JumpOff mac key n j (x .identity .question) cs) (sym (p .now)) off))
   inv faulty (call j (codes ws) ∷ cs) g s =
       apart-step mac eight key n low top faulty j (codes ws) cs refl (plain-effect mac eight key n (modules mac key n cs j) j ws) (g .0 .0) (g .0 .1) (inv faulty cs (g .1 .1) (λ i a b h. s i a b h .1))
       (λ h e. s j (g .0 .0) (g .0 .1) h .0 refl e)
@@ -144,7 +149,7 @@ module _ (mac : List ℕ → List ℕ → List ℕ) (eight : (key ws : List ℕ)
 
   by-view : (v : View) (j i : ℕ) (x : Bool) (r : Returned) (o k : ℕ) (f : Found) (line : Lineage) → (1 ≤ j) × (j ≤ n) → (f ≡ found line → (1 ≤ i) × (i ≤ n))
       → went v (eqb j i && x) r o k f ≡ found line → (1 ≤ i) × (i ≤ n)
-  by-view starting j i x r o k f line range ih e = by-site j i x (eqb o k) (opened r) f line range ih e
+  by-view (starting q setting) j i x r o k f line range ih e = by-site j i x (eqb o k) (opened r) f line range ih e
   by-view (going-on h t ws) j i x r o k f line range ih e = by-site j i x (eqb h k) (gave r ws f) f line range ih e
   by-view apart j i x r o k f line range ih e = ih e
 
@@ -180,7 +185,6 @@ module _ (mac : List ℕ → List ℕ → List ℕ) (eight : (key ws : List ℕ)
           distinct = I .logs .distinct;
           small = λ s i k. bit s k (all-at (Formed n) l (I .logs .formed) s i .shape);
           just = λ s i h. all-at (λ s. member (s .station) faulty ≡ false → Just n l s) l (I .logs .just) s i (not-sound _ h);
-          split = λ s i h a b c. all-at (λ s. member (s .station) faulty ≡ false → s .kind ≡ kind-V → s .value ≡ none → Split n l (s .question) (s .round)) l (I .logs .split) s i (not-sound _ h) a b;
         }
       where
         bit : (s : Statement) → s .kind ≡ kind-P → Shape s → s .value < 2
@@ -253,11 +257,20 @@ module _ (mac : List ℕ → List ℕ → List ℕ) (eight : (key ws : List ℕ)
         by-kind true w h ih = go w (is kind-INIT q 0 v i (statement (e .words) 0)) refl h ih
         by-kind false w h ih = right here _ (ih h)
 
-    back : Given mac key n cs → (i k q v : ℕ) → member i faulty ≡ false → Decides mac key n cs i k q v → backing n v ≤ count (proposed (log mac key n cs) q v) n
-    back g i k q v h d =
+    -- where no sound site jumps on the question, its none votes of round 1 had two values before them
+    no-jumps : (q : ℕ) → ((x : ℕ) → 1 ≤ x → x ≤ n → member x faulty ≡ false → JumpOff mac key n x q cs) → Safe.Splits n sound l bad-few low log-ok q 1
+    no-jumps q off s i h a b c d =
+        let f = all-at (Formed n) l (I .logs .formed) s i in
+        let m : member (s .station) faulty ≡ false = not-sound _ h in
+        all-at (λ s. member (s .station) faulty ≡ false → JumpOff mac key n (s .station) (s .question) cs → s .kind ≡ kind-V → s .value ≡ none → Split n l (s .question) (s .round)) l (I .logs .split) s i m
+        (subst (λ (z : ℕ). JumpOff mac key n (s .station) z cs) (sym c) (off (s .station) (f .low) (f .high) m)) a b
+
+    back : Given mac key n cs → (i k q v : ℕ) → member i faulty ≡ false → ((x : ℕ) → 1 ≤ x → x ≤ n → member x faulty ≡ false → JumpOff mac key n x q cs) → Decides mac key n cs i k q v
+        → backing n v ≤ count (proposed (log mac key n cs) q v) n
+    back g i k q v h off d =
         omega (
           arith,
-          Safe.backed n sound l bad-few low log-ok q v (decided g i k q v h d),
+          Safe.backed n sound l bad-few low log-ok q v (no-jumps q off) (decided g i k q v h d),
           count-mono (has l kind-INIT q 0 v) (proposed (log mac key n cs) q v) (proposed-in (log mac key n cs) (I .logs .sites) q v) n,
         )
 
@@ -402,8 +415,9 @@ module _ (mac : List ℕ → List ℕ → List ℕ) (eight : (key ws : List ℕ)
     agreed : (i j k o q v w : ℕ) → Sound mac key n i cs → Sound mac key n j cs → Decides mac key n cs i k q v → Decides mac key n cs j o q w → v ≡ w
     agreed i j k o q v w si sj d e = agree (rest i j) (rest-few i j) cs (at i j si sj) g i j k o q v w (rest-i i j) (rest-j i j) d e
 
-    enough-proposed : (i k q v : ℕ) → Sound mac key n i cs → Decides mac key n cs i k q v → backing n v ≤ count (proposed (log mac key n cs) q v) n
-    enough-proposed i k q v si d = back (rest i i) (rest-few i i) cs (at i i si si) g i k q v (rest-i i i) d
+    enough-proposed : (i k q v : ℕ) → Sound mac key n i cs → AllOff mac key n cs q → Decides mac key n cs i k q v → backing n v ≤ count (proposed (log mac key n cs) q v) n
+    enough-proposed i k q v si off d =
+        back (rest i i) (rest-few i i) cs (at i i si si) g i k q v (rest-i i i) (λ x a b h. off x a b (rest-sound i i si si x a b h)) d
 
     pub here : (i k : ℕ) (line : Lineage) → Sound mac key n i cs → lineage mac key n cs i k ≡ found line
         → Line n (reads (log mac key n cs)) i (line .present) (line .took)
@@ -425,8 +439,8 @@ module _ (mac : List ℕ → List ℕ → List ℕ) (eight : (key ws : List ℕ)
               agreed i j k o (a .present .identity .question) (a .present .decision) (b .present .decision) si sj
               (decides-named i k (a .present .decision) a si e x refl)
               (subst (λ (q : ℕ). Decides mac key n cs j o q (b .present .decision)) (sym same) (decides-named j o (b .present .decision) b sj f y refl));
-          named-backed = λ i k a si e x.
-              enough-proposed i k (a .present .identity .question) (a .present .decision) si (decides-named i k (a .present .decision) a si e x refl);
+          named-backed = λ i k a si e off x.
+              enough-proposed i k (a .present .identity .question) (a .present .decision) si off (decides-named i k (a .present .decision) a si e x refl);
           no-conflict = λ i k t ws coin out si p c e. never-10 (rest i i) (rest-few i i) cs (at i i si si) g i k t ws coin out (rest-i i i) p c e;
         }
       where

@@ -1,5 +1,5 @@
 -- The words that a script is run over (docs/SCRIPT.md), in one list: the numbers of a line, the words that a call may change as they were, and behind
--- them the registers, 32 modules of 13 words, 64 stations of 639 words, 128 buffers of 400 words with their length behind them. A register is
+-- them the registers, 32 modules of 13 words, 64 stations of 640 words, 128 buffers of 400 words with their length behind them. A register is
 -- named by the place where it begins.
 use Prim.Native.Nat.{ℕ, _+_, _-_, _≤_}
 use mathlib.Core.Path.{_≡_, ap, _∙_}
@@ -23,7 +23,7 @@ use Rattle.call_cases.specs.declared.Copied.{Copied}
 use Rattle.call_cases.specs.declared.Named.{Named}
 
 abbrev pub all-words : ℕ
-all-words = 93771
+all-words = 93836
 
 -- a setting copies words that are there to words that are there
 pub record Within (c : Copied) : Type 0 where
@@ -33,7 +33,7 @@ pub record Within (c : Copied) : Type 0 where
 -- the registers that a call names are there
 pub record InRange (names : Named) : Type 0 where
   pub module-is : names .module + 13 ≤ all-words
-  pub station-is : names .station + 639 ≤ all-words
+  pub station-is : names .station + station-words ≤ all-words
   pub lent-is : names .lent + 401 ≤ all-words
   pub given-is : names .given + 401 ≤ all-words
 
@@ -76,9 +76,9 @@ pub record Counted (x : Returned) (number count : ℕ) : Type 0 where
   pub number-is : number ≡ x .number
   pub count-is : count ≡ x .count
 
--- what `open M S Q V O` returns
-unfoldable pub opened-by : List ℕ → Named → ℕ → ℕ → Returned
-opened-by ws names question proposal = opening hmac-code (module-in ws (names .module)) question proposal (seen ws (names .lent))
+-- what `open M S Q V J O` returns
+unfoldable pub opened-by : List ℕ → Named → ℕ → ℕ → ℕ → Returned
+opened-by ws names question proposal jump = opening hmac-code (module-in ws (names .module)) question proposal jump (seen ws (names .lent))
 
 -- what giving words returns, and `give M S B C O`
 unfoldable pub given-words : List ℕ → Named → List ℕ → ℕ → Returned
@@ -133,14 +133,14 @@ counted x y number count e number-is count-is = record { number-is = number-is �
 
 module _ (ws : List ℕ) (names : Named) (x : Module) (l number count : ℕ) (x-is : x ≡ module-in ws (names .module))
     (l-is : l ≡ shown (getD ws (names .lent + 400) 0)) where
-  pub opened-is : (question proposal : ℕ)
-      → number ≡ opening hmac-code x question proposal (take (names .lent + l - names .lent) (drop (names .lent) ws)) .number
-      → count ≡ opening hmac-code x question proposal (take (names .lent + l - names .lent) (drop (names .lent) ws)) .count
-      → Counted (opened-by ws names question proposal) number count
+  pub opened-is : (question proposal jump : ℕ)
+      → number ≡ opening hmac-code x question proposal jump (take (names .lent + l - names .lent) (drop (names .lent) ws)) .number
+      → count ≡ opening hmac-code x question proposal jump (take (names .lent + l - names .lent) (drop (names .lent) ws)) .count
+      → Counted (opened-by ws names question proposal jump) number count
   unfolding opened-by
-  opened-is question proposal number-is count-is =
-      counted (opening hmac-code x question proposal (take (names .lent + l - names .lent) (drop (names .lent) ws)))
-      (opened-by ws names question proposal) number count (rw (x-is, seen-lent ws (names .lent) l l-is)) number-is count-is
+  opened-is question proposal jump number-is count-is =
+      counted (opening hmac-code x question proposal jump (take (names .lent + l - names .lent) (drop (names .lent) ws)))
+      (opened-by ws names question proposal jump) number count (rw (x-is, seen-lent ws (names .lent) l l-is)) number-is count-is
 
   pub given-is : (words : List ℕ) (r : Reading) (coin : ℕ) → r ≡ reading (part (names .station) station-words ws)
       → number ≡ giving hmac-code x (r .station) words coin (take (names .lent + l - names .lent) (drop (names .lent) ws)) .number

@@ -13,7 +13,7 @@ ghost use Prim.Native.Nat.{_+_, _≤_, _<_};
 ghost use lib.ListN.{length, getD};
 ghost use Rattle.hmac.specs.Code.{hmac-code};
 ghost use Rattle.sealed.specs.Sealed.{coding-plain, coding-coin};
-ghost use Rattle.station_words.specs.Words.{reading, part};
+ghost use Rattle.station_words.specs.Words.{station-words, reading, part};
 ghost use Rattle.station_words.specs.Laws.Put.{put-at};
 ghost use Rattle.call_cases.specs.Registers.{all-words, check-of, key-of, made-by, Within, InRange, shown, seen, last-in, module-in, Counted, opened-by, given-words, given-by};
 
@@ -212,7 +212,7 @@ fn module_place(m: u32) -> usize
 }
 
 fn station_place(s: u32) -> usize
-    ensures { λ r. ⌜ r + 639 ≤ all-words ⌝ }
+    ensures { λ r. ⌜ r + station-words ≤ all-words ⌝ }
 {
     STATIONS_AT + (s % STATIONS) as usize * STATION_WORDS
 }
@@ -461,8 +461,8 @@ fn put_module(registers: &mut [u32], at: usize, new: Module)
 
 // The station at a place, if its words are one.
 fn station_at(registers: &[u32], at: usize) -> Reading
-    requires { ⌜ (at + 639 ≤ length (now registers)) × (length (now registers) ≡ all-words) ⌝ }
-    ensures { λ r. ⌜ r ≡ reading (part at 639 (now (registers .entry))) ⌝ }
+    requires { ⌜ (at + station-words ≤ length (now registers)) × (length (now registers) ≡ all-words) ⌝ }
+    ensures { λ r. ⌜ r ≡ reading (part at station-words (now (registers .entry))) ⌝ }
 {
     let end = at + STATION_WORDS;
     station_words::read(&registers[at..end])
@@ -537,15 +537,15 @@ fn toss(registers: &mut [u32], m: usize, b: usize, coin: u32) -> u32
     coded.number
 }
 
-// `open M S Q V O`.
-fn open(registers: &mut [u32], names: Named, question: u32, proposal: u32) -> Answer
+// `open M S Q V J O`. Any number may stand for the jump setting: what it says is for the call to judge.
+fn open(registers: &mut [u32], names: Named, question: u32, proposal: u32, jump: u32) -> Answer
     requires { ⌜ InRange names × (length (now registers) ≡ all-words) ⌝ }
-    ensures { λ r. ⌜ Counted (opened-by (now (registers .entry)) names question proposal) (r .number) (r .count) ⌝ }
+    ensures { λ r. ⌜ Counted (opened-by (now (registers .entry)) names question proposal jump) (r .number) (r .count) ⌝ }
 {
     let at = names.lent;
     let end = at + length_at(registers, at);
     let module = module_at(registers, names.module);
-    let r = opening::open(module, question, proposal, &mut registers[at..end]);
+    let r = opening::open(module, question, proposal, jump, &mut registers[at..end]);
     let after = r.after;
     let station = r.station;
     store(registers, names, after, station);
@@ -610,10 +610,11 @@ fn registers_of(k: u8, count: usize, registers: &[u32]) -> Named
     let b = registers[1];
     let c = registers[2];
     let e = registers[4];
+    let f = registers[5];
     match k {
         b'g' => names((count == 5) & (c != e), a, b, e, c),
         b'm' => names(count == 11, a, 0, 0, 0),
-        b'o' => names(count == 5, a, b, e, 0),
+        b'o' => names(count == 6, a, b, f, 0),
         b't' => names(count == 3, a, 0, b, 0),
         _ => names(count == 2, a, 0, b, 0),
     }
@@ -647,9 +648,10 @@ fn answered(k: u8, registers: &mut [u32], names: Named) -> Answer
 {
     let second = registers[2];
     let third = registers[3];
+    let fourth = registers[4];
     match k {
         b'g' => give(registers, names, third),
-        b'o' => open(registers, names, second, third),
+        b'o' => open(registers, names, second, third, fourth),
         _ => Answer {
             number: brief(k, registers, names.module, names.lent, second),
             count: 0,
@@ -786,7 +788,7 @@ fn append_changes(text: &mut [u8], at: usize, registers: &[u32], names: Named) -
     )
 }
 
-// Prints the line of a call. The longest has 1,052 words that differ and is shorter than the text.
+// Prints the line of a call. The longest has 1,053 words that differ and is shorter than the text.
 fn show(answer: Answer, registers: &[u32], names: Named)
     requires { ⌜ InRange names × (length (now registers) ≡ all-words) ⌝ }
 {

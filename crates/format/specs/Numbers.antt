@@ -88,6 +88,9 @@ sent-decided = 21
 abbrev pub closed-now : ℕ
 closed-now = 22
 
+abbrev pub jumped : ℕ
+jumped = 23
+
 abbrev pub short-output : ℕ
 short-output = 1
 

@@ -68,6 +68,8 @@ pub const SENT_DECIDED: u32 = 21;
 
 pub const CLOSED_NOW: u32 = 22;
 
+pub const JUMPED: u32 = 23;
+
 pub const SHORT_OUTPUT: u32 = 1;
 
 pub const OUT_OF_RANGE: u32 = 2;

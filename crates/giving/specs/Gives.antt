@@ -1,6 +1,6 @@
 -- Giving, by a station's words: what follows a bundle kept, as the code finds it. `Law` ties it to the definition, `giving`.
 use Prim.Native.Nat.{ℕ}
-use mathlib.Core.Bool.{true}
+use mathlib.Core.Bool.{true, false}
 use mathlib.Core.List.{List}
 use lib.Count.{ones}
 use lib.Dec.{ltb}
@@ -17,7 +17,7 @@ use Rattle.moving.specs.Moves.{with-no-bundle, moving}
 
 -- a closed station keeps its identity, its stage and its decision
 unfoldable pub shut-words : Station → ℕ → Station
-shut-words k d = empty-station (k .identity) (k .stage) true d
+shut-words k d = empty-station (k .identity) (k .stage) true false d
 
 unfoldable pub ending-words : Module → Station → ℕ → List ℕ → Returned
 ending-words m k coin out =

@@ -5,6 +5,7 @@ ghost use mathlib.Core.Path.{_≡_};
 ghost use Rattle.hmac.specs.Code.{hmac-code};
 ghost use Rattle.station.specs.Calls.{giving};
 ghost use Rattle.station.specs.Answers.{Answers};
+ghost use Rattle.jumping.specs.Jumps.{jumping};
 ghost use Rattle.giving.specs.Gives.{ending-words, after-words};
 
 // What giving answers: the returned number, the word count, the station and the module. The output words are lent.
@@ -37,7 +38,11 @@ fn end_step(m: Module, k: Station, coin: u32, out: &mut [u32]) -> Given
     let d = ending::decision_after(stage, k.decision, held.heard, &slots);
     if ending::closes(stage) {
         let identity = k.identity;
-        return no_bundle(format::CLOSED_NOW, held::empty(identity, stage, true, d), m);
+        return no_bundle(
+            format::CLOSED_NOW,
+            held::empty(identity, stage, true, false, d),
+            m,
+        );
     }
     let x = ending::next(stage, m.n, held.heard, &slots, coin);
     let r = moving::go_on(m, k, x, d, out);
@@ -62,6 +67,21 @@ fn taken(m: Module, k: Station, coin: u32, out: &mut [u32]) -> Given
     end_step(m, k, coin, out)
 }
 
+// A bundle of a later step, given to a station that jumps.
+fn jump_on(m: Module, t: Station, ws: &[u32], coin: u32, out: &mut [u32]) -> Given
+    ensures { λ r. ⌜ Answers (jumping m t (now (ws .entry)) coin (now (out .entry))) (r .number) (r .count) (r .station) (r .after) (now (out .exit)) ⌝ }
+{
+    let j = jumping::jump(m, t, ws, coin, out);
+    let station = j.station;
+    let after = j.after;
+    Given {
+        number: j.number,
+        count: j.count,
+        station,
+        after,
+    }
+}
+
 // Gives a bundle to a station.
 pub fn give(m: Module, t: Station, ws: &[u32], coin: u32, out: &mut [u32]) -> Given
     ensures { λ r. ⌜ Answers (giving hmac-code m t (now (ws .entry)) coin (now (out .entry))) (r .number) (r .count) (r .station) (r .after) (now (out .exit)) ⌝ }
@@ -69,6 +89,10 @@ pub fn give(m: Module, t: Station, ws: &[u32], coin: u32, out: &mut [u32]) -> Gi
     let number = refusal::refusal(m, t, ws, coin, out.len());
     if number != 0 {
         return no_bundle(number, t, m);
+    }
+    let stage = t.stage;
+    if refusal::jumps(stage, t.jump, format::read_fields(format::word_at(ws, 1))) {
+        return jump_on(m, t, ws, coin, out);
     }
     let k = keeping::keep(t, ws);
     let r = taken(m, k, coin, out);

@@ -187,7 +187,7 @@ fn written(
     next
 }
 
-// Opens a station on a question. The station before, decided or not, is discarded: the module codes nothing more for it. A refused opening leaves the
+// Opens a station on a question, with jump off. The station before, decided or not, is discarded: the module codes nothing more for it. A refused opening leaves the
 // site as it was.
 fn open(
     s: Site,
@@ -201,7 +201,7 @@ fn open(
 {
     let own = s.own;
     let mut bundle = [0u32; OUTPUT_WORDS];
-    let o = opening::open(own, question, value, &mut bundle);
+    let o = opening::open(own, question, value, 0, &mut bundle);
     let mut counts = c;
     if o.number != 20 {
         counts.refused = more(c.refused);

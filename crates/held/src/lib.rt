@@ -130,8 +130,8 @@ pub fn for_none(slots: &[u32; SLOTS_WORDS], set: u32, stage: Stage) -> u32
 }
 
 // A station that holds nothing.
-pub fn empty(identity: Identity, stage: Stage, closed: bool, decision: u32) -> Station
-    ensures { λ r. ⌜ r ≡ empty-station identity stage closed decision ⌝ }
+pub fn empty(identity: Identity, stage: Stage, closed: bool, jump: bool, decision: u32) -> Station
+    ensures { λ r. ⌜ r ≡ empty-station identity stage closed jump decision ⌝ }
 {
     let held = Held {
         heard: 0,
@@ -145,6 +145,7 @@ pub fn empty(identity: Identity, stage: Stage, closed: bool, decision: u32) -> S
         identity,
         stage,
         closed,
+        jump,
         decision,
         held,
         groups,

@@ -1,7 +1,7 @@
 -- A station that has just sent, as words: a blank station that keeps the bundle it wrote. The law ties it to the state's definition, `began`.
 use Prim.Native.Nat.{ℕ, zero, suc, _*_, _≤_}
 use mathlib.Core.Bool.{Bool, true, false, _&&_}
-use mathlib.Core.List.{List, [], _∷_, _++_}
+use mathlib.Core.List.{List, [], _∷_}
 use mathlib.Core.Path.{_≡_, refl, sym, ap, _∙_}
 use native.Mathlib.Omega.{arith}
 use lib.Dec.{eqb}
@@ -33,12 +33,12 @@ use Rattle.keeping.specs.Kept.{with-bundle}
 use Rattle.keeping.specs.Laws.Law.{kept-is}
 
 -- an open station that holds nothing
-unfoldable pub blank : ℕ → ℕ → ℕ → Stage → ℕ → Station
-blank n number question g d = empty-station (record { n = n; station = number; question = question }) g false d
+unfoldable pub blank : ℕ → ℕ → ℕ → Bool → Stage → ℕ → Station
+blank n number question jump g d = empty-station (record { n = n; station = number; question = question }) g false jump d
 
 -- its state
-abbrev empty : ℕ → Stage → ℕ → State
-empty question g d = record { question = question; stage = g; closed = false; decision = d; held = []; for-value = []; for-none = [] }
+abbrev empty : ℕ → Bool → Stage → ℕ → State
+empty question jump g d = record { question = question; stage = g; closed = false; jump = jump; decision = d; held = []; for-value = []; for-none = [] }
 
 abbrev no-words : ℕ → List ℕ
 no-words k = replicate k 0
@@ -72,28 +72,28 @@ no-group-fits : (n question : ℕ) → group-fits n question no-group (replicate
 unfolding holds in-order all-formed statements every
 no-group-fits n question = zeros-there 160 160 0
 
-module _ (n number question : ℕ) (g : Stage) (d : ℕ) where
-  nothing-held : held-by (blank n number question g d) ≡ []
+module _ (n number question : ℕ) (jump : Bool) (g : Stage) (d : ℕ) where
+  nothing-held : held-by (blank n number question jump g d) ≡ []
   unfolding blank
   nothing-held = none-held (replicate 310 0) 31 0
 
-  blank-lengths : Lengths (blank n number question g d)
+  blank-lengths : Lengths (blank n number question jump g d)
   unfolding blank
   blank-lengths = record { slots = refl; for-value = refl; for-none = refl }
 
-  blank-low : LowWords (blank n number question g d)
+  blank-low : LowWords (blank n number question jump g d)
   unfolding blank
   blank-low = record { slots = zeros-low 310; for-value = zeros-low 160; for-none = zeros-low 160 }
 
-  no-for-value : kept-for-value n g (held-by (blank n number question g d)) ≡ no-group
+  no-for-value : kept-for-value n g (held-by (blank n number question jump g d)) ≡ no-group
   unfolding kept-for-value some pick
   no-for-value = ap (kept-for-value n g) nothing-held
 
-  no-for-none : kept-for-none n g (held-by (blank n number question g d)) ≡ no-group
+  no-for-none : kept-for-none n g (held-by (blank n number question jump g d)) ≡ no-group
   unfolding kept-for-none some pick
   no-for-none = ap (kept-for-none n g) nothing-held
 
-  blank-fit : Fit n number (blank n number question g d)
+  blank-fit : Fit n number (blank n number question jump g d)
   unfolding blank
   blank-fit =
       record {
@@ -105,7 +105,7 @@ module _ (n number question : ℕ) (g : Stage) (d : ℕ) where
         for-none = ap (λ (x : Group). group-fits n question x (replicate 160 0)) no-for-none ∙ no-group-fits n question;
       }
 
-  blank-state : state-of (blank n number question g d) ≡ empty question g d
+  blank-state : state-of (blank n number question jump g d) ≡ empty question jump g d
   unfolding blank state-of statements
   blank-state =
       λ i.
@@ -113,44 +113,43 @@ module _ (n number question : ℕ) (g : Stage) (d : ℕ) where
         question = question;
         stage = g;
         closed = false;
+        jump = jump;
         decision = d;
         held = nothing-held i;
         for-value = statements (replicate 160 0) 0 (no-for-value i .size);
         for-none = statements (replicate 160 0) 0 (no-for-none i .size);
       }
 
-  group-kept : (b : Bool) (c e : List Statement) → take (quorum n) (c ++ e) ≡ c → pick (b && true) (take (quorum n) (c ++ e)) [] ≡ pick b c []
+  group-kept : (b : Bool) (c : List Statement) → pick (b && true) c [] ≡ pick b c []
   unfolding pick
-  group-kept true c e q = q
-  group-kept false c e q = refl
+  group-kept true c = refl
+  group-kept false c = refl
 
-  -- where the first q statements of the certificate are its first group
-  state-begun : (s : Statement) (c e : List Statement) → take (quorum n) (c ++ e) ≡ c → keeping n (empty question g d) s (c ++ e) ≡ began question g d s c
+  state-begun : (s : Statement) (c : List Statement) → keeping n (empty question jump g d) s c ≡ began n question jump g d s c
   unfolding insert some
-  state-begun s c e front =
+  state-begun s c =
       λ i.
       record {
         question = question;
         stage = g;
         closed = false;
+        jump = jump;
         decision = d;
         held = s ∷ [];
-        for-value = group-kept (supplies-for-value g s) c e front i;
-        for-none = group-kept (supplies-for-none g s) c e front i;
+        for-value = group-kept (supplies-for-value g s) (take (quorum n) c) i;
+        for-none = group-kept (supplies-for-none g s) (take (quorum n) c) i;
       }
 
-  pub begun : (s : Statement) (c e : List Statement) → n ≤ most-stations → Proper n s → All (Proper n) (c ++ e) → length (c ++ e) ≤ most-statements
-      → Below (bundle-of s (c ++ e)) → take (quorum n) (c ++ e) ≡ c
-      → with-bundle (blank n number question g d) (bundle-of s (c ++ e)) ≡ W.as-station n number (began question g d s c)
+  pub begun : (s : Statement) (c : List Statement) → n ≤ most-stations → Proper n s → All (Proper n) c → length c ≤ most-statements → Below (bundle-of s c)
+      → with-bundle (blank n number question jump g d) (bundle-of s c) ≡ W.as-station n number (began n question jump g d s c)
   unfolding bundle-of some
-  begun s c e top p a few low front =
-      kept-is n number (blank n number question g d) (bundle-of s (c ++ e)) top blank-lengths blank-low low blank-fit (bundle-there n s (c ++ e) top p a few)
-      new
+  begun s c top p a few low =
+      kept-is n number (blank n number question jump g d) (bundle-of s c) top blank-lengths blank-low low blank-fit (bundle-there n s c top p a few) new
       ∙ ap (W.as-station n number)
-      (ap (λ (t : State). keeping n t (main-of (bundle-of s (c ++ e))) (certificate-of (bundle-of s (c ++ e)))) blank-state
-      ∙ ap (λ (m : Statement). keeping n (empty question g d) m (certificate-of (bundle-of s (c ++ e)))) (main-is n s (c ++ e) top p a few)
-      ∙ ap (keeping n (empty question g d) s) (certificate-is n s (c ++ e) top p a few)
-      ∙ state-begun s c e front)
+      (ap (λ (t : State). keeping n t (main-of (bundle-of s c)) (certificate-of (bundle-of s c))) blank-state
+      ∙ ap (λ (m : Statement). keeping n (empty question jump g d) m (certificate-of (bundle-of s c))) (main-is n s c top p a few)
+      ∙ ap (keeping n (empty question jump g d) s) (certificate-is n s c top p a few)
+      ∙ state-begun s c)
     where
-      new : held-of (main-of (bundle-of s (c ++ e)) .station) (held-by (blank n number question g d)) ≡ false
-      new = ap (held-of (main-of (bundle-of s (c ++ e)) .station)) nothing-held
+      new : held-of (main-of (bundle-of s c) .station) (held-by (blank n number question jump g d)) ≡ false
+      new = ap (held-of (main-of (bundle-of s c) .station)) nothing-held

@@ -142,6 +142,7 @@ pub fn keep(t: Station, ws: &[u32]) -> Station
         identity: identity,
         stage: stage,
         closed: t.closed,
+        jump: t.jump,
         decision: t.decision,
         held: held,
         groups: groups,

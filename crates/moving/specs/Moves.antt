@@ -49,7 +49,7 @@ sending-words m k x f d out =
     record {
       number = answer (k .decision) d;
       count = sent-count set size out;
-      station = sent-station m q (x .stage) d (sent-bundle m q f (k .held .slots) set group size out);
+      station = sent-station m q (k .jump) (x .stage) d (sent-bundle m q f (k .held .slots) set group size out);
       after = sent-after m q f (k .held .slots) set group size out;
       lent = sent-lent m q f (k .held .slots) set group size out;
     }

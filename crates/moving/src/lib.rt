@@ -62,7 +62,7 @@ fn answer(old: u32, d: u32) -> u32
 // Sends the statement that follows, with its certificate.
 fn send_next(m: Module, k: Station, x: Following, f: Fields, d: u32, out: &mut [u32]) -> Sent
     ensures { λ r. ⌜ (r .count ≡ sent-count (x .set) (count-by (x .kept) (m .n) (x .value)) (now (out .entry)))
-        × (r .station ≡ sent-station m (k .identity .question) (x .stage) d (sent-bundle m (k .identity .question) f (k .held .slots) (x .set) (group-by (x .kept) (k .groups)) (count-by (x .kept) (m .n) (x .value)) (now (out .entry))))
+        × (r .station ≡ sent-station m (k .identity .question) (k .jump) (x .stage) d (sent-bundle m (k .identity .question) f (k .held .slots) (x .set) (group-by (x .kept) (k .groups)) (count-by (x .kept) (m .n) (x .value)) (now (out .entry))))
         × (r .after ≡ sent-after m (k .identity .question) f (k .held .slots) (x .set) (group-by (x .kept) (k .groups)) (count-by (x .kept) (m .n) (x .value)) (now (out .entry)))
         × (now (out .exit) ≡ sent-lent m (k .identity .question) f (k .held .slots) (x .set) (group-by (x .kept) (k .groups)) (count-by (x .kept) (m .n) (x .value)) (now (out .entry))) ⌝ }
 {
@@ -78,6 +78,7 @@ fn send_next(m: Module, k: Station, x: Following, f: Fields, d: u32, out: &mut [
         m,
         identity.question,
         f,
+        k.jump,
         stage,
         d,
         &slots,

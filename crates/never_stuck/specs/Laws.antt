@@ -9,5 +9,9 @@ pub mod Advance
 pub mod Sweep
 pub mod Phase
 pub mod Level
+pub mod Leader
+pub mod Together
 pub mod Lucky
 pub mod Calm
+pub mod Mover
+pub mod Relay

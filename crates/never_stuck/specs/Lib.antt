@@ -1,4 +1,5 @@
 pub mod Claim
 pub mod Theorem
+pub mod LastOnly
 pub mod Example
 pub mod Laws

@@ -1,81 +1,143 @@
--- Never stuck, proved: the team catches up to the votes of round r; then one coin for all makes the next round unanimous.
-use mathlib.Core.Path.{_≡_, _∙_, ap, subst}
-use mathlib.Core.Bool.{Bool, true}
+-- Never stuck, proved: the team catches up to the votes of round r, step by step with jump off, by jumping onto the leader's last bundle with jump on; then one
+-- coin for all makes the next round unanimous.
+use mathlib.Core.Path.{_≡_, refl, _∙_, ap, subst}
+use mathlib.Core.Bool.{Bool, true, false}
 use mathlib.Core.List.{List}
-use Prim.Native.Nat.{ℕ, _+_, _*_, _≤_}
+use Prim.Native.Nat.{ℕ, _+_, _*_, _≤_, _<_}
 use native.Mathlib.Omega.{arith}
 use lib.ListN.{length}
+use Rattle.laws.specs.Bools.{never}
 use Rattle.laws.specs.Count.{meet}
-use Rattle.format.specs.Numbers.{last-round, code-words, least-stations, most-stations}
+use Rattle.format.specs.Numbers.{none, last-round, code-words, least-stations, most-stations}
 use Rattle.hmac.specs.Code.{hmac-code, hmac-eight}
 use Rattle.station.specs.declared.Station.{Station}
+use Rattle.station.specs.Machine.{stage-step}
 use Rattle.agreement.specs.Theorem.{every-one, claim}
-use Rattle.agreement.specs.Demand.{Call, log, FewFaulty, Given, Decides}
+use Rattle.agreement.specs.Demand.{Call, log, Presents, Sound, FewFaulty, Given, Decides}
 use Rattle.agreement.specs.Laws.Line.{reads}
-use Rattle.never_stuck.specs.Claim.{Quorate, Ready, Decided, CanDecide, Never-stuck}
-use Rattle.never_stuck.specs.Laws.Spoken.{Premises}
+use Rattle.never_stuck.specs.Claim.{Quorate, Waits, Ready, Decided, CanDecide, Never-stuck}
+use Rattle.never_stuck.specs.Laws.Spoken.{Premises, Spoke}
+use Rattle.never_stuck.specs.Laws.Heard.{up-of, same-waiting}
 use Rattle.never_stuck.specs.Laws.Steps.{within-round}
 use Rattle.never_stuck.specs.Laws.Advance.{then-onward, onward-sound}
 use Rattle.never_stuck.specs.Laws.Sweep.{Arrived}
-use Rattle.never_stuck.specs.Laws.Level.{Within, level}
+use Rattle.never_stuck.specs.Laws.Level.{Waiting, level}
+use Rattle.never_stuck.specs.Laws.Leader.{Under, Leader, leader}
+use Rattle.never_stuck.specs.Laws.Together.{jump-on, together}
 use Rattle.never_stuck.specs.Laws.Lucky.{Done, lucky}
 use Rattle.never_stuck.specs.Laws.Calm.{coin, coin-low, calmed}
 
 module _ (mac : List ℕ → List ℕ → List ℕ) (eight : (key ws : List ℕ) → length (mac key ws) ≡ code-words) (key : List ℕ) (n : ℕ) (low : least-stations ≤ n) (top : n ≤ most-stations) where
-  -- a site that is done has decided what its station names
-  decides : (cs : List Call) → Premises mac key n cs → (q : ℕ) (team : ℕ → Bool) (enough : Quorate n team) (r y : ℕ) (d : Done mac eight key n low top q team enough cs r y)
-      → Decides mac key n cs y (d .opening) q (d .station .decision)
-  decides cs P q team enough r y d =
-      let p = d .presents in
-      subst (λ (z : ℕ). Decides mac key n cs y (d .opening) z (d .station .decision)) (ap (λ (t : Station). t .identity .question) (p .now) ∙ d .asked)
-      (claim mac eight key n low top cs (P .given) (P .few) .names y (d .opening) (d .station .decision) (p .line) (d .sound) (p .is) (d .named) (ap (λ (t : Station). t .decision) (p .now)))
+  -- a site of the team in the votes of round r
+  record Voting (q : ℕ) (team : ℕ → Bool) (floor : ℕ) (enough : Quorate n team) (cs : List Call) (y r : ℕ) : Type 0 where
+    jump : Bool
+    waiting : Waiting mac eight key n low top q team floor enough jump cs y (2 * r + 1) (2 * r + 1)
+
+  -- a sound site has decided what its station names
+  pub decides : (cs : List Call) → Premises mac key n cs → (q y k : ℕ) (t : Station) → Sound mac key n y cs → Presents mac key n cs y k t → t .identity .question ≡ q → t .decision < none
+      → Decides mac key n cs y k q (t .decision)
+  decides cs P q y k t s p asked named =
+      subst (λ (z : ℕ). Decides mac key n cs y k z (t .decision)) (ap (λ (u : Station). u .identity .question) (p .now) ∙ asked)
+      (claim mac eight key n low top cs (P .given) (P .few) .names y k (t .decision) (p .line) s (p .is) named (ap (λ (u : Station). u .decision) (p .now)))
 
   -- all of them the same
-  all-decided : (cs : List Call) → Premises mac key n cs → (q : ℕ) (team : ℕ → Bool) (enough : Quorate n team) (r y z : ℕ) → Done mac eight key n low top q team enough cs r y
-      → (d : Done mac eight key n low top q team enough cs r z) → Decided mac key n cs q r (d .station .decision) y
-  all-decided cs P q team enough r y z c d =
+  all-decided : (cs : List Call) → Premises mac key n cs → (q : ℕ) (team : ℕ → Bool) (floor : ℕ) (enough : Quorate n team) (r y z : ℕ) → Done mac eight key n low top q team floor enough cs r y
+      → (d : Done mac eight key n low top q team floor enough cs r z) → Decided mac key n cs q r (d .station .decision) y
+  all-decided cs P q team floor enough r y z c d =
       let same : c .station .decision ≡ d .station .decision
       = claim mac eight key n low top cs (P .given) (P .few) .agreement y z (c .opening) (d .opening) q (c .station .decision) (d .station .decision) (c .sound) (d .sound)
-      (decides cs P q team enough r y c) (decides cs P q team enough r z d) in
+      (decision y c) (decision z d) in
       record {
         opening = c .opening;
         station = c .station;
         presents = c .presents;
-        decides = subst (λ (v : ℕ). Decides mac key n cs y (c .opening) q v) same (decides cs P q team enough r y c);
+        decides = subst (λ (v : ℕ). Decides mac key n cs y (c .opening) q v) same (decision y c);
         named = same;
         counted = c .counted;
       }
-
-  pub can-decide : (cs : List Call) → Given mac key n cs → FewFaulty mac key n cs → (q r : ℕ) (team : ℕ → Bool) → Quorate n team → 1 ≤ r → r + 1 ≤ last-round
-      → ((y : ℕ) → 1 ≤ y → y ≤ n → team y ≡ true → Ready mac key n cs q r y) → CanDecide mac key n cs q (r + 1) team
-  can-decide cs g F q r team enough from last ready = ended (level mac eight key n low top q team enough (2 * r + 1) 0 (2 * r + 1) (omega arith) (omega arith) (omega arith) cs
-      (record { given = g; few = F }) (λ y a b c. within y (ready y a b c)))
     where
-      within : (y : ℕ) → Ready mac key n cs q r y → Within mac eight key n low top q team enough cs y 0 (2 * r + 1)
-      within y R = record { opening = R .opening; station = R .station; waits = R .waits; from = omega arith; upto = within-round (R .station .stage) r (R .not-past) }
+      decision : (y : ℕ) (d : Done mac eight key n low top q team floor enough cs r y) → Decides mac key n cs y (d .opening) q (d .station .decision)
+      decision y d = decides cs P q y (d .opening) (d .station) (d .sound) (d .presents) (d .asked) (d .named)
 
-      -- behind the list in which all stand in the votes of round r
-      ended : Arrived mac eight key n low top q team cs (λ c y. Within mac eight key n low top q team enough c y (2 * r + 1) (2 * r + 1)) → CanDecide mac key n cs q (r + 1) team
-      ended A =
-          let B = lucky mac eight key n low top q team enough r (coin mac eight key n low top q team enough r (A .list) (A .premises)) from last (coin-low n (reads (log mac key n (A .list))) q r) (A .list) (A .premises)
-          (λ y a b c. calmed mac eight key n low top q team enough r (A .list) (A .premises) y (A .each y a b c)) in
-          let s = meet team (λ i. true) n (omega (arith, every-one n)) in
-          let d = B .each (s .at) (s .low) (s .high) (s .in-first) in
-          let on = then-onward mac eight key n low top q team cs (A .list) (B .list) (A .onward) (B .onward) in
-          record {
-            list = B .list;
-            onward = on;
-            given = B .premises .given;
-            few = B .premises .few;
-            still-sound = λ i h. onward-sound mac eight key n low top q team i cs (B .list) on h;
-            value = d .station .decision;
-            bit = d .named;
-            each = λ y a b c. all-decided (B .list) (B .premises) q team enough (r + 1) y (s .at) (B .each y a b c) d;
-          }
+  module _ (cs : List Call) (g : Given mac key n cs) (F : FewFaulty mac key n cs) (q r : ℕ) (team : ℕ → Bool) (enough : Quorate n team) (from : 1 ≤ r) (last : r + 1 ≤ last-round) where
+    P : Premises mac key n cs
+    P = record { given = g; few = F }
+
+    -- behind a list in which all stand in the votes of round r
+    ended : (jump : Bool) (floor : ℕ) → floor ≤ 2 * r + 1
+        → (jump ≡ true → (y k : ℕ) (t : Station) → 1 ≤ y → y ≤ n → team y ≡ true → Waits mac key n cs q y k t → stage-step (t .stage) ≤ floor)
+        → Arrived mac eight key n low top q team floor cs (λ c y. Voting q team floor enough c y r) → CanDecide mac key n cs q (r + 1) team jump
+    ended jump floor fl last-enough A =
+        let B = lucky mac eight key n low top q team floor enough r (coin mac eight key n low top q team floor enough r (A .list) (A .premises)) fl from last (coin-low n (reads (log mac key n (A .list))) q r) (A .list) (A .premises)
+        (λ y a b c. let o = A .each y a b c in calmed mac eight key n low top q team floor enough r (A .list) (A .premises) (o .jump) y (o .waiting)) in
+        let s = meet team (λ i. true) n (omega (arith, every-one n)) in
+        let d = B .each (s .at) (s .low) (s .high) (s .in-first) in
+        let on = then-onward mac eight key n low top q team floor cs (A .list) (B .list) (A .onward) (B .onward) in
+        record {
+          list = B .list;
+          floor = floor;
+          onward = on;
+          last-enough = last-enough;
+          given = B .premises .given;
+          few = B .premises .few;
+          still-sound = λ i h. onward-sound mac eight key n low top q team floor i cs (B .list) on h;
+          value = d .station .decision;
+          bit = d .named;
+          each = λ y a b c. all-decided (B .list) (B .premises) q team floor enough (r + 1) y (s .at) (B .each y a b c) d;
+        }
+
+    -- jump off: all catch up step by step, and every step's bundle may be needed
+    with-off : ((y : ℕ) → 1 ≤ y → y ≤ n → team y ≡ true → Ready mac key n cs q r false y) → CanDecide mac key n cs q (r + 1) team false
+    with-off ready =
+        let A = level mac eight key n low top q team 0 enough (2 * r + 1) 0 (2 * r + 1) (omega arith) (omega arith) (omega arith) (omega arith) cs P (λ y a b c. within y (ready y a b c)) in
+        ended false 0 (omega arith) (λ on. never false refl on)
+        (record { list = A .list; premises = A .premises; onward = A .onward; each = λ y a b c. record { jump = false; waiting = A .each y a b c } })
+      where
+        within : (y : ℕ) → Ready mac key n cs q r false y → Waiting mac eight key n low top q team 0 enough false cs y 0 (2 * r + 1)
+        within y R = record { opening = R .opening; station = R .station; waits = R .waits; from = omega arith; upto = within-round (R .station .stage) r (R .not-past); setting = R .setting }
+
+    -- jump on: all jump onto the leader's last bundle, and go on from there
+    with-on : ((y : ℕ) → 1 ≤ y → y ≤ n → team y ≡ true → Ready mac key n cs q r true y) → CanDecide mac key n cs q (r + 1) team true
+    with-on ready = from-leader (leader mac key n q team cs r true enough ready)
+      where
+        from-leader : Leader mac key n q team cs r true → CanDecide mac key n cs q (r + 1) team true
+        from-leader D =
+            let L = D .leads in
+            let w = L .ready .waits in
+            let f = D .step in
+            let top-f : f ≤ 2 * r + 1 = omega (arith, within-round (L .ready .station .stage) r (L .ready .not-past), L .stands) in
+            let latest = up-of mac eight key n low top cs P (L .at) (L .ready .opening) (L .ready .station) (w .sound) (w .presents) .latest (w .still-open) in
+            let spoke : Spoke mac key n cs (L .at) q f (latest .words)
+            = subst (λ (z : ℕ). Spoke mac key n cs (L .at) q z (latest .words)) (L .stands)
+            (subst (λ (z : ℕ). Spoke mac key n cs (L .at) z (stage-step (L .ready .station .stage)) (latest .words)) (w .asked) (latest .spoke)) in
+            let A = jump-on mac eight key n low top q team f enough (L .at) f (latest .words) (L .of-team) (omega arith) cs P spoke (λ y a b c. behind f y (L .under y a b c)) in
+            let B = together mac eight key n low top q team f enough (2 * r + 1) (omega arith) (omega arith) (2 * r + 1) f (omega arith) top-f (omega arith) (A .list) (A .premises) (A .each) in
+            ended true f top-f (λ on y k t a b c W. not-past f y k t (L .under y a b c) W)
+            (record {
+              list = B .list;
+              premises = B .premises;
+              onward = then-onward mac eight key n low top q team f cs (A .list) (B .list) (A .onward) (B .onward);
+              each = λ y a b c. let o = B .each y a b c in
+                  record {
+                    jump = o .station .jump;
+                    waiting = record { opening = o .opening; station = o .station; waits = o .waits; from = omega (arith, o .in-step); upto = omega (arith, o .in-step); setting = refl };
+                  };
+            })
+          where
+            behind : (f y : ℕ) → Under mac key n q team cs r true y f → Waiting mac eight key n low top q team f enough true cs y 0 f
+            behind f y u = record { opening = u .ready .opening; station = u .ready .station; waits = u .ready .waits; from = omega arith; upto = u .upto; setting = u .ready .setting }
+
+            not-past : (f y k : ℕ) (t : Station) → Under mac key n q team cs r true y f → Waits mac key n cs q y k t → stage-step (t .stage) ≤ f
+            not-past f y k t u W =
+                subst (λ (z : Station). stage-step (z .stage) ≤ f) (same-waiting mac eight key n low top cs P q y (u .ready .opening) k (u .ready .station) t (u .ready .waits) W) (u .upto)
+
+    pub can-decide : (jump : Bool) → ((y : ℕ) → 1 ≤ y → y ≤ n → team y ≡ true → Ready mac key n cs q r jump y) → CanDecide mac key n cs q (r + 1) team jump
+    can-decide false = with-off
+    can-decide true = with-on
 
 -- for every code of eight words
 pub never-stuck-by : (mac : List ℕ → List ℕ → List ℕ) → ((key ws : List ℕ) → length (mac key ws) ≡ code-words) → Never-stuck mac
-never-stuck-by mac eight key n low top cs g F q r team enough from last ready = can-decide mac eight key n low top cs g F q r team enough from last ready
+never-stuck-by mac eight key n low top cs g F q r team jump enough from last ready = can-decide mac eight key n low top cs g F q r team enough from last jump ready
 
 -- ---- the theorem, for HMAC-SHA-256
 pub never-stuck : Never-stuck hmac-code

@@ -41,10 +41,10 @@ fn first(room: bool, range: bool, later: bool) -> u32
 }
 
 // The refusal of an opening, or 0.
-fn refusal(m: Module, question: u32, proposal: u32, lent: usize) -> u32
-    ensures { λ r. ⌜ r ≡ open-refusal m question proposal lent ⌝ }
+fn refusal(m: Module, question: u32, proposal: u32, jump: u32, lent: usize) -> u32
+    ensures { λ r. ⌜ r ≡ open-refusal m question proposal jump lent ⌝ }
 {
-    let range = modules::fits(m) & (proposal < 2);
+    let range = modules::fits(m) & (proposal < 2) & (jump < 2);
     let later = modules::is_above(m, question, Step(0));
     first(format::OUTPUT_WORDS <= lent, range, later)
 }
@@ -58,7 +58,7 @@ pub fn none() -> Station
         station: 0,
         question: 0,
     };
-    held::empty(identity, Stage::Gathering, true, NONE)
+    held::empty(identity, Stage::Gathering, true, false, NONE)
 }
 
 // The fields of the station's INIT.
@@ -75,11 +75,11 @@ fn init(number: u32, proposal: u32) -> Fields
     }
 }
 
-// Opens a station on a question: its INIT is sent, and it gathers.
-pub fn open(m: Module, question: u32, proposal: u32, out: &mut [u32]) -> Opened
-    ensures { λ r. ⌜ Answers (opening hmac-code m question proposal (now (out .entry))) (r .number) (r .count) (r .station) (r .after) (now (out .exit)) ⌝ }
+// Opens a station on a question, with jump off (0) or on (1): its INIT is sent, and it gathers.
+pub fn open(m: Module, question: u32, proposal: u32, jump: u32, out: &mut [u32]) -> Opened
+    ensures { λ r. ⌜ Answers (opening hmac-code m question proposal jump (now (out .entry))) (r .number) (r .count) (r .station) (r .after) (now (out .exit)) ⌝ }
 {
-    let number = refusal(m, question, proposal, out.len());
+    let number = refusal(m, question, proposal, jump, out.len());
     if number != 0 {
         return Opened {
             number,
@@ -95,6 +95,7 @@ pub fn open(m: Module, question: u32, proposal: u32, out: &mut [u32]) -> Opened
         m,
         question,
         f,
+        jump == 1,
         Stage::Gathering,
         NONE,
         &slots,

@@ -20,7 +20,7 @@ use Rattle.modules.specs.declared.Module.{Module}
 use Rattle.station.specs.declared.Stage.{Stage}
 use Rattle.station.specs.declared.Stage.the-variants.{Gathering, Proposing, Voting}
 use Rattle.station.specs.declared.Station.{Station}
-use Rattle.station.specs.Machine.{stage-step, held-of, has-value, conflict, step-tests}
+use Rattle.station.specs.Machine.{stage-step, held-of, has-value, jumps, conflict, step-tests}
 use Rattle.station.specs.Words.{state-of, held-by}
 use Rattle.station.specs.Calls.{give-tests}
 use Rattle.held.specs.Scan.{such}
@@ -65,21 +65,29 @@ conflict-is (Proposing r f) s h =
     λ i. ltb 1 (r .0) && ((flag-first 0 i s || some (flag-first 0 i) h) && (flag-first 1 i s || some (flag-first 1 i) h))
 conflict-is (Voting r) s h = λ i. (value-alone 0 i s || some (value-alone 0 i) h) && (value-alone 1 i s || some (value-alone 1 i) h)
 
+-- whether a statement with these fields makes the station jump
+unfoldable pub jumps-by : Stage → Bool → Fields → Bool
+jumps-by g jump f = jump && ltb (stage-step g) (step-of (f .kind) (f .round .0))
+
+pub jumps-is : (t : Station) (ws : List ℕ) (f : Fields) → f ≡ fields-of (getD ws 1 0) → jumps-by (t .stage) (t .jump) f ≡ jumps (state-of t) (main-of ws)
+unfolding jumps-by state-of step fields-of
+jumps-is t ws f e = rw e
+
 -- the station's own tests, of a statement with these fields
-unfoldable pub step-refused : Stage → ℕ → List Statement → Fields → ℕ
-step-refused g set h f =
+unfoldable pub step-refused : Stage → Bool → ℕ → List Statement → Fields → ℕ
+step-refused g jump set h f =
     first-failed
     (test (leb (stage-step g) (step-of (f .kind) (f .round .0))) too-late
-    ∷ test (leb (step-of (f .kind) (f .round .0)) (stage-step g)) too-early
-    ∷ test (not (bit set (f .station - 1))) already-held
-    ∷ test (not (conflicting g (f .value) (f .flag) h)) conflict-number
+    ∷ test (jumps-by g jump f || leb (step-of (f .kind) (f .round .0)) (stage-step g)) too-early
+    ∷ test (jumps-by g jump f || not (bit set (f .station - 1))) already-held
+    ∷ test (jumps-by g jump f || not (conflicting g (f .value) (f .flag) h)) conflict-number
     ∷ [])
 
 -- where the bit says whether the main statement's station is held, they are those of the table
 pub step-refused-is : (t : Station) (ws : List ℕ) (f : Fields) → f ≡ fields-of (getD ws 1 0)
     → bit (t .held .heard) (f .station - 1) ≡ held-of (f .station) (held-by t)
-    → step-refused (t .stage) (t .held .heard) (held-by t) f ≡ first-failed (step-tests (state-of t) (main-of ws))
-unfolding step-refused state-of step fields-of
+    → step-refused (t .stage) (t .jump) (t .held .heard) (held-by t) f ≡ first-failed (step-tests (state-of t) (main-of ws))
+unfolding step-refused jumps-by state-of step fields-of
 step-refused-is t ws f e b =
     let c : conflicting (t .stage) (main-of ws .value) (main-of ws .flag) (held-by t) ≡ conflict (t .stage) (main-of ws ∷ held-by t)
     = conflict-is (t .stage) (main-of ws) (held-by t) in

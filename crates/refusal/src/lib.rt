@@ -11,7 +11,7 @@ ghost use Prim.Native.Nat.{_-_, _≤_};
 ghost use Rattle.laws.specs.Refusals.{test, first-failed};
 ghost use Rattle.format.specs.Numbers.{too-late, too-early, already-held, conflicting as conflicting-number};
 ghost use Rattle.station.specs.Words.{held-in, sites};
-ghost use Rattle.refusal.specs.Refusal.{both-values as BothValues, conflicting, step-refused, first-refusal};
+ghost use Rattle.refusal.specs.Refusal.{both-values as BothValues, conflicting, jumps-by, step-refused, first-refusal};
 
 // Whether the held statements and one more, with this value and flag, have both values with such a flag.
 fn both_values(slots: &[u32; SLOTS_WORDS], heard: u32, wanted: Which, value: u32, flag: u32) -> bool
@@ -35,6 +35,15 @@ fn conflicts(slots: &[u32; SLOTS_WORDS], heard: u32, stage: Stage, value: u32, f
     }
 }
 
+// Whether a statement with these fields makes a station jump: the setting is on, and the statement is of a later step.
+pub fn jumps(stage: Stage, jump: bool, f: Fields) -> bool
+    ensures { λ r. ⌜ r ≡ jumps-by stage jump f ⌝ }
+{
+    let own = fitness::step_in(stage);
+    let step = format::step_of(f);
+    jump & (own.0 < step.0)
+}
+
 // The table of the station's own tests, in its order.
 fn table(reached: bool, due: bool, fresh: bool, calm: bool) -> u32
     ensures { λ r. ⌜ r ≡ first-failed (test reached too-late ∷ test due too-early ∷ test fresh already-held ∷ test calm conflicting-number ∷ []) ⌝ }
@@ -54,16 +63,22 @@ fn table(reached: bool, due: bool, fresh: bool, calm: bool) -> u32
     0
 }
 
-// The first of the station's own tests that a statement with these fields fails.
-fn step_refusal(slots: &[u32; SLOTS_WORDS], heard: u32, stage: Stage, f: Fields) -> u32
+// The first of the station's own tests that a statement with these fields fails. One that makes the station jump is only tested for a lower step.
+fn step_refusal(slots: &[u32; SLOTS_WORDS], heard: u32, stage: Stage, jump: bool, f: Fields) -> u32
     requires { ⌜ 1 ≤ f .station ⌝ }
-    ensures { λ r. ⌜ r ≡ step-refused stage heard (held-in heard (now (slots .entry)) 0 sites) f ⌝ }
+    ensures { λ r. ⌜ r ≡ step-refused stage jump heard (held-in heard (now (slots .entry)) 0 sites) f ⌝ }
 {
     let own = fitness::step_in(stage);
     let step = format::step_of(f);
     let held = held::in_set(heard, f.station - 1);
     let clash = conflicts(slots, heard, stage, f.value, f.flag);
-    table(own.0 <= step.0, step.0 <= own.0, !held, !clash)
+    let to_jump = jumps(stage, jump, f);
+    table(
+        own.0 <= step.0,
+        to_jump | (step.0 <= own.0),
+        to_jump | !held,
+        to_jump | !clash,
+    )
 }
 
 // The first refusal of a bundle given to a station, or 0. The tests are made in the table's order, each only where those before it passed: no
@@ -90,5 +105,11 @@ pub fn refusal(m: Module, t: Station, ws: &[u32], coin: u32, room: usize) -> u32
     let held = t.held;
     let slots = held.slots;
     let stage = t.stage;
-    step_refusal(&slots, held.heard, stage, format::read_fields(ws[1]))
+    step_refusal(
+        &slots,
+        held.heard,
+        stage,
+        t.jump,
+        format::read_fields(ws[1]),
+    )
 }

@@ -1,3 +1,4 @@
 pub mod Rules
 pub mod Backed
+pub mod Copied
 pub mod Groups

@@ -1,19 +1,20 @@
--- The law of sending: where the certificate's statements stand in the slots and in the kept group, the words are those of the machine's `sends`.
+-- The law of sending: where the certificate's statements stand in the slots and in the kept group, or in a given bundle, the words are those of the machine's
+-- `sends`.
 use Prim.Native.Nat.{ℕ, zero, suc, _+_, _*_, _^_, _≤_, _<_}
 use mathlib.Core.List.{List, [], _∷_, _++_, append-assoc}
 use mathlib.Core.Bool.{Bool, true, false}
 use mathlib.Core.Path.{_≡_, refl, sym, ap, _∙_, subst}
 use native.Mathlib.Omega.{arith}
-use lib.Dec.{eqb}
-use lib.ListN.{length, take, drop, replicate, length-append}
-use lib.Seq.{take-at}
-use borrow.Author.Tests.{eqb-true, ne-eqb}
+use lib.Dec.{eqb, leb}
+use lib.ListN.{length, take, drop, set, replicate, length-append}
+use lib.Seq.{take-at, drop-at}
+use borrow.Author.Tests.{eqb-true, ne-eqb, le-leb}
 use Rattle.laws.specs.Pick.{pick}
-use Rattle.laws.specs.Bools.{both}
+use Rattle.laws.specs.Bools.{both, join}
 use Rattle.laws.specs.All.{All, all-append}
 use Rattle.format.specs.declared.Fields.{Fields}
-use Rattle.format.specs.Numbers.{kind-P, bundle-words, most-statements, output-words}
-use Rattle.format.specs.Group.{quorum}
+use Rattle.format.specs.Numbers.{kind-P, bundle-words, code-words, most-stations, most-statements, output-words}
+use Rattle.format.specs.Words.{word-of}
 use Rattle.format.specs.Statement.{Statement, written, well-formed, step, statement-code}
 use Rattle.hmac.specs.Code.{hmac-code}
 use Rattle.format.specs.Laws.Shape.{Shape, init, proposal, vote, formed-out}
@@ -29,12 +30,12 @@ use Rattle.station.specs.Words as W
 use Rattle.format.specs.Laws.ReadBack.{Proper, length-written}
 use Rattle.station.specs.Laws.Bundles.{ws-length}
 use Rattle.station.specs.Seal.{main-words}
-use Rattle.writer.specs.Written.{count-after}
+use Rattle.writer.specs.Written.{with-word, copyable, copy-after, copy-count}
 use Rattle.writer.specs.Laws.Bundle.{Certificate, lent-bundle, count-bundle}
 use Rattle.laws.specs.Below.{Below}
 use Rattle.keeping.specs.Kept.{with-bundle}
 use Rattle.keeping.specs.Begun.{blank, begun}
-use Rattle.sending.specs.Sent.{drafted, asked, main-part, with-main, coded-lent, coded-after, sent-count, sent-lent, sent-bundle, sent-station, sent-after}
+use Rattle.sending.specs.Sent.{drafted, asked, main-part, with-main, coded-lent, coded-after, sent-count, sent-lent, sent-bundle, sent-station, sent-after, copy-lent, copy-module, copy-bundle}
 
 low-front : (ws r : List ℕ) → Below (ws ++ r) → Below ws
 low-front [] r h zero = omega arith
@@ -50,28 +51,23 @@ own-fields m kind value flag round =
 abbrev pub own-statement : Module → ℕ → ℕ → ℕ → ℕ → ℕ → Statement
 own-statement m question kind value flag round = own (statement-code (hmac-code (m .key))) (m .station) question kind value flag round
 
-module _ (m : Module) (question kind value flag round : ℕ) (g : Stage) (d : ℕ) (first second : List Statement) (slots group : List ℕ)
-    (C : Certificate (m .n) first second slots group) (c e : List Statement) (same : first ++ second ≡ c ++ e) (out : List ℕ) (room : output-words ≤ length out)
-    (p : Proper (m .n) (own-statement m question kind value flag round)) (fit : module-fits m ≡ true)
-    (later : above (last-for m question) question (step (own-statement m question kind value flag round)) ≡ true) where
+-- where the lent words have the bundle of the statement, with any eight words in its code's place, the module's call leaves the machine's `sends`
+module _ (m : Module) (question kind value flag round : ℕ) (jump : Bool) (g : Stage) (d : ℕ) (c : List Statement) (out : List ℕ) (top : m .n ≤ most-stations)
+    (p : Proper (m .n) (own-statement m question kind value flag round)) (proper : All (Proper (m .n)) c) (few : length c ≤ most-statements) (fit : module-fits m ≡ true)
+    (later : above (last-for m question) question (step (own-statement m question kind value flag round)) ≡ true) (x : List ℕ) (eight : length x ≡ code-words) (count : ℕ) (draft : List ℕ)
+    (counted : count ≡ bundle-words (length c)) (draft-is : draft ≡ over (bundle-of (with-code x (own-statement m question kind value flag round)) c) out) where
   abbrev s : Statement
   s = own-statement m question kind value flag round
 
   abbrev f : Fields
   f = own-fields m kind value flag round
 
-  -- the statement with zeros where its code will stand, and the lent words with its bundle
   abbrev uncoded : Statement
-  uncoded = with-code (replicate 8 0) s
-
-  draft : drafted question f slots (set-of first) group (length second) out ≡ over (bundle-of uncoded (c ++ e)) out
-  unfolding drafted
-  draft =
-      lent-bundle (m .n) first second slots group C uncoded refl out room ∙ ap (λ (l : List Statement). over (bundle-of uncoded l) out) same
+  uncoded = with-code x s
 
   proper-uncoded : Proper (m .n) uncoded
   unfolding well-formed
-  proper-uncoded = record { formed = p .formed; eight = refl }
+  proper-uncoded = record { formed = p .formed; eight = eight }
 
   later-uncoded : above (last-for m question) question (step uncoded) ≡ true
   unfolding step
@@ -94,57 +90,127 @@ module _ (m : Module) (question kind value flag round : ℕ) (g : Stage) (d : �
               by (vote k l r v g) = absurd (omega (arith, k, eqb-true kind kind-P (both (eqb kind kind-P) _ t .0)))
       go false t = own-plain hmac-code m uncoded fit proper-uncoded refl later-uncoded t
 
-  asked-then : asked m f (main-part (drafted question f slots (set-of first) group (length second) out)) ≡ coded-as (hmac-code (m .key)) m uncoded
-  asked-then = ap (λ (l : List ℕ). asked m f (main-part l)) draft ∙ ap (asked m f) (main-words (m .n) uncoded (c ++ e) out proper-uncoded) ∙ asked-is
+  asked-then : asked m f (main-part draft) ≡ coded-as (hmac-code (m .key)) m uncoded
+  asked-then = ap (λ (l : List ℕ). asked m f (main-part l)) draft-is ∙ ap (asked m f) (main-words (m .n) uncoded c out proper-uncoded) ∙ asked-is
 
-  wrote-some : eqb (sent-count (set-of first) (length second) out) 0 ≡ false
-  unfolding sent-count
-  wrote-some =
-      ne-eqb (count-after (length out) (set-of first) (length second)) 0
-      (λ z. omega (arith, z, count-bundle (m .n) first second slots group C (length out) room))
+  wrote-some : eqb count 0 ≡ false
+  wrote-some = ne-eqb count 0 (λ z. omega (arith, z, counted))
 
   -- the coded statement put in the place of the uncoded one
-  put-in : with-main (written s) (over (bundle-of uncoded (c ++ e)) out) ≡ over (bundle-of s (c ++ e)) out
+  put-in : with-main (written s) (over (bundle-of uncoded c) out) ≡ over (bundle-of s c) out
   unfolding bundle-of
   put-in =
-      let w = all-written (c ++ e) in
-      let same-length : length (bundle-of uncoded (c ++ e)) ≡ length (bundle-of s (c ++ e))
+      let w = all-written c in
+      let same-length : length (bundle-of uncoded c) ≡ length (bundle-of s c)
       = ap suc (length-append (written uncoded) w ∙ omega (arith, length-written (m .n) uncoded proper-uncoded, length-written (m .n) s p) ∙ sym (length-append (written s) w)) in
-      ap (λ (k : ℕ). (3 * 2 ^ 30 + length (c ++ e)) ∷ (written s ++ (w ++ drop k out))) same-length
-      ∙ ap (λ (l : List ℕ). (3 * 2 ^ 30 + length (c ++ e)) ∷ l) (sym (append-assoc (written s) w (drop (length (bundle-of s (c ++ e))) out)))
+      ap (λ (l : List ℕ). (3 * 2 ^ 30 + length c) ∷ (written s ++ l)) (behind (drop (length (bundle-of uncoded c)) out))
+      ∙ ap (λ (k : ℕ). (3 * 2 ^ 30 + length c) ∷ (written s ++ (w ++ drop k out))) same-length
+      ∙ ap (λ (l : List ℕ). (3 * 2 ^ 30 + length c) ∷ l) (sym (append-assoc (written s) w (drop (length (bundle-of s c)) out)))
+    where
+      behind : (r : List ℕ) → drop 10 (written uncoded ++ all-written c ++ r) ≡ all-written c ++ r
+      behind r = ap (drop 10) (append-assoc (written uncoded) (all-written c) r) ∙ drop-at (written uncoded) (all-written c ++ r) 10 (length-written (m .n) uncoded proper-uncoded)
 
-  pub lent-is : sent-lent m question f slots (set-of first) group (length second) out ≡ over (bundle-of s (c ++ e)) out
-  unfolding sent-lent coded-lent pick
-  lent-is =
-      rw wrote-some (ap (λ (x : Coded). with-main (x .lent) (drafted question f slots (set-of first) group (length second) out)) asked-then)
-      ∙ ap (with-main (written s)) draft ∙ put-in
+  pub coded-lent-is : coded-lent m f count draft ≡ over (bundle-of s c) out
+  unfolding coded-lent pick
+  coded-lent-is = rw wrote-some (ap (λ (y : Coded). with-main (y .lent) draft) asked-then) ∙ ap (with-main (written s)) draft-is ∙ put-in
 
-  pub count-is : sent-count (set-of first) (length second) out ≡ bundle-words (length (c ++ e))
+  bundle-is : take count (coded-lent m f count draft) ≡ bundle-of s c
+  unfolding bundle-of
+  bundle-is =
+      ap (λ (k : ℕ). take k (coded-lent m f count draft)) counted
+      ∙ ap (take (bundle-words (length c))) coded-lent-is
+      ∙ take-at (bundle-of s c) (drop (length (bundle-of s c)) out) (bundle-words (length c)) (ws-length (m .n) s c top p proper few)
+
+  pub coded-station-is : Below (coded-lent m f count draft)
+      → sent-station m question jump g d (take count (coded-lent m f count draft)) ≡ W.as-station (m .n) (m .station) (began (m .n) question jump g d s c)
+  unfolding sent-station
+  coded-station-is low =
+      ap (with-bundle (blank (m .n) (m .station) question jump g d)) bundle-is
+      ∙ begun (m .n) (m .station) question jump g d s c top p proper few (low-front (bundle-of s c) (drop (length (bundle-of s c)) out) (subst Below coded-lent-is low))
+
+  pub coded-after-is : coded-after m f count draft ≡ advanced m question (step s)
+  unfolding coded-after pick step
+  coded-after-is = rw wrote-some (ap (λ (y : Coded). y .after) asked-then)
+
+-- where the certificate's statements stand in the slots and in the kept group
+module _ (m : Module) (question kind value flag round : ℕ) (jump : Bool) (g : Stage) (d : ℕ) (first second : List Statement) (slots group : List ℕ)
+    (C : Certificate (m .n) first second slots group) (c : List Statement) (same : first ++ second ≡ c) (out : List ℕ) (room : output-words ≤ length out)
+    (p : Proper (m .n) (own-statement m question kind value flag round)) (fit : module-fits m ≡ true)
+    (later : above (last-for m question) question (step (own-statement m question kind value flag round)) ≡ true) where
+  abbrev own-s : Statement
+  own-s = own-statement m question kind value flag round
+
+  abbrev own-f : Fields
+  own-f = own-fields m kind value flag round
+
+  abbrev blank-code : List ℕ
+  blank-code = replicate 8 0
+
+  draft : drafted question own-f slots (set-of first) group (length second) out ≡ over (bundle-of (with-code blank-code own-s) c) out
+  unfolding drafted
+  draft =
+      lent-bundle (m .n) first second slots group C (with-code blank-code own-s) refl out room ∙ ap (λ (l : List Statement). over (bundle-of (with-code blank-code own-s) l) out) same
+
+  pub count-is : sent-count (set-of first) (length second) out ≡ bundle-words (length c)
   unfolding sent-count
   count-is = count-bundle (m .n) first second slots group C (length out) room ∙ ap (λ (l : List Statement). bundle-words (length l)) same
 
-  proper : All (Proper (m .n)) (c ++ e)
-  proper = subst (λ (l : List Statement). All (Proper (m .n)) l) same (all-append (Proper (m .n)) first second (C .proper) (C .more-proper))
+  all-proper : All (Proper (m .n)) c
+  all-proper = subst (λ (l : List Statement). All (Proper (m .n)) l) same (all-append (Proper (m .n)) first second (C .proper) (C .more-proper))
 
-  few : length (c ++ e) ≤ most-statements
-  few = omega (arith, ap length (sym same) ∙ length-append first second, C .few)
+  all-few : length c ≤ most-statements
+  all-few = omega (arith, ap length (sym same) ∙ length-append first second, C .few)
 
-  bundle-is : sent-bundle m question f slots (set-of first) group (length second) out ≡ bundle-of s (c ++ e)
-  unfolding sent-bundle bundle-of
-  bundle-is =
-      ap (λ (k : ℕ). take k (sent-lent m question f slots (set-of first) group (length second) out)) count-is
-      ∙ ap (take (bundle-words (length (c ++ e)))) lent-is
-      ∙ take-at (bundle-of s (c ++ e)) (drop (length (bundle-of s (c ++ e))) out) (bundle-words (length (c ++ e))) (ws-length (m .n) s (c ++ e) (C .top) p proper few)
+  pub lent-is : sent-lent m question own-f slots (set-of first) group (length second) out ≡ over (bundle-of own-s c) out
+  unfolding sent-lent
+  lent-is = coded-lent-is m question kind value flag round jump g d c out (C .top) p all-proper all-few fit later blank-code refl _ _ count-is draft
 
-  pub station-is : Below (sent-lent m question f slots (set-of first) group (length second) out)
-      → take (quorum (m .n)) (c ++ e) ≡ c
-      → sent-station m question g d (sent-bundle m question f slots (set-of first) group (length second) out) ≡ W.as-station (m .n) (m .station) (began question g d s c)
-  unfolding sent-station
-  station-is low front =
-      ap (with-bundle (blank (m .n) (m .station) question g d)) bundle-is
-      ∙ begun (m .n) (m .station) question g d s c e (C .top) p proper few
-      (low-front (bundle-of s (c ++ e)) (drop (length (bundle-of s (c ++ e))) out) (subst Below lent-is low)) front
+  pub station-is : Below (sent-lent m question own-f slots (set-of first) group (length second) out)
+      → sent-station m question jump g d (sent-bundle m question own-f slots (set-of first) group (length second) out) ≡ W.as-station (m .n) (m .station) (began (m .n) question jump g d own-s c)
+  unfolding sent-lent sent-bundle
+  station-is low = coded-station-is m question kind value flag round jump g d c out (C .top) p all-proper all-few fit later blank-code refl _ _ count-is draft low
 
-  pub after-is : sent-after m question f slots (set-of first) group (length second) out ≡ advanced m question (step s)
-  unfolding sent-after coded-after pick step
-  after-is = rw wrote-some (ap (λ (x : Coded). x .after) asked-then)
+  pub after-is : sent-after m question own-f slots (set-of first) group (length second) out ≡ advanced m question (step own-s)
+  unfolding sent-after
+  after-is = coded-after-is m question kind value flag round jump g d c out (C .top) p all-proper all-few fit later blank-code refl _ _ count-is draft
+
+-- where the given bundle's words are copied
+module _ (m : Module) (question kind value flag round : ℕ) (jump : Bool) (g : Stage) (d : ℕ) (given : Statement) (c : List Statement) (ws : List ℕ) (whole : ws ≡ bundle-of given c)
+    (asked-for : given .question ≡ question) (out : List ℕ) (room : output-words ≤ length out) (top : m .n ≤ most-stations) (q : Proper (m .n) given)
+    (p : Proper (m .n) (own-statement m question kind value flag round)) (proper : All (Proper (m .n)) c) (few : length c ≤ most-statements) (fit : module-fits m ≡ true)
+    (later : above (last-for m question) question (step (own-statement m question kind value flag round)) ≡ true) where
+  abbrev copy-s : Statement
+  copy-s = own-statement m question kind value flag round
+
+  abbrev copy-f : Fields
+  copy-f = own-fields m kind value flag round
+
+  long : length ws ≡ bundle-words (length c)
+  unfolding bundle-of
+  long = ap length whole ∙ ws-length (m .n) given c top q proper few
+
+  can : copyable (length ws) (length out) ≡ true
+  unfolding copyable
+  can = join (leb 11 (length ws)) _ (le-leb 11 (length ws) (omega (arith, long))) (le-leb (length ws) (length out) (omega (arith, long)))
+
+  pub copy-count-is : copy-count (length ws) (length out) ≡ bundle-words (length c)
+  unfolding copy-count pick
+  copy-count-is = rw can long
+
+  copied-draft : copy-after (word-of copy-f) ws out ≡ over (bundle-of (with-code (given .code) copy-s) c) out
+  unfolding copy-after pick with-word bundle-of
+  copied-draft =
+      rw can (ap (λ (l : List ℕ). over (set l 1 (word-of copy-f)) out) whole)
+      ∙ ap (λ (z : ℕ). over ((3 * 2 ^ 30 + length c) ∷ ((word-of copy-f ∷ z ∷ given .code) ++ all-written c)) out) asked-for
+
+  pub copy-lent-is : copy-lent m copy-f ws out ≡ over (bundle-of copy-s c) out
+  unfolding copy-lent
+  copy-lent-is = coded-lent-is m question kind value flag round jump g d c out top p proper few fit later (given .code) (q .eight) _ _ copy-count-is copied-draft
+
+  pub copy-station-is : Below (copy-lent m copy-f ws out) → sent-station m question jump g d (copy-bundle m copy-f ws out) ≡ W.as-station (m .n) (m .station) (began (m .n) question jump g d copy-s c)
+  unfolding copy-lent copy-bundle
+  copy-station-is low = coded-station-is m question kind value flag round jump g d c out top p proper few fit later (given .code) (q .eight) _ _ copy-count-is copied-draft low
+
+  pub copy-after-is : copy-module m copy-f ws out ≡ advanced m question (step copy-s)
+  unfolding copy-module
+  copy-after-is = coded-after-is m question kind value flag round jump g d c out top p proper few fit later (given .code) (q .eight) _ _ copy-count-is copied-draft

@@ -1,5 +1,6 @@
 -- What sending leaves, by the words alone. `Law` ties it to the machine's definition, `sends`.
 use Prim.Native.Nat.{ℕ}
+use mathlib.Core.Bool.{Bool}
 use mathlib.Core.List.{List, _++_}
 use lib.Dec.{eqb}
 use lib.ListN.{length, take, drop, replicate}
@@ -11,7 +12,7 @@ use Rattle.modules.specs.declared.Module.{Module}
 use Rattle.sealed.specs.Sealed.{Coded, by-coin, coding-plain, coding-coin}
 use Rattle.station.specs.declared.Stage.{Stage}
 use Rattle.station.specs.declared.Station.{Station}
-use Rattle.writer.specs.Written.{lent-after, count-after}
+use Rattle.writer.specs.Written.{lent-after, count-after, copy-after, copy-count}
 use Rattle.keeping.specs.Kept.{with-bundle}
 use Rattle.keeping.specs.Begun.{blank}
 
@@ -54,5 +55,17 @@ unfoldable pub sent-bundle : Module → ℕ → Fields → List ℕ → ℕ → 
 sent-bundle m question f slots set group k out = take (sent-count set k out) (sent-lent m question f slots set group k out)
 
 -- the station: nothing held but the bundle that it wrote
-unfoldable pub sent-station : Module → ℕ → Stage → ℕ → List ℕ → Station
-sent-station m question g d ws = with-bundle (blank (m .n) (m .station) question g d) ws
+unfoldable pub sent-station : Module → ℕ → Bool → Stage → ℕ → List ℕ → Station
+sent-station m question jump g d ws = with-bundle (blank (m .n) (m .station) question jump g d) ws
+
+-- ---- a statement sent with the certificate of a given bundle
+-- the given words with word 0 of the statement in the main statement's place, coded
+unfoldable pub copy-lent : Module → Fields → List ℕ → List ℕ → List ℕ
+copy-lent m f ws out = coded-lent m f (copy-count (length ws) (length out)) (copy-after (word-of f) ws out)
+
+unfoldable pub copy-module : Module → Fields → List ℕ → List ℕ → Module
+copy-module m f ws out = coded-after m f (copy-count (length ws) (length out)) (copy-after (word-of f) ws out)
+
+-- the bundle among the lent words
+unfoldable pub copy-bundle : Module → Fields → List ℕ → List ℕ → List ℕ
+copy-bundle m f ws out = take (copy-count (length ws) (length out)) (copy-lent m f ws out)

@@ -11,7 +11,8 @@ ghost use mathlib.Core.Path.{_≡_};
 ghost use Prim.Native.Nat.{_≤_};
 ghost use lib.ListN.{length, take};
 ghost use Rattle.format.specs.Numbers.{place-of};
-ghost use Rattle.sending.specs.Sent.{coded-lent, coded-after, sent-count, sent-lent, sent-bundle, sent-station, sent-after};
+ghost use Rattle.writer.specs.Written.{copy-count};
+ghost use Rattle.sending.specs.Sent.{coded-lent, coded-after, sent-count, sent-lent, sent-bundle, sent-station, sent-after, copy-lent, copy-module, copy-bundle};
 
 // What sending answers: the word count, the station and the module. The bundle's words are lent.
 pub struct Sent {
@@ -24,20 +25,21 @@ pub struct Sent {
 fn begin(
     m: Module,
     question: u32,
+    jump: bool,
     stage: Stage,
     decision: u32,
     out: &[u32],
     count: usize,
 ) -> Station
     requires { ⌜ count ≤ length (now out) ⌝ }
-    ensures { λ r. ⌜ r ≡ sent-station m question stage decision (take count (now (out .entry))) ⌝ }
+    ensures { λ r. ⌜ r ≡ sent-station m question jump stage decision (take count (now (out .entry))) ⌝ }
 {
     let identity = Identity {
         n: m.n,
         station: m.station,
         question,
     };
-    let t = held::empty(identity, stage, false, decision);
+    let t = held::empty(identity, stage, false, jump, decision);
     keeping::keep(t, &out[..count])
 }
 
@@ -63,6 +65,7 @@ pub fn send(
     m: Module,
     question: u32,
     f: Fields,
+    jump: bool,
     stage: Stage,
     decision: u32,
     slots: &[u32; SLOTS_WORDS],
@@ -72,7 +75,7 @@ pub fn send(
     out: &mut [u32],
 ) -> Sent
     ensures { λ r. ⌜ (r .count ≡ sent-count set k (now (out .entry)))
-        × (r .station ≡ sent-station m question stage decision (sent-bundle m question f (now (slots .entry)) set (now (group .entry)) k (now (out .entry))))
+        × (r .station ≡ sent-station m question jump stage decision (sent-bundle m question f (now (slots .entry)) set (now (group .entry)) k (now (out .entry))))
         × (r .after ≡ sent-after m question f (now (slots .entry)) set (now (group .entry)) k (now (out .entry)))
         × (now (out .exit) ≡ sent-lent m question f (now (slots .entry)) set (now (group .entry)) k (now (out .entry))) ⌝ }
 {
@@ -80,7 +83,34 @@ pub fn send(
     let blank_code = [0u32; format::CODE_WORDS];
     let count = writer::write_bundle(out, w0, question, &blank_code, slots, set, group, k);
     let after = code_main(m, f, count, out);
-    let station = begin(m, question, stage, decision, out, count);
+    let station = begin(m, question, jump, stage, decision, out, count);
+    Sent {
+        count,
+        station,
+        after,
+    }
+}
+
+// Sends a statement with these fields and the certificate of a given bundle.
+pub fn send_copy(
+    m: Module,
+    question: u32,
+    f: Fields,
+    jump: bool,
+    stage: Stage,
+    decision: u32,
+    ws: &[u32],
+    out: &mut [u32],
+) -> Sent
+    ensures { λ r. ⌜ (r .count ≡ copy-count (length (now (ws .entry))) (length (now (out .entry))))
+        × (r .station ≡ sent-station m question jump stage decision (copy-bundle m f (now (ws .entry)) (now (out .entry))))
+        × (r .after ≡ copy-module m f (now (ws .entry)) (now (out .entry)))
+        × (now (out .exit) ≡ copy-lent m f (now (ws .entry)) (now (out .entry))) ⌝ }
+{
+    let w0 = format::write_fields(f);
+    let count = writer::copy_bundle(out, w0, ws);
+    let after = code_main(m, f, count, out);
+    let station = begin(m, question, jump, stage, decision, out, count);
     Sent {
         count,
         station,

@@ -44,11 +44,11 @@ fn step_of(bundle: Bundle) -> usize
     (step.0 % 16) as usize
 }
 
-// Makes the site's module and opens a station on question 1. A site where one of the two is refused has no bundle to send.
+// Makes the site's module and opens a station on question 1, with jump off. A site where one of the two is refused has no bundle to send.
 fn start(n: u32, number: u32, proposal: u32) -> Site {
     let made = modules::make([7; 32], n, number);
     let mut words = [0u32; OUTPUT_WORDS];
-    let opened = opening::open(made.made, 1, proposal, &mut words);
+    let opened = opening::open(made.made, 1, proposal, 0, &mut words);
     print(b"\nsite ", number);
     print(b": made ", made.number);
     print(b", opened ", opened.number);

@@ -21,12 +21,12 @@ use Rattle.certificate.specs.Check.{question-fits, all-verify}
 use Rattle.modules.specs.declared.Module.{Module}
 use Rattle.modules.specs.Counter.{module-fits, last-for}
 use Rattle.station.specs.declared.Station.{Station}
-use Rattle.station.specs.Machine.{State, Outcome, refused, keeps, sends, taken, step-tests}
+use Rattle.station.specs.Machine.{State, Outcome, refused, keeps, sends, answered, step-tests}
 use Rattle.station.specs.Words.{Lengths, state-of}
 use Rattle.station.specs.Fit.{fits}
 use Rattle.station.specs.Calls.{returned, station-tests, giving, giving-outcome}
 use Rattle.station.specs.Marked.{_by_, given}
-use Rattle.station.specs.Laws.Views.{after, Gives, refuses, holds-on, shuts, goes-on, gives-view}
+use Rattle.station.specs.Laws.Views.{after, Gives, refuses, holds-on, shuts, goes-on, enters, gives-view}
 use Rattle.station.specs.Laws.Sane.{state-back}
 use Rattle.station.specs.Laws.Fits.{kept-sane}
 
@@ -41,7 +41,7 @@ module _ (mac : List ℕ → List ℕ → List ℕ) (m : Module) (t : Station) (
       ap (λ (k : ℕ). pick (eqb k 0) whole (refused k)) (passed-front front rest passed)
     where
       whole : Outcome
-      whole = taken (statement-code (mac (m .key))) last-round (m .n) (m .station) (last-for m (t .identity .question)) (state-of t) (main-of ws) (certificate-of ws) coin
+      whole = answered (statement-code (mac (m .key))) last-round (m .n) (m .station) (last-for m (t .identity .question)) (state-of t) (main-of ws) (certificate-of ws) coin
 
       rest : List Test
       rest = test (rule (m .n) (main-of ws) (certificate-of ws)) no-certificate ∷ step-tests (state-of t) (main-of ws)
@@ -84,3 +84,4 @@ kept-as-read mac eight m t ws coin out L u = go (giving-outcome mac m t ws coin 
         ∙ ap (state-in u) z
     go _ (shuts A size c) z = absurd (omega (arith, ap kept-number z))
     go _ (goes-on A size c later k) z = absurd (omega (arith, ap kept-number z))
+    go _ (enters J later) z = absurd (omega (arith, ap kept-number z))

@@ -1,6 +1,6 @@
 -- Opening and giving: what the public calls promise, from words to words (document 01, "Table of returns").
 use Prim.Native.Nat.{ℕ}
-use mathlib.Core.Bool.{true, not, _&&_}
+use mathlib.Core.Bool.{true, false, not, _&&_}
 use mathlib.Core.List.{List, [], _∷_, _++_}
 use lib.Dec.{eqb, ltb, leb}
 use lib.ListN.{length}
@@ -15,7 +15,7 @@ use Rattle.modules.specs.declared.Module.{Module}
 use Rattle.modules.specs.Counter.{module-fits, last-for, advanced}
 use Rattle.station.specs.declared.Stage.the-variants.{Gathering}
 use Rattle.station.specs.declared.Station.{Station}
-use Rattle.station.specs.Machine.{Outcome, refused, keeps, sends, opened, taken, step-tests}
+use Rattle.station.specs.Machine.{Outcome, refused, keeps, sends, opened, answered, step-tests}
 use Rattle.station.specs.Words.{empty-station, state-of, as-station}
 use Rattle.station.specs.Fit.{fits}
 
@@ -46,7 +46,7 @@ unless l o = pick (eqb (first-failed l) 0) o (refused (first-failed l))
 
 -- a refused opening returns this station: of no group, closed, undecided and otherwise zero. Every call refuses it
 unfoldable pub no-station : Station
-no-station = empty-station (record { n = 0; station = 0; question = 0 }) Gathering true none
+no-station = empty-station (record { n = 0; station = 0; question = 0 }) Gathering true false none
 
 -- what a giving tests before it looks at the words: 1, 2, 11
 abbrev pub station-tests : Module → Station → ℕ → List ℕ → List Test
@@ -57,18 +57,22 @@ station-tests m t coin out =
     ∷ []
 
 module _ (mac : List ℕ → List ℕ → List ℕ) where
-  -- "Opening tests 1, 2, 12."
-  abbrev pub open-tests : Module → ℕ → List ℕ → List Test
-  open-tests m proposal out = test (leb output-words (length out)) short-output ∷ test (module-fits m && ltb proposal 2) out-of-range ∷ []
+  -- "Opening tests 1, 2, 12."; "a jump setting outside 0 and 1 is 2" (Job 3 of document 02)
+  abbrev pub open-tests : Module → ℕ → ℕ → List ℕ → List Test
+  open-tests m proposal jump out =
+      test (leb output-words (length out)) short-output ∷ test (module-fits m && ltb proposal 2 && ltb jump 2) out-of-range ∷ []
 
-  abbrev pub opening-outcome : Module → ℕ → ℕ → List ℕ → Outcome
-  opening-outcome m question proposal out =
-      unless (open-tests m proposal out) (opened (statement-code (mac (m .key))) last-round (m .n) (m .station) (last-for m question) question proposal)
+  -- "Opening gains a setting, jump off (0) or on (1)."
+  abbrev pub opening-outcome : Module → ℕ → ℕ → ℕ → List ℕ → Outcome
+  opening-outcome m question proposal jump out =
+      unless (open-tests m proposal jump out)
+      (opened (statement-code (mac (m .key))) last-round (m .n) (m .station) (last-for m question) question proposal (eqb jump 1))
 
-  unfoldable pub opening : Module → ℕ → ℕ → List ℕ → Returned
-  opening m question proposal out = returned m no-station out (opening-outcome m question proposal out)
+  unfoldable pub opening : Module → ℕ → ℕ → ℕ → List ℕ → Returned
+  opening m question proposal jump out = returned m no-station out (opening-outcome m question proposal jump out)
 
-  -- "A station given a bundle tests 1, 2, 11, 3, 4, 5, 6, 7, 8, 9, 10 and, only where a bundle would be written, 12."
+  -- "A station given a bundle tests 1, 2, 11, 3, 4, 5, 6, 7, 8, 9, 10 and, only where a bundle would be written, 12."; "12 follows the checks up to 7"
+  -- where it jumps
   abbrev pub give-tests : Module → Station → List ℕ → ℕ → List ℕ → List Test
   give-tests m t ws coin out =
       station-tests m t coin out ++ (bundle-tests (mac (m .key)) (m .n) (Only (t .identity .question)) ws ++ step-tests (state-of t) (main-of ws))
@@ -76,7 +80,7 @@ module _ (mac : List ℕ → List ℕ → List ℕ) where
   abbrev pub giving-outcome : Module → Station → List ℕ → ℕ → List ℕ → Outcome
   giving-outcome m t ws coin out =
       unless (give-tests m t ws coin out)
-      (taken (statement-code (mac (m .key))) last-round (m .n) (m .station) (last-for m (t .identity .question)) (state-of t) (main-of ws) (certificate-of ws) coin)
+      (answered (statement-code (mac (m .key))) last-round (m .n) (m .station) (last-for m (t .identity .question)) (state-of t) (main-of ws) (certificate-of ws) coin)
 
   unfoldable pub giving : Module → Station → List ℕ → ℕ → List ℕ → Returned
   giving m t ws coin out = returned m t out (giving-outcome m t ws coin out)

@@ -7,7 +7,7 @@ use lib.Dec.{eqb, ltb, leb}
 use lib.ListN.{length}
 use Rattle.laws.specs.Pick.{pick}
 use Rattle.laws.specs.Refusals.{first-failed}
-use Rattle.format.specs.Numbers.{kind-INIT, none, D-GET, kept, sent, sent-decided, closed-now, not-above, output-words, bundle-words, last-round}
+use Rattle.format.specs.Numbers.{kind-INIT, none, D-GET, kept, sent, sent-decided, closed-now, jumped, not-above, output-words, bundle-words, last-round}
 use Rattle.format.specs.Group.{quorum}
 use Rattle.format.specs.Words.{step-of}
 use Rattle.format.specs.Statement.{Statement, step, statement-code}
@@ -17,32 +17,32 @@ use Rattle.modules.specs.Counter.{module-fits, last-for, above, advanced}
 use Rattle.station.specs.declared.Stage.{Stage}
 use Rattle.station.specs.declared.Stage.the-variants.{Gathering, Proposing, Voting}
 use Rattle.station.specs.declared.Station.{Station}
-use Rattle.station.specs.Machine.{State, Outcome, refused, keeps, sends, Next, own, began, shut, moved, keeping, follows, decision-at, closes, ended, taken}
+use Rattle.station.specs.Machine.{State, Outcome, refused, keeps, sends, Next, own, began, shut, moved, keeping, follows, decision-at, closes, ended, taken, stage-of, jumps, copied-value, entered, answered}
 use Rattle.station.specs.Words.{state-of, as-station}
 use Rattle.station.specs.Calls.{Returned, returned, opening, give-tests, giving}
 
 -- 20, eleven words, and a station that gathers, holds its INIT alone and names no decision
-abbrev pub opened-with : (List ℕ → List ℕ → List ℕ) → Module → ℕ → ℕ → List ℕ → Returned
-opened-with mac m question proposal out =
+abbrev pub opened-with : (List ℕ → List ℕ → List ℕ) → Module → ℕ → ℕ → ℕ → List ℕ → Returned
+opened-with mac m question proposal jump out =
     let s = own (statement-code (mac (m .key))) (m .station) question kind-INIT proposal D-GET 0 in
     record {
       number = sent;
       count = bundle-words 0;
-      station = as-station (m .n) (m .station) (began question Gathering none s []);
+      station = as-station (m .n) (m .station) (began (m .n) question (eqb jump 1) Gathering none s []);
       after = advanced m question 0;
       lent = over (bundle-of s []) out;
     }
 
-pub opens : (mac : List ℕ → List ℕ → List ℕ) (m : Module) (question proposal : ℕ) (out : List ℕ) → leb output-words (length out) ≡ true
-    → module-fits m ≡ true → ltb proposal 2 ≡ true → above (last-for m question) question 0 ≡ true
-    → opening mac m question proposal out ≡ opened-with mac m question proposal out
+pub opens : (mac : List ℕ → List ℕ → List ℕ) (m : Module) (question proposal jump : ℕ) (out : List ℕ) → leb output-words (length out) ≡ true
+    → module-fits m ≡ true → ltb proposal 2 ≡ true → ltb jump 2 ≡ true → above (last-for m question) question 0 ≡ true
+    → opening mac m question proposal jump out ≡ opened-with mac m question proposal jump out
 unfolding opening returned first-failed pick step step-of
-opens mac m question proposal out room fit bit later = rw (room, fit, bit, later)
+opens mac m question proposal jump out room fit bit setting later = rw (room, fit, bit, setting, later)
 
-pub opened-undecided : (mac : List ℕ → List ℕ → List ℕ) (m : Module) (question proposal : ℕ) (out : List ℕ)
-    → opened-with mac m question proposal out .station .decision ≡ none
+pub opened-undecided : (mac : List ℕ → List ℕ → List ℕ) (m : Module) (question proposal jump : ℕ) (out : List ℕ)
+    → opened-with mac m question proposal jump out .station .decision ≡ none
 unfolding as-station
-opened-undecided mac m question proposal out = refl
+opened-undecided mac m question proposal jump out = refl
 
 -- a decision that is there stays
 stays : (g : Stage) (old : ℕ) (h : List Statement) → ltb old none ≡ true → decision-at g old h ≡ old
@@ -71,7 +71,8 @@ module _ (mac : List ℕ → List ℕ → List ℕ) (m : Module) (t : Station) (
       s : Statement
       s = own (statement-code (mac (m .key))) (m .station) (t .identity .question) (x .kind) (x .value) (x .flag) (x .round)
 
-      sent-on : (a : Bool) (number : ℕ) → Keeps (pick a (sends number s (x .first ++ x .second) (began (t .identity .question) (x .stage) d s (x .first))) (refused not-above))
+      sent-on : (a : Bool) (number : ℕ) → Keeps (pick a (sends number s (x .first ++ x .second)
+          (began (m .n) (t .identity .question) (t .jump) (x .stage) d s (x .first ++ x .second))) (refused not-above))
       sent-on true number = stays (t .stage) (t .decision) (k .held) there
       sent-on false number = refl
 
@@ -85,7 +86,21 @@ module _ (mac : List ℕ → List ℕ → List ℕ) (m : Module) (t : Station) (
       take-in true = refl
       take-in false = end (closes last-round (t .stage))
 
-      go : (b : Bool) → Keeps (pick b (taken (statement-code (mac (m .key))) last-round (m .n) (m .station) (last-for m (t .identity .question)) (state-of t) (main-of ws) (certificate-of ws) coin)
+      u : Statement
+      u = own (statement-code (mac (m .key))) (m .station) (t .identity .question) (main-of ws .kind) (copied-value (main-of ws) coin) (main-of ws .flag) (main-of ws .round)
+
+      enter : (a : Bool) → Keeps (pick a (sends jumped u (certificate-of ws)
+          (began (m .n) (t .identity .question) (t .jump) (stage-of (main-of ws)) (t .decision) u (certificate-of ws))) (refused not-above))
+      enter true = refl
+      enter false = refl
+
+      jump-or-take : (j : Bool) → Keeps (pick j
+          (entered (statement-code (mac (m .key))) last-round (m .n) (m .station) (last-for m (t .identity .question)) (state-of t) (main-of ws) (certificate-of ws) coin)
+          (taken (statement-code (mac (m .key))) last-round (m .n) (m .station) (last-for m (t .identity .question)) (state-of t) (main-of ws) (certificate-of ws) coin))
+      jump-or-take true = enter (above (last-for m (t .identity .question)) (t .identity .question) (step u))
+      jump-or-take false = take-in (ltb (length (k .held)) (quorum (m .n)))
+
+      go : (b : Bool) → Keeps (pick b (answered (statement-code (mac (m .key))) last-round (m .n) (m .station) (last-for m (t .identity .question)) (state-of t) (main-of ws) (certificate-of ws) coin)
           (refused (first-failed (give-tests mac m t ws coin out))))
-      go true = take-in (ltb (length (k .held)) (quorum (m .n)))
+      go true = jump-or-take (jumps (state-of t) (main-of ws))
       go false = refl

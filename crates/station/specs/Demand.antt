@@ -7,7 +7,7 @@ use mathlib.Core.List.{List, [], _∷_, _++_}
 use mathlib.Core.Path.{_≡_}
 use lib.Dec.{eqb}
 use lib.ListN.{length, take}
-use Rattle.format.specs.Numbers.{kind-P, R-GET, code-words, place-of, sent, output-words, out-of-range, malformed, other-question, wrong-code, no-certificate}
+use Rattle.format.specs.Numbers.{kind-P, R-GET, code-words, place-of, sent, jumped, output-words, out-of-range, malformed, other-question, wrong-code, no-certificate}
 use Rattle.format.specs.Statement.{Statement, words-at, covered-at, statement-code}
 use Rattle.format.specs.Bundle.{main-of}
 use Rattle.rules.specs.declared.Which.the-variants.{Any}
@@ -38,11 +38,11 @@ invalid = one-of (out-of-range ∷ malformed ∷ other-question ∷ wrong-code �
 abbrev pub as-given : ℕ → Module → Station → List ℕ → Returned
 as-given k m t out = record { number = k; count = 0; station = t; after = m; lent = out }
 
--- "P flagged R-GET with the call's coin": 20, a P of round r with the coin as its value; the votes are its certificate
-abbrev pub tossing : (Statement → List ℕ) → ℕ → ℕ → ℕ → ℕ → List Statement → ℕ → Outcome
-tossing code number question r d votes coin =
+-- "P flagged R-GET with the call's coin": a P of round r with the coin as its value and none votes as its certificate, answered with a number
+abbrev pub tossing : (Statement → List ℕ) → ℕ → ℕ → Bool → ℕ → ℕ → ℕ → ℕ → List Statement → ℕ → Outcome
+tossing code n number jump question answer r d votes coin =
     let s = own code number question kind-P coin R-GET r in
-    sends sent s (votes ++ []) (began question (proposing r R-GET) d s votes)
+    sends answer s votes (began n question jump (proposing r R-GET) d s votes)
 
 module _ (mac : List ℕ → List ℕ → List ℕ) where
   module _ (key : List ℕ) (n : ℕ) where
@@ -54,8 +54,8 @@ module _ (mac : List ℕ → List ℕ → List ℕ) where
 
     -- "stations, each made by opening and changed only by these calls"
     pub data Reached (number : ℕ) : Station → Type 0 where
-      by-opening : (m : Module) (question proposal : ℕ) (out : List ℕ) → OfGroup number m → unrefused (opening mac m question proposal out .number) ≡ true
-          → Reached number (opening mac m question proposal out .station)
+      by-opening : (m : Module) (question proposal jump : ℕ) (out : List ℕ) → OfGroup number m → unrefused (opening mac m question proposal jump out .number) ≡ true
+          → Reached number (opening mac m question proposal jump out .station)
       by-giving : {t : Station} → Reached number t → (m : Module) (ws : List ℕ) (coin : ℕ) (out : List ℕ) → OfGroup number m
           → unrefused (giving mac m t ws coin out .number) ≡ true → Reached number (giving mac m t ws coin out .station)
 
@@ -75,39 +75,40 @@ module _ (mac : List ℕ → List ℕ → List ℕ) where
     pub tossed : is-toss (main-of (r .lent)) ≡ true → (x : List ℕ) → length x ≡ code-words
         → coding-coin mac m (covered-at (r .lent) (place-of 0) ++ x) coin ≡ record { number = 0; after = r .after; lent = words-at (r .lent) (place-of 0) }
 
-  -- coin 0 and coin 1: the same answer in every part, or a toss in both calls, which differ in the coin alone
+  -- coin 0 and coin 1: the same answer in every part; or a toss in both calls, answered 20 or, in a jump, 23, which differ in the coin alone
   pub data CoinEffect (m : Module) (t : Station) (ws out : List ℕ) : Type 0 where
     no-effect : giving mac m t ws 0 out ≡ giving mac m t ws 1 out → CoinEffect m t ws out
-    tossed : (r d : ℕ) (votes : List Statement)
-        → giving mac m t ws 0 out ≡ returned m t out (tossing (statement-code (mac (m .key))) (m .station) (t .identity .question) r d votes 0)
-        → giving mac m t ws 1 out ≡ returned m t out (tossing (statement-code (mac (m .key))) (m .station) (t .identity .question) r d votes 1) → CoinEffect m t ws out
+    tossed : (answer r d : ℕ) (votes : List Statement) → one-of (sent ∷ jumped ∷ []) answer ≡ true
+        → giving mac m t ws 0 out ≡ returned m t out (tossing (statement-code (mac (m .key))) (m .n) (m .station) (t .jump) (t .identity .question) answer r d votes 0)
+        → giving mac m t ws 1 out ≡ returned m t out (tossing (statement-code (mac (m .key))) (m .n) (m .station) (t .jump) (t .identity .question) answer r d votes 1)
+        → CoinEffect m t ws out
 
   pub record Demand-2 : Type 0 where
     -- "every message that a station writes is valid to every station of its group"; "its word count with it"
-    pub opening-written : (key : List ℕ) (n number : ℕ) (m : Module) (question v : ℕ) (out : List ℕ) → OfGroup key n number m
-        → wrote (opening mac m question v out .number) ≡ true → ValidToAll key n (message (opening mac m question v out))
+    pub opening-written : (key : List ℕ) (n number : ℕ) (m : Module) (question v jump : ℕ) (out : List ℕ) → OfGroup key n number m
+        → wrote (opening mac m question v jump out .number) ≡ true → ValidToAll key n (message (opening mac m question v jump out))
     pub giving-written : (key : List ℕ) (n number : ℕ) (t : Station) → Reached key n number t → (m : Module) (ws : List ℕ) (coin : ℕ) (out : List ℕ)
         → OfGroup key n number m → wrote (giving mac m t ws coin out .number) ≡ true → ValidToAll key n (message (giving mac m t ws coin out))
-    pub opening-counted : (m : Module) (question v : ℕ) (out : List ℕ) → length (message (opening mac m question v out)) ≡ opening mac m question v out .count
+    pub opening-counted : (m : Module) (question v jump : ℕ) (out : List ℕ) → length (message (opening mac m question v jump out)) ≡ opening mac m question v jump out .count
     pub giving-counted : (m : Module) (t : Station) (ws : List ℕ) (coin : ℕ) (out : List ℕ) → Lengths t
         → length (message (giving mac m t ws coin out)) ≡ giving mac m t ws coin out .count
     -- "Where no bundle is written the word count is zero."
-    pub opening-silent : (m : Module) (question v : ℕ) (out : List ℕ) → wrote (opening mac m question v out .number) ≡ false → opening mac m question v out .count ≡ 0
+    pub opening-silent : (m : Module) (question v jump : ℕ) (out : List ℕ) → wrote (opening mac m question v jump out .number) ≡ false → opening mac m question v jump out .count ≡ 0
     pub giving-silent : (m : Module) (t : Station) (ws : List ℕ) (coin : ℕ) (out : List ℕ) → Lengths t → wrote (giving mac m t ws coin out .number) ≡ false
         → giving mac m t ws coin out .count ≡ 0
     -- "It has two ways to code": a station codes through them alone
-    pub opening-sealed : (m : Module) (question v : ℕ) (out : List ℕ) → wrote (opening mac m question v out .number) ≡ true
-        → (coin : ℕ) → BySeal m coin (opening mac m question v out)
+    pub opening-sealed : (m : Module) (question v jump : ℕ) (out : List ℕ) → wrote (opening mac m question v jump out .number) ≡ true
+        → (coin : ℕ) → BySeal m coin (opening mac m question v jump out)
     pub giving-sealed : (m : Module) (t : Station) (ws : List ℕ) (coin : ℕ) (out : List ℕ) → Lengths t → wrote (giving mac m t ws coin out .number) ≡ true
         → BySeal m coin (giving mac m t ws coin out)
     -- "no station that these calls answer without refusing fails it"
-    pub opening-fits : (m : Module) (question v : ℕ) (out : List ℕ) → unrefused (opening mac m question v out .number) ≡ true
-        → fits (m .n) (m .station) (opening mac m question v out .station) ≡ true
+    pub opening-fits : (m : Module) (question v jump : ℕ) (out : List ℕ) → unrefused (opening mac m question v jump out .number) ≡ true
+        → fits (m .n) (m .station) (opening mac m question v jump out .station) ≡ true
     pub giving-fits : (m : Module) (t : Station) (ws : List ℕ) (coin : ℕ) (out : List ℕ) → Lengths t
         → unrefused (giving mac m t ws coin out .number) ≡ true → fits (m .n) (m .station) (giving mac m t ws coin out .station) ≡ true
     -- "At a refusal station, module and lent words keep their values", and the word count is zero; a refused opening returns the station that is none
-    pub opening-refused : (m : Module) (question v : ℕ) (out : List ℕ) → unrefused (opening mac m question v out .number) ≡ false
-        → opening mac m question v out ≡ as-given (opening mac m question v out .number) m no-station out
+    pub opening-refused : (m : Module) (question v jump : ℕ) (out : List ℕ) → unrefused (opening mac m question v jump out .number) ≡ false
+        → opening mac m question v jump out ≡ as-given (opening mac m question v jump out .number) m no-station out
     pub giving-refused : (m : Module) (t : Station) (ws : List ℕ) (coin : ℕ) (out : List ℕ) → Lengths t
         → unrefused (giving mac m t ws coin out .number) ≡ false → giving mac m t ws coin out ≡ as-given (giving mac m t ws coin out .number) m t out
     -- "A coin in range has no effect where none is tossed."

@@ -8,6 +8,7 @@ pub mod First
 pub mod Marked
 pub mod Order
 pub mod Coin
+pub mod Jump
 pub mod Decision
 pub mod Written
 pub mod Answers

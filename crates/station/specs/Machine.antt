@@ -6,7 +6,7 @@ use lib.Dec.{eqb, ltb, leb}
 use lib.ListN.{length, take}
 use Rattle.laws.specs.Pick.{pick}
 use Rattle.laws.specs.Refusals.{Test, test}
-use Rattle.format.specs.Numbers.{kind-INIT, kind-P, kind-V, none, D-GET, R-GET, last-round, kept, sent, sent-decided, closed-now, too-early, too-late, already-held, conflicting, not-above}
+use Rattle.format.specs.Numbers.{kind-INIT, kind-P, kind-V, none, D-GET, R-GET, last-round, kept, sent, sent-decided, closed-now, jumped, too-early, too-late, already-held, conflicting, not-above}
 use Rattle.format.specs.Group.{quorum, backing}
 use Rattle.format.specs.Words.{step-of}
 use Rattle.format.specs.Statement.{Statement, step}
@@ -40,12 +40,17 @@ proposing r f = Proposing (record { 0 = r }) f
 abbrev pub voting : ℕ → Stage
 voting r = Voting (record { 0 = r })
 
--- what a station knows: the question, its stage, whether it is closed, its decision (2 = none), the statements of its step by rising station,
--- and the two groups that it keeps
+-- the stage of a station that has made this statement, which is no INIT
+abbrev pub stage-of : Statement → Stage
+stage-of m = pick (eqb (m .kind) kind-P) (proposing (m .round) (m .flag)) (voting (m .round))
+
+-- what a station knows: the question, its stage, whether it is closed, whether it jumps, its decision (2 = none), the statements of its step by rising
+-- station, and the two groups that it keeps
 pub record State : Type 0 where
   pub question : ℕ
   pub stage : Stage
   pub closed : Bool
+  pub jump : Bool
   pub decision : ℕ
   pub held : List Statement
   pub for-value : List Statement
@@ -104,6 +109,7 @@ keeping n t m c =
       question = t .question;
       stage = t .stage;
       closed = t .closed;
+      jump = t .jump;
       decision = t .decision;
       held = insert m (t .held);
       for-value = pick (takes (supplies-for-value (t .stage)) (t .held) m) (take (quorum n) c) (t .for-value);
@@ -211,41 +217,53 @@ own code number question kind value flag round =
       code = code (record { kind = kind; value = value; flag = flag; station = number; round = round; question = question; code = [] });
     }
 
--- the state of a station that has just sent: its own statement held, its own certificate kept where a later bundle needs it
-abbrev pub began : ℕ → Stage → ℕ → Statement → List Statement → State
-began question g decision s c =
+-- the state of a station that has just sent, with the whole certificate that it wrote: its own statement held, of the certificate the first q statements
+-- kept where a later bundle needs them
+abbrev pub began : ℕ → ℕ → Bool → Stage → ℕ → Statement → List Statement → State
+began n question jump g decision s c =
     record {
       question = question;
       stage = g;
       closed = false;
+      jump = jump;
       decision = decision;
       held = s ∷ [];
-      for-value = pick (supplies-for-value g s) c [];
-      for-none = pick (supplies-for-none g s) c [];
+      for-value = pick (supplies-for-value g s) (take (quorum n) c) [];
+      for-none = pick (supplies-for-none g s) (take (quorum n) c) [];
     }
 
 -- "only where a bundle would be written, 12"
-abbrev pub sending : Last → ℕ → Statement → List Statement → List Statement → State → Outcome
-sending last number s c d t = pick (above last (s .question) (step s)) (sends number s (c ++ d) t) (refused not-above)
+abbrev pub sending : Last → ℕ → Statement → List Statement → State → Outcome
+sending last number s c t = pick (above last (s .question) (step s)) (sends number s c t) (refused not-above)
 
 -- a closed station: its decision alone is left
 abbrev pub shut : State → ℕ → State
 shut t d =
-    record { question = t .question; stage = t .stage; closed = true; decision = d; held = []; for-value = []; for-none = [] }
+    record { question = t .question; stage = t .stage; closed = true; jump = false; decision = d; held = []; for-value = []; for-none = [] }
+
+-- ---- jumping (Job 3 of document 02)
+-- "With it on, a valid bundle of a later step makes the station enter that step"
+abbrev pub jumps : State → Statement → Bool
+jumps t m = t .jump && ltb (stage-step (t .stage)) (step m)
+
+-- "For a D-GET P or a V it writes its own statement with the same content and certificate; for an R-GET P it tosses its own coin with that certificate."
+abbrev pub copied-value : Statement → ℕ → ℕ
+copied-value m coin = pick (eqb (m .kind) kind-P && eqb (m .flag) R-GET) coin (m .value)
 
 -- by a code of statements, the last round that there is, the group's size, the station's number, and the module's last pair
 module _ (code : Statement → List ℕ) (top n number : ℕ) (last : Last) where
   -- opening: an INIT is sent, and the station gathers
-  abbrev pub opened : ℕ → ℕ → Outcome
-  opened question proposal =
+  abbrev pub opened : ℕ → ℕ → Bool → Outcome
+  opened question proposal jump =
       let s = own code number question kind-INIT proposal D-GET 0 in
-      sending last sent s [] [] (began question Gathering none s [])
+      sending last sent s [] (began n question jump Gathering none s [])
 
   -- the step of t has ended
   abbrev pub moved : State → Next → ℕ → Outcome
   moved t x d =
       let s = own code number (t .question) (x .kind) (x .value) (x .flag) (x .round) in
-      sending last (pick (ltb (t .decision) none || eqb d none) sent sent-decided) s (x .first) (x .second) (began (t .question) (x .stage) d s (x .first))
+      let c = x .first ++ x .second in
+      sending last (pick (ltb (t .decision) none || eqb d none) sent sent-decided) s c (began n (t .question) (t .jump) (x .stage) d s c)
 
   unfoldable pub ended : State → ℕ → Outcome
   ended t coin =
@@ -258,6 +276,16 @@ module _ (code : Statement → List ℕ) (top n number : ℕ) (last : Last) wher
       let k = keeping n t m c in
       pick (ltb (length (k .held)) (quorum n)) (keeps kept k) (ended k coin)
 
+  -- the station enters the step of m, by m's certificate: "Only its own statement is held afterwards." The decision stays
+  abbrev pub entered : State → Statement → List Statement → ℕ → Outcome
+  entered t m c coin =
+      let s = own code number (t .question) (m .kind) (copied-value m coin) (m .flag) (m .round) in
+      sending last jumped s c (began n (t .question) (t .jump) (stage-of m) (t .decision) s c)
+
+  -- a bundle that passed the tests: it makes the station jump, or is taken
+  abbrev pub answered : State → Statement → List Statement → ℕ → Outcome
+  answered t m c coin = pick (jumps t m) (entered t m c coin) (taken t m c coin)
+
 -- ---- refusals of a bundle whose main statement is m, behind those of the validity check
 abbrev pub held-of : ℕ → List Statement → Bool
 held-of station h = some (λ s. eqb (s .station) station) h
@@ -269,13 +297,14 @@ conflict (Proposing r f) h =
     ltb 1 (r .0) && (some (λ s. eqb (s .flag) D-GET && has-value 0 s) h && some (λ s. eqb (s .flag) D-GET && has-value 1 s) h)
 conflict (Voting r) h = some (has-value 0) h && some (has-value 1) h
 
--- 7, 8, 9: of the station's step, and of a station that is not held yet
+-- 7, 8, 9: of the station's step, and of a station that is not held yet. "8 is given only with jump off": a bundle that makes the station jump passes 8,
+-- and 9 and 10 do not apply to it
 abbrev pub place-tests : State → Statement → List Test
 place-tests t m =
     test (leb (stage-step (t .stage)) (step m)) too-late
-    ∷ test (leb (step m) (stage-step (t .stage))) too-early
-    ∷ test (not (held-of (m .station) (t .held))) already-held
+    ∷ test (jumps t m || leb (step m) (stage-step (t .stage))) too-early
+    ∷ test (jumps t m || not (held-of (m .station) (t .held))) already-held
     ∷ []
 
 abbrev pub step-tests : State → Statement → List Test
-step-tests t m = place-tests t m ++ (test (not (conflict (t .stage) (m ∷ t .held))) conflicting ∷ [])
+step-tests t m = place-tests t m ++ (test (jumps t m || not (conflict (t .stage) (m ∷ t .held))) conflicting ∷ [])

@@ -1,14 +1,15 @@
--- "Marked examples of the count": the whole table, as Jobs 1 and 2 of document 02 change it, and one theorem over it. A station that holds its own statement
+-- "Marked examples of the count": the whole table, as the jobs of document 02 change it, and one theorem over it. A station that holds its own statement
 -- is given bundles, one after the other, each tested by its rule and by the station's step tests, which is what giving comes to (`given-as-called` in
 -- AsCalled); a module codes ten words.
 use Prim.Native.Nat.{ℕ}
+use mathlib.Core.Bool.{true, false}
 use mathlib.Core.List.{List, [], _∷_, _++_}
 use mathlib.Core.Path.{_≡_, refl}
-use lib.ListN.{replicate, take}
+use lib.ListN.{replicate}
 use Rattle.laws.specs.Pick.{pick}
 use Rattle.laws.specs.Refusals.{test, first-failed}
 use Rattle.laws.specs.All.{All}
-use Rattle.format.specs.Numbers.{kind-INIT, kind-P, kind-V, none, D-GET, R-GET, no-certificate, kept, sent, sent-decided, conflicting, not-above, last-round}
+use Rattle.format.specs.Numbers.{kind-INIT, kind-P, kind-V, none, D-GET, R-GET, no-certificate, kept, sent, sent-decided, jumped, too-late, too-early, conflicting, not-above, last-round}
 use Rattle.format.specs.Group.{quorum, backing}
 use Rattle.format.specs.Words.{fields-of, word-of, formed, step-of}
 use Rattle.format.specs.Statement.{Statement, written, step, statement-code}
@@ -20,7 +21,7 @@ use Rattle.modules.specs.Counter.{no-pair, pair, above}
 use Rattle.sealed.specs.Sealed.{coding-plain}
 use Rattle.station.specs.declared.Stage.{Stage}
 use Rattle.station.specs.declared.Stage.the-variants.{Gathering}
-use Rattle.station.specs.Machine.{State, Outcome, refused, keeps, sends, proposing, voting, began, insert, number-of, first-value, those, vote-value, decided, carried, follows, ended, taken, conflict, step-tests}
+use Rattle.station.specs.Machine.{State, Outcome, refused, keeps, sends, proposing, voting, began, insert, number-of, first-value, those, vote-value, decided, carried, follows, ended, taken, answered, conflict, step-tests}
 use Rattle.station.specs.Calls.{unless}
 
 -- ---- statements of question 1, by round, station, value and flag
@@ -75,7 +76,7 @@ unless-kept f (sends k s c t) = writes k (s .kind) (s .value) (s .flag) (s .roun
 -- (`given-as-called`)
 abbrev pub given : (Statement → List ℕ) → ℕ → ℕ → Last → ℕ → State → Bundle → Outcome
 given code n number last coin t b =
-    unless (test (rule n (b .main) (b .certificate)) no-certificate ∷ step-tests t (b .main)) (taken code last-round n number last t (b .main) (b .certificate) coin)
+    unless (test (rule n (b .main) (b .certificate)) no-certificate ∷ step-tests t (b .main)) (answered code last-round n number last t (b .main) (b .certificate) coin)
 
 module _ (code : Statement → List ℕ) (n number coin : ℕ) where
   -- a station whose module has coded nothing yet; while it keeps, it is given the next
@@ -83,13 +84,34 @@ module _ (code : Statement → List ℕ) (n number coin : ℕ) where
   seen [] o = unless-kept (λ k t. answers k) o
   seen (b ∷ l) o = unless-kept (λ k t. seen l (given code n number no-pair coin t b)) o
 
+-- what a station that has just sent is left with: the stations of the statements that it holds, the two groups that it keeps, and its decision
+pub record Left : Type 0 where
+  pub stations : List ℕ
+  pub for-value : List Statement
+  pub for-none : List Statement
+  pub decision : ℕ
+
+abbrev pub stations-of : List Statement → List ℕ
+stations-of [] = []
+stations-of (s ∷ h) = s .station ∷ stations-of h
+
+abbrev pub left-by : Outcome → List Left
+left-by (refused k) = []
+left-by (keeps k t) = []
+left-by (sends k s c t) = record { stations = stations-of (t .held); for-value = t .for-value; for-none = t .for-none; decision = t .decision } ∷ []
+
 -- ---- a row: its case, and what it gives
 pub data Row : Type 0 where
   -- n: the quorum, and the backings of 0 and of 1
   counts : (n q of-0 of-1 : ℕ) → Row
-  -- a station of n in a stage, its own bundle (of whose certificate it has kept the first q statements), the bundles given, and the coin: what is seen
+  -- a station of n in a stage, its own bundle, the bundles given, and the coin: what is seen
   -- in the end
   gives : (n : ℕ) → Stage → Bundle → List Bundle → (coin : ℕ) → Seen → Row
+  -- the same of a station with jump on
+  catches : (n : ℕ) → Stage → Bundle → List Bundle → (coin : ℕ) → Seen → Row
+  -- a station of 4 with jump on, whose module has coded a step, and its decision: a bundle given, and what is seen, or what it is left with
+  meets : (last : ℕ) → Stage → Bundle → Bundle → Seen → Row
+  lands : (decision : ℕ) → Stage → Bundle → Bundle → Left → Row
   -- the step last coded, the statement to code plain: the number returned
   codes : (last : ℕ) → Statement → (number : ℕ) → Row
 
@@ -99,8 +121,12 @@ module-at key last = record { key = key; n = 4; station = 1; last = pair 1 last 
 
 abbrev pub Holds : (List ℕ → List ℕ → List ℕ) → List ℕ → Row → Type 0
 Holds mac key (counts n q a b) = (quorum n ≡ q) × ((backing n 0 ≡ a) × (backing n 1 ≡ b))
-Holds mac key (gives n g b l coin x) =
-    seen (statement-code (mac key)) n (b .main .station) coin l (keeps kept (began 1 g none (b .main) (take (quorum n) (b .certificate)))) ≡ x
+Holds mac key (gives n g b l coin x) = seen (statement-code (mac key)) n (b .main .station) coin l (keeps kept (began n 1 false g none (b .main) (b .certificate))) ≡ x
+Holds mac key (catches n g b l coin x) = seen (statement-code (mac key)) n (b .main .station) coin l (keeps kept (began n 1 true g none (b .main) (b .certificate))) ≡ x
+Holds mac key (meets last g b x y) =
+    seen (statement-code (mac key)) 4 (b .main .station) 0 [] (given (statement-code (mac key)) 4 (b .main .station) (pair 1 last) 0 (began 4 1 true g none (b .main) (b .certificate)) x) ≡ y
+Holds mac key (lands d g b x l) =
+    left-by (given (statement-code (mac key)) 4 (b .main .station) no-pair 0 (began 4 1 true g d (b .main) (b .certificate)) x) ≡ l ∷ []
 Holds mac key (codes last s k) = coding-plain mac (module-at key last) (written s) .number ≡ k
 
 abbrev pub marked : List Row
@@ -199,3 +225,38 @@ inits-carried =
 pub inits-carried-hold : (mac : List ℕ → List ℕ → List ℕ) (key : List ℕ) → All (Holds mac key) inits-carried
 unfolding pick backing seen first-failed rule wanted some in-order holds d-get-group first-group second-group has-second early-toss rest-holds spread groups-hold every insert number-of first-value those vote-value decided carried follows ended taken conflict step step-of above
 inits-carried-hold mac key = (refl, (refl, (refl, (refl, (refl, (refl, (refl, (refl, (refl, tt)))))))))
+
+-- Job 3 of document 02: with jump on, a bundle of a later step is answered 23, and its statement and certificate are written; "for an R-GET P it tosses its own
+-- coin with that certificate"; "Only its own statement is held afterwards"
+abbrev pub caught-up : List Row
+caught-up =
+    -- from the INITs onto a proposal of round 1, of round 2, onto a vote for a value and onto a none vote
+    catches 4 Gathering (init 1 0 by []) (proposal 1 2 1 D-GET by inits-of 2 3 1 ∷ []) 0 (writes jumped kind-P 1 D-GET 1 (inits-of 2 3 1) none)
+    ∷ catches 4 Gathering (init 1 0 by []) (proposal 2 2 0 D-GET by all-of 0 ∷ []) 1 (writes jumped kind-P 0 D-GET 2 (all-of 0) none)
+    ∷ catches 4 (proposing 1 D-GET) (proposal 1 1 0 D-GET by inits-of 1 2 0) (vote 1 2 1 by voted-for 1 ∷ []) 0 (writes jumped kind-V 1 D-GET 1 (voted-for 1) none)
+    ∷ catches 4 (proposing 1 D-GET) (proposal 1 1 0 D-GET by inits-of 1 2 0) (vote 1 2 none by mixed ∷ []) 0 (writes jumped kind-V none D-GET 1 mixed none)
+    -- onto an R-GET proposal with 0: the coin is 1, and so is the value
+    ∷ catches 4 (voting 1) (vote 1 1 none by mixed) (proposal 2 2 0 R-GET by nones ∷ []) 1 (writes jumped kind-P 1 R-GET 2 nones none)
+    -- with jump off a later step is 8
+    ∷ gives 4 (voting 1) (vote 1 1 none by mixed) (proposal 2 2 0 R-GET by nones ∷ []) 1 (answers too-early)
+    -- and with jump on an earlier one is 7, and one of the step is taken as ever
+    ∷ catches 4 (voting 1) (vote 1 1 none by mixed) (proposal 1 2 1 D-GET by inits-of 2 3 1 ∷ []) 0 (answers too-late)
+    ∷ catches 4 (voting 1) (vote 1 1 none by mixed) (vote 1 2 1 by voted-for 1 ∷ vote 1 3 none by mixed ∷ []) 0 (writes sent kind-P 1 D-GET 2 (all-of 1) none)
+    -- a station that is held already, and a value that would conflict with one held, are no hindrance to a jump
+    ∷ catches 4 (voting 1) (vote 1 1 none by mixed) (vote 1 2 1 by voted-for 1 ∷ proposal 2 2 0 D-GET by all-of 0 ∷ []) 0 (writes jumped kind-P 0 D-GET 2 (all-of 0) none)
+    -- the module is at that step already: 12; and 7 comes before it
+    ∷ meets 4 (voting 1) (vote 1 1 none by mixed) (proposal 2 2 0 D-GET by all-of 0) (answers not-above)
+    ∷ meets 4 (voting 1) (vote 1 1 none by mixed) (proposal 1 2 1 D-GET by inits-of 2 3 1) (answers too-late)
+    -- the own statement alone is held. Kept: a vote's proposals, and not the INITs behind them; a first proposal's INITs; a later proposal's certificate, by its
+    -- flag. A decision stays
+    ∷ lands none Gathering (init 1 0 by []) (vote 1 2 1 by voted-for 1) (record { stations = 1 ∷ []; for-value = all-of 1; for-none = []; decision = none })
+    ∷ lands none Gathering (init 1 0 by []) (vote 1 2 none by mixed) (record { stations = 1 ∷ []; for-value = []; for-none = []; decision = none })
+    ∷ lands none Gathering (init 1 0 by []) (proposal 1 2 1 D-GET by inits-of 2 3 1) (record { stations = 1 ∷ []; for-value = inits-of 2 3 1; for-none = []; decision = none })
+    ∷ lands 1 (voting 1) (vote 1 1 none by mixed) (proposal 2 2 0 D-GET by all-of 0) (record { stations = 1 ∷ []; for-value = all-of 0; for-none = []; decision = 1 })
+    ∷ lands 0 (voting 1) (vote 1 1 none by mixed) (proposal 2 2 0 R-GET by nones) (record { stations = 1 ∷ []; for-value = []; for-none = nones; decision = 0 })
+    ∷ []
+
+pub caught-up-hold : (mac : List ℕ → List ℕ → List ℕ) (key : List ℕ) → All (Holds mac key) caught-up
+unfolding pick backing seen first-failed rule wanted some in-order holds d-get-group first-group second-group has-second early-toss rest-holds spread groups-hold every insert number-of first-value those vote-value decided carried follows ended taken conflict step step-of above
+caught-up-hold mac key =
+    (refl, (refl, (refl, (refl, (refl, (refl, (refl, (refl, (refl, (refl, (refl, (refl, (refl, (refl, (refl, (refl, tt))))))))))))))))

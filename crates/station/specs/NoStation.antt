@@ -25,9 +25,9 @@ pub no-station-undecided : no-station .decision ≡ none
 unfolding no-station
 no-station-undecided = refl
 
-pub refused-undecided : (mac : List ℕ → List ℕ → List ℕ) (m : Module) (question v : ℕ) (out : List ℕ)
-    → unrefused (opening mac m question v out .number) ≡ false → opening mac m question v out .station .decision ≡ none
-refused-undecided mac m question v out e = ap (λ (r : Returned). r .station .decision) (opening-refused mac m question v out e) ∙ no-station-undecided
+pub refused-undecided : (mac : List ℕ → List ℕ → List ℕ) (m : Module) (question v jump : ℕ) (out : List ℕ)
+    → unrefused (opening mac m question v jump out .number) ≡ false → opening mac m question v jump out .station .decision ≡ none
+refused-undecided mac m question v jump out e = ap (λ (r : Returned). r .station .decision) (opening-refused mac m question v jump out e) ∙ no-station-undecided
 
 -- it fits no module that is in range
 pub no-station-fits : (m : Module) → module-fits m ≡ true → fits (m .n) (m .station) no-station ≡ false

@@ -23,8 +23,8 @@ numbers (t ∷ l) = t .number ∷ numbers l
 
 module _ (mac : List ℕ → List ℕ → List ℕ) (m : Module) (out : List ℕ) where
   -- "Opening tests 1, 2, 12": 12 where the INIT would be coded
-  pub opening-order : (proposal : ℕ) → numbers (open-tests mac m proposal out) ≡ 1 ∷ 2 ∷ []
-  opening-order proposal = refl
+  pub opening-order : (proposal jump : ℕ) → numbers (open-tests mac m proposal jump out) ≡ 1 ∷ 2 ∷ []
+  opening-order proposal jump = refl
 
   -- "A station given a bundle tests 1, 2, 11, 3, 4, 5, 6, 7, 8, 9, 10 and, only where a bundle would be written, 12."
   pub giving-order : (t : Station) (ws : List ℕ) (coin : ℕ) → numbers (give-tests mac m t ws coin out) ≡ 1 ∷ 2 ∷ 11 ∷ 3 ∷ 4 ∷ 5 ∷ 6 ∷ 7 ∷ 8 ∷ 9 ∷ 10 ∷ []

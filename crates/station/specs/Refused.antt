@@ -12,7 +12,7 @@ use Rattle.station.specs.Machine.{Outcome}
 use Rattle.station.specs.Demand.{as-given}
 use Rattle.station.specs.Calls.{returned, opening, opening-outcome, giving, giving-outcome, no-station}
 use Rattle.station.specs.Words.{Lengths}
-use Rattle.station.specs.Laws.Views.{decision-then, Gives, refuses, holds-on, shuts, goes-on, gives-view, Opens, no-opening, begins, opens-view}
+use Rattle.station.specs.Laws.Views.{decision-then, Gives, refuses, holds-on, shuts, goes-on, enters, gives-view, Opens, no-opening, begins, opens-view}
 use Rattle.station.specs.Returns.{unrefused, wrote, wrote-unrefused, sent-wrote}
 
 module _ (mac : List ℕ → List ℕ → List ℕ) (m : Module) where
@@ -27,13 +27,14 @@ module _ (mac : List ℕ → List ℕ → List ℕ) (m : Module) where
       go _ (holds-on A few) u = never true u refl
       go _ (shuts A size c) u = never true u refl
       go _ (goes-on {k} A size c above e) u = never (unrefused k) u (wrote-unrefused k (ap wrote e ∙ sent-wrote (ltb (t .decision) none || eqb (decision-then mac m t ws coin out) none)))
+      go _ (enters J above) u = never true u refl
 
-  pub opening-refused : (question proposal : ℕ) (out : List ℕ) → unrefused (opening mac m question proposal out .number) ≡ false
-      → opening mac m question proposal out ≡ as-given (opening mac m question proposal out .number) m no-station out
+  pub opening-refused : (question proposal jump : ℕ) (out : List ℕ) → unrefused (opening mac m question proposal jump out .number) ≡ false
+      → opening mac m question proposal jump out ≡ as-given (opening mac m question proposal jump out .number) m no-station out
   unfolding opening returned
-  opening-refused question proposal out = go (opening-outcome mac m question proposal out) (opens-view mac m question proposal out)
+  opening-refused question proposal jump out = go (opening-outcome mac m question proposal jump out) (opens-view mac m question proposal jump out)
     where
-      go : (o : Outcome) → Opens mac m question proposal out o → unrefused (returned m no-station out o .number) ≡ false
+      go : (o : Outcome) → Opens mac m question proposal jump out o → unrefused (returned m no-station out o .number) ≡ false
           → returned m no-station out o ≡ as-given (returned m no-station out o .number) m no-station out
       go _ (no-opening e) u = refl
       go _ (begins room r p a) u = never true u refl

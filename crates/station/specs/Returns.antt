@@ -5,7 +5,7 @@ use mathlib.Core.List.{List, [], _∷_}
 use mathlib.Core.Path.{_≡_, refl}
 use lib.Dec.{eqb}
 use Rattle.laws.specs.Pick.{pick}
-use Rattle.format.specs.Numbers.{kept, sent, sent-decided, closed-now}
+use Rattle.format.specs.Numbers.{kept, sent, sent-decided, closed-now, jumped}
 
 -- a number that is no refusal; whether a bundle was written with it; and whether a giving so answered took the given main statement
 pub record Class : Type 0 where
@@ -16,10 +16,10 @@ pub record Class : Type 0 where
 abbrev pub classed : ℕ → Bool → Bool → Class
 classed k w t = record { number = k; writes = w; takes = t }
 
--- "0: kept, step not ended"; "20: sent: bundle written"; "21: sent, and first decided in this call"; "22: closed in this call". Every other number is a
--- refusal
+-- "0: kept, step not ended"; "20: sent: bundle written"; "21: sent, and first decided in this call"; "22: closed in this call"; and by Job 3 of document 02
+-- 23: a bundle is written, and "Only its own statement is held afterwards". Every other number is a refusal
 abbrev pub classes : List Class
-classes = classed kept false true ∷ classed sent true true ∷ classed sent-decided true true ∷ classed closed-now false true ∷ []
+classes = classed kept false true ∷ classed sent true true ∷ classed sent-decided true true ∷ classed closed-now false true ∷ classed jumped true false ∷ []
 
 -- whether the number stands there, with what a test asks
 abbrev pub listed : (Class → Bool) → List Class → ℕ → Bool

@@ -24,15 +24,15 @@ use Rattle.sealed.specs.Ways.{with-code, coded-as, own-plain, own-coin}
 use Rattle.station.specs.declared.Stage.{Stage}
 use Rattle.station.specs.declared.Stage.the-variants.{Gathering, Proposing, Voting}
 use Rattle.station.specs.declared.Station.{Station}
-use Rattle.station.specs.Machine.{State, Outcome, Next, next, proposing, carried, follows}
+use Rattle.station.specs.Machine.{State, Outcome, Next, next, proposing, carried, follows, copied-value}
 use Rattle.station.specs.Words.{Lengths}
-use Rattle.format.specs.Bundle.{all-written, bundle-of, over}
+use Rattle.format.specs.Bundle.{main-of, certificate-of, all-written, bundle-of, over}
 use Rattle.station.specs.Returns.{unrefused, wrote, wrote-unrefused, sent-wrote}
 use Rattle.station.specs.Calls.{returned, opening, giving, opening-outcome, giving-outcome, no-station}
 use Rattle.station.specs.Demand.{message, BySeal}
 use Rattle.station.specs.Laws.ReadBack.{length-all}
-use Rattle.station.specs.Laws.Views.{InRange, after, sent-statement, Gives, refuses, holds-on, shuts, goes-on, gives-view, init-statement, Opens, no-opening, begins, opens-view, decision-then}
-use Rattle.station.specs.Laws.Fits.{own-proper, next-ready, sent-proper}
+use Rattle.station.specs.Laws.Views.{InRange, after, sent-statement, jump-statement, Gives, refuses, holds-on, shuts, goes-on, enters, gives-view, init-statement, Opens, no-opening, begins, opens-view, decision-then}
+use Rattle.station.specs.Laws.Fits.{own-proper, next-ready, sent-proper, jump-proper}
 
 pub range-fits : (m : Module) → InRange m → module-fits m ≡ true
 range-fits m r =
@@ -115,12 +115,17 @@ toss-coin n (Voting r) k coin e = go (ltb (carried (k .held)) none) e
     go true e = never false refl e
     go false e = refl
 
+-- and so is that of an R-GET that a jump writes
+copied-toss : (m : Statement) (coin : ℕ) → (eqb (m .kind) kind-P && eqb (m .flag) R-GET) ≡ true → copied-value m coin ≡ coin
+unfolding pick
+copied-toss m coin e = rw e
+
 module _ (mac : List ℕ → List ℕ → List ℕ) (eight : (key ws : List ℕ) → length (mac key ws) ≡ code-words) (m : Module) where
-  pub opening-sealed : (question v : ℕ) (out : List ℕ) → wrote (opening mac m question v out .number) ≡ true → (coin : ℕ) → BySeal mac m coin (opening mac m question v out)
+  pub opening-sealed : (question v jump : ℕ) (out : List ℕ) → wrote (opening mac m question v jump out .number) ≡ true → (coin : ℕ) → BySeal mac m coin (opening mac m question v jump out)
   unfolding opening returned
-  opening-sealed question v out u coin = go (opening-outcome mac m question v out) (opens-view mac m question v out) u
+  opening-sealed question v jump out u coin = go (opening-outcome mac m question v jump out) (opens-view mac m question v jump out) u
     where
-      go : (o : Outcome) → Opens mac m question v out o → wrote (returned m no-station out o .number) ≡ true → BySeal mac m coin (returned m no-station out o)
+      go : (o : Outcome) → Opens mac m question v jump out o → wrote (returned m no-station out o .number) ≡ true → BySeal mac m coin (returned m no-station out o)
       go _ (no-opening {k} e) u = never (unrefused k) e (wrote-unrefused k u)
       go _ (begins room r p a) u =
           by-seal mac m r (init-statement mac m question v out) [] out
@@ -138,13 +143,16 @@ module _ (mac : List ℕ → List ℕ → List ℕ) (eight : (key ws : List ℕ)
       go _ (goes-on A size c later k) u =
           by-seal mac m (A .range) (sent-statement mac m t ws coin out) _ out (sent-proper mac eight m t ws coin out L A size c) refl refl later _ _ _ coin
           (λ e. let v = toss-coin (m .n) (t .stage) (after mac m t ws coin out) coin e in (v, omega (arith, v, A .coin-bit)))
+      go _ (enters J later) u =
+          by-seal mac m (J .range) (jump-statement mac m t ws coin out) _ out (jump-proper mac eight m t ws coin out J) refl refl later _ _ _ coin
+          (λ e. let v = copied-toss (main-of ws) coin e in (v, omega (arith, v, J .coin-bit)))
 
   -- ---- the word count
-  pub opening-counted : (question v : ℕ) (out : List ℕ) → length (message (opening mac m question v out)) ≡ opening mac m question v out .count
+  pub opening-counted : (question v jump : ℕ) (out : List ℕ) → length (message (opening mac m question v jump out)) ≡ opening mac m question v jump out .count
   unfolding opening returned
-  opening-counted question v out = go (opening-outcome mac m question v out) (opens-view mac m question v out)
+  opening-counted question v jump out = go (opening-outcome mac m question v jump out) (opens-view mac m question v jump out)
     where
-      go : (o : Outcome) → Opens mac m question v out o → length (message (returned m no-station out o)) ≡ returned m no-station out o .count
+      go : (o : Outcome) → Opens mac m question v jump out o → length (message (returned m no-station out o)) ≡ returned m no-station out o .count
       go _ (no-opening e) = refl
       go _ (begins room r p a) =
           bundle-counted (m .n) (init-statement mac m question v out) [] out (own-proper mac eight m question kind-INIT v D-GET 0 r (init refl refl p refl)) tt
@@ -162,13 +170,15 @@ module _ (mac : List ℕ → List ℕ → List ℕ) (eight : (key ws : List ℕ)
           let R = next-ready mac eight m t ws coin out L A size c in
           bundle-counted (m .n) (sent-statement mac m t ws coin out) (x .first ++ x .second) out (sent-proper mac eight m t ws coin out L A size c)
           (all-append (Proper (m .n)) (x .first) (x .second) (R .proper) (R .more-proper))
+      go _ (enters J later) =
+          bundle-counted (m .n) (jump-statement mac m t ws coin out) (certificate-of ws) out (jump-proper mac eight m t ws coin out J) (J .fitting .certificate)
 
   -- ---- where nothing is written nothing is counted
-  pub opening-silent : (question v : ℕ) (out : List ℕ) → wrote (opening mac m question v out .number) ≡ false → opening mac m question v out .count ≡ 0
+  pub opening-silent : (question v jump : ℕ) (out : List ℕ) → wrote (opening mac m question v jump out .number) ≡ false → opening mac m question v jump out .count ≡ 0
   unfolding opening returned
-  opening-silent question v out = go (opening-outcome mac m question v out) (opens-view mac m question v out)
+  opening-silent question v jump out = go (opening-outcome mac m question v jump out) (opens-view mac m question v jump out)
     where
-      go : (o : Outcome) → Opens mac m question v out o → wrote (returned m no-station out o .number) ≡ false → returned m no-station out o .count ≡ 0
+      go : (o : Outcome) → Opens mac m question v jump out o → wrote (returned m no-station out o .number) ≡ false → returned m no-station out o .count ≡ 0
       go _ (no-opening e) u = refl
       go _ (begins room r p a) u = never true u refl
 
@@ -181,3 +191,4 @@ module _ (mac : List ℕ → List ℕ → List ℕ) (eight : (key ws : List ℕ)
       go _ (holds-on A few) u = refl
       go _ (shuts A size c) u = refl
       go _ (goes-on {k} A size c later e) u = never (wrote k) u (ap wrote e ∙ sent-wrote (ltb (t .decision) none || eqb (decision-then mac m t ws coin out) none))
+      go _ (enters J later) u = never true u refl

@@ -20,12 +20,12 @@ use Rattle.certificate.specs.Check.{one-question, bundle-tests, check-tests, ch
 use Rattle.modules.specs.declared.Module.{Module}
 use Rattle.modules.specs.Counter.{module-fits, last-for}
 use Rattle.station.specs.declared.Station.{Station}
-use Rattle.station.specs.Machine.{refused, taken, step-tests}
+use Rattle.station.specs.Machine.{refused, answered, step-tests}
 use Rattle.station.specs.Words.{state-of}
 use Rattle.station.specs.Fit.{fits}
 use Rattle.station.specs.Calls.{returned, giving, station-tests, give-tests}
 use Rattle.station.specs.Demand.{invalid, OfGroup, ValidToAll, Demand-2}
-use Rattle.station.specs.Laws.Views.{taken-number}
+use Rattle.station.specs.Laws.Views.{answered-number}
 use Rattle.station.specs.Laws.Fits as Fits
 use Rattle.station.specs.Written as Written
 use Rattle.station.specs.Refused as Refused
@@ -65,9 +65,9 @@ module _ (mac : List ℕ → List ℕ → List ℕ) (key : List ℕ) (n : ℕ) (
           ∙ passed-front (bundle-tests (mac (m .key)) (m .n) (Only (t .identity .question)) ws) (step-tests (state-of t) (main-of ws)) here
 
       go : (b : Bool) → eqb (first-failed (give-tests mac m t ws coin out)) 0 ≡ b
-          → invalid (returned m t out (pick b (taken (statement-code (mac (m .key))) last-round (m .n) (m .station) (last-for m (t .identity .question)) (state-of t) (main-of ws) (certificate-of ws) coin)
+          → invalid (returned m t out (pick b (answered (statement-code (mac (m .key))) last-round (m .n) (m .station) (last-for m (t .identity .question)) (state-of t) (main-of ws) (certificate-of ws) coin)
           (refused (first-failed (give-tests mac m t ws coin out)))) .number) ≡ false
-      go true e = taken-number mac m t ws coin out (λ k. invalid k ≡ false) refl refl refl refl refl
+      go true e = answered-number mac m t ws coin out (λ k. invalid k ≡ false) refl refl refl refl refl refl
       go false e =
           subst (λ (k : ℕ). invalid k ≡ false) (sym left)
           (failed-one (λ k. invalid k ≡ false) (step-tests (state-of t) (main-of ws)) (refl, (refl, (refl, (refl, tt)))) (λ z. eqb-false _ _ e (left ∙ z)))
@@ -78,17 +78,17 @@ module _ (mac : List ℕ → List ℕ → List ℕ) (key : List ℕ) (n : ℕ) (
 pub demand-2-of : (mac : List ℕ → List ℕ → List ℕ) → ((key ws : List ℕ) → length (mac key ws) ≡ code-words) → Demand-2 mac
 demand-2-of mac eight =
     record {
-      opening-written = λ key n number m question v out G u. valid-to-all mac key n _ (Written.opening-written mac key n eight number m question v out G u);
+      opening-written = λ key n number m question v jump out G u. valid-to-all mac key n _ (Written.opening-written mac key n eight number m question v jump out G u);
       giving-written = λ key n number t R m ws coin out G u. valid-to-all mac key n _ (Written.giving-written mac key n eight number t R m ws coin out G u);
-      opening-counted = λ m question v out. Seal.opening-counted mac eight m question v out;
+      opening-counted = λ m question v jump out. Seal.opening-counted mac eight m question v jump out;
       giving-counted = λ m t ws coin out L. Seal.giving-counted mac eight m t ws coin out L;
-      opening-silent = λ m question v out u. Seal.opening-silent mac eight m question v out u;
+      opening-silent = λ m question v jump out u. Seal.opening-silent mac eight m question v jump out u;
       giving-silent = λ m t ws coin out L u. Seal.giving-silent mac eight m t ws coin out L u;
-      opening-sealed = λ m question v out u coin. Seal.opening-sealed mac eight m question v out u coin;
+      opening-sealed = λ m question v jump out u coin. Seal.opening-sealed mac eight m question v jump out u coin;
       giving-sealed = λ m t ws coin out L u. Seal.giving-sealed mac eight m t ws coin out L u;
-      opening-fits = λ m question v out u. Fits.opening-fits mac eight m question v out u;
+      opening-fits = λ m question v jump out u. Fits.opening-fits mac eight m question v jump out u;
       giving-fits = λ m t ws coin out L u. Fits.giving-fits mac eight m t ws coin out L u;
-      opening-refused = λ m question v out u. Refused.opening-refused mac m question v out u;
+      opening-refused = λ m question v jump out u. Refused.opening-refused mac m question v jump out u;
       giving-refused = λ m t ws coin out L u. Refused.giving-refused mac m t ws coin out L u;
       coin-effect = λ m t ws out. Coin.coin-effect mac m t ws out;
     }

@@ -45,12 +45,13 @@ pub record Lengths (t : Station) : Type 0 where
   pub for-none : length (t .groups .none) ≡ kept-words
 
 -- a station that holds nothing
-abbrev pub empty-station : Identity → Stage → Bool → ℕ → Station
-empty-station identity stage closed decision =
+abbrev pub empty-station : Identity → Stage → Bool → Bool → ℕ → Station
+empty-station identity stage closed jump decision =
     record {
       identity = identity;
       stage = stage;
       closed = closed;
+      jump = jump;
       decision = decision;
       held = record { heard = 0; slots = replicate slots-words 0 };
       groups = record { value = replicate kept-words 0; none = replicate kept-words 0 };
@@ -65,6 +66,7 @@ state-of t =
       question = t .identity .question;
       stage = t .stage;
       closed = t .closed;
+      jump = t .jump;
       decision = t .decision;
       held = held-by t;
       for-value = statements (t .groups .value) 0 (kept-for-value (t .identity .n) (t .stage) (held-by t) .size);
@@ -96,6 +98,7 @@ as-station n number t =
       identity = record { n = n; station = number; question = t .question };
       stage = t .stage;
       closed = t .closed;
+      jump = t .jump;
       decision = t .decision;
       held = record { heard = set-of (t .held); slots = slots-of (t .held) 1 sites };
       groups = record { value = group-words (t .for-value); none = group-words (t .for-none) };

@@ -29,7 +29,7 @@ use Rattle.modules.specs.Counter.{last-for}
 use Rattle.station.specs.declared.Stage.{Stage}
 use Rattle.station.specs.declared.Stage.the-variants.{Gathering, Proposing, Voting}
 use Rattle.station.specs.declared.Station.{Station}
-use Rattle.station.specs.Machine.{State, Outcome, Next, own, began, shut, supplies-for-value, supplies-for-none, takes, closes, those, has-value, first-value, vote-value, carried, follows}
+use Rattle.station.specs.Machine.{State, Outcome, Next, own, began, shut, stage-of, copied-value, supplies-for-value, supplies-for-none, takes, closes, those, has-value, first-value, vote-value, carried, follows}
 use Rattle.station.specs.Words as W
 use Rattle.station.specs.Words.{state-of, group-words, sites, Lengths, kept-words}
 use Rattle.station.specs.Calls.{returned, opening, giving, opening-outcome, giving-outcome, no-station}
@@ -42,10 +42,10 @@ use Rattle.station.specs.Laws.FitSane.{for-value-size, for-none-size}
 use Rattle.station.specs.Laws.Keep.{all-take}
 use Rattle.station.specs.Laws.Pieces.{those-all}
 use Rattle.station.specs.Laws.End.{Given}
-use Rattle.station.specs.Laws.Views.{Accepted, after, decision-then, sent-statement, Gives, refuses, holds-on, shuts, goes-on, gives-view, full-after, init-statement, Opens, no-opening, begins, opens-view}
+use Rattle.station.specs.Laws.Views.{Accepted, Jumping, jump-statement, after, decision-then, sent-statement, Gives, refuses, holds-on, shuts, goes-on, enters, gives-view, full-after, init-statement, Opens, no-opening, begins, opens-view}
 use Rattle.station.specs.Returns.{unrefused, wrote, wrote-unrefused}
 use Rattle.station.specs.Demand.{message, OfGroup, Reached, by-opening, by-giving}
-use Rattle.station.specs.Laws.Fits.{backed, own-proper, init-sane, next-ready, sent-proper, sent-sane, kept-sane}
+use Rattle.station.specs.Laws.Fits.{backed, own-proper, init-sane, next-ready, sent-proper, sent-sane, kept-sane, jump-proper, jump-fitting, jump-sane}
 use Rattle.station.specs.Laws.Bundles.{bundle-valid, backed-few, ws-length}
 
 -- ---- the lengths of a station that is written from a state
@@ -116,6 +116,17 @@ backed-given n m _ (rule-5 k v h i s o) r p = absurd (omega arith)
 backed-given n m c (rule-6 k v a h b) r p = absurd (omega arith)
 backed-given n m _ (rule-7 k v a h b s) r p = absurd (omega arith)
 
+-- the state of a station that has sent, by its own statement and its certificate
+began-certain : (code : List ℕ → List ℕ) (n question d : ℕ) (jump : Bool) (g : Stage) (s : Statement) (c : List Statement) → verifies code s ≡ true
+    → All (λ s. verifies code s ≡ true) c → Backed n s c → Certain code (began n question jump g d s c)
+unfolding pick
+began-certain code n question d jump g s c v vs b =
+    record { held = (v, tt); for-value = part (supplies-for-value g s); for-none = part (supplies-for-none g s); given = (backed-given n s c b, tt) }
+  where
+    part : (b : Bool) → All (λ s. verifies code s ≡ true) (pick b (take (quorum n) c) [])
+    part true = all-take (λ s. verifies code s ≡ true) (quorum n) c vs
+    part false = tt
+
 module _ (mac : List ℕ → List ℕ → List ℕ) (m : Module) (t : Station) (ws : List ℕ) (coin : ℕ) (out : List ℕ) (A : Accepted mac m t ws coin out) where
   abbrev code : List ℕ → List ℕ
   code = mac (m .key)
@@ -138,17 +149,6 @@ module _ (mac : List ℕ → List ℕ → List ℕ) (m : Module) (t : Station) (
       part : (b : Bool) (l : List Statement) → All (λ s. verifies code s ≡ true) l → All (λ s. verifies code s ≡ true) (pick b (take (quorum (m .n)) (certificate-of ws)) l)
       part true l h = all-take (λ s. verifies code s ≡ true) (quorum (m .n)) (certificate-of ws) (verified .1)
       part false l h = h
-
-  -- the state of a station that has sent, by its own statement and the certificate's first group
-  began-certain : (question d : ℕ) (g : Stage) (s : Statement) (c : List Statement) → verifies code s ≡ true → All (λ s. verifies code s ≡ true) c
-      → (s .round ≡ 1 → s .kind ≡ kind-P → s .flag ≡ D-GET) → Certain code (began question g d s c)
-  unfolding pick
-  began-certain question d g s c v vs e =
-      record { held = (v, tt); for-value = part (supplies-for-value g s); for-none = part (supplies-for-none g s); given = (e, tt) }
-    where
-      part : (b : Bool) → All (λ s. verifies code s ≡ true) (pick b c [])
-      part true = vs
-      part false = tt
 
   module _ (eight : (key ws : List ℕ) → length (mac key ws) ≡ code-words) (L : Lengths t) (C : Certain code (state-of t))
       (size : length (after mac m t ws coin out .held) ≡ quorum (m .n)) (more : closes last-round (t .stage) ≡ false) where
@@ -176,10 +176,11 @@ module _ (mac : List ℕ → List ℕ → List ℕ) (m : Module) (t : Station) (
     s-verifies : verifies code s ≡ true
     s-verifies = own-verifies code (m .station) (t .identity .question) (x .kind) (x .value) (x .flag) (x .round)
 
-    pub sent-certain : Certain code (began (t .identity .question) (x .stage) (decision-then mac m t ws coin out) s (x .first))
-    sent-certain =
-        began-certain (t .identity .question) (decision-then mac m t ws coin out) (x .stage) s (x .first) s-verifies (parts-verify .0)
-        (backed-given (m .n) s (x .first ++ x .second) sent-backed)
+    all-verify : All (λ s. verifies code s ≡ true) (x .first ++ x .second)
+    all-verify = all-append (λ y. verifies code y ≡ true) (x .first) (x .second) (parts-verify .0) (parts-verify .1)
+
+    pub sent-certain : Certain code (began (m .n) (t .identity .question) (t .jump) (x .stage) (decision-then mac m t ws coin out) s (x .first ++ x .second))
+    sent-certain = began-certain code (m .n) (t .identity .question) (decision-then mac m t ws coin out) (t .jump) (x .stage) s (x .first ++ x .second) s-verifies all-verify sent-backed
 
     pub sent-valid : Valid code (m .n) (bundle-of s (x .first ++ x .second))
     sent-valid =
@@ -188,7 +189,34 @@ module _ (mac : List ℕ → List ℕ → List ℕ) (m : Module) (t : Station) (
         (all-append (Proper (m .n)) (x .first) (x .second) (R .proper) (R .more-proper))
         (backed-few (m .n) s (x .first ++ x .second) (A .range .at-most-31) sent-backed) code (A .range .at-least-2)
         (all-append (λ y. y .question ≡ t .identity .question) (x .first) (x .second) (R .alike) (R .more-alike)) s-verifies
-        (all-append (λ y. verifies code y ≡ true) (x .first) (x .second) (parts-verify .0) (parts-verify .1)) sent-backed
+        all-verify sent-backed
+
+-- ---- a jump: the given certificate verifies and backs the own statement
+module _ (mac : List ℕ → List ℕ → List ℕ) (eight : (key ws : List ℕ) → length (mac key ws) ≡ code-words) (m : Module) (t : Station) (ws : List ℕ) (coin : ℕ) (out : List ℕ)
+    (J : Jumping mac m t ws coin out) where
+  abbrev u : Statement
+  u = jump-statement mac m t ws coin out
+
+  given-verifies : All (λ s. verifies (mac (m .key)) s ≡ true) (certificate-of ws)
+  unfolding statements
+  given-verifies = J .codes .1
+
+  own-code : verifies (mac (m .key)) u ≡ true
+  own-code = own-verifies (mac (m .key)) (m .station) (t .identity .question) (main-of ws .kind) (copied-value (main-of ws) coin) (main-of ws .flag) (main-of ws .round)
+
+  pub jump-few : length (certificate-of ws) ≤ most-statements
+  jump-few = backed-few (m .n) u (certificate-of ws) (J .range .at-most-31) (jump-fitting mac eight m t ws coin out J .backed)
+
+  pub jump-certain : Certain (mac (m .key)) (began (m .n) (t .identity .question) (t .jump) (stage-of (main-of ws)) (t .decision) u (certificate-of ws))
+  jump-certain =
+      began-certain (mac (m .key)) (m .n) (t .identity .question) (t .decision) (t .jump) (stage-of (main-of ws)) u (certificate-of ws) own-code given-verifies
+      (jump-fitting mac eight m t ws coin out J .backed)
+
+  pub jump-valid : Valid (mac (m .key)) (m .n) (bundle-of u (certificate-of ws))
+  unfolding state-of
+  jump-valid =
+      let F = jump-fitting mac eight m t ws coin out J in
+      bundle-valid (m .n) u (certificate-of ws) (J .range .at-most-31) (F .proper) (F .certificate) jump-few (mac (m .key)) (J .range .at-least-2) (F .alike) own-code given-verifies (F .backed)
 
 -- ---- stations made by opening and changed only by these calls
 module _ (mac : List ℕ → List ℕ → List ℕ) (key : List ℕ) (n : ℕ) where
@@ -209,18 +237,19 @@ module _ (mac : List ℕ → List ℕ → List ℕ) (key : List ℕ) (n : ℕ) w
     unfolding W.as-station
     good-shut number i t c h f s = record { lengths = shut-lengths i number t h f s; certain = λ e. never (t .closed) e c }
 
-    pub good-opening : (number : ℕ) (m : Module) (question v : ℕ) (out : List ℕ) → OfGroup mac key n number m → unrefused (opening mac m question v out .number) ≡ true
-        → Good number (opening mac m question v out .station)
+    pub good-opening : (number : ℕ) (m : Module) (question v jump : ℕ) (out : List ℕ) → OfGroup mac key n number m → unrefused (opening mac m question v jump out .number) ≡ true
+        → Good number (opening mac m question v jump out .station)
     unfolding opening returned pick
-    good-opening number m question v out G = go (opening-outcome mac m question v out) (opens-view mac m question v out)
+    good-opening number m question v jump out G = go (opening-outcome mac m question v jump out) (opens-view mac m question v jump out)
       where
-        go : (o : Outcome) → Opens mac m question v out o → unrefused (returned m no-station out o .number) ≡ true → Good number (returned m no-station out o .station)
+        go : (o : Outcome) → Opens mac m question v jump out o → unrefused (returned m no-station out o .number) ≡ true → Good number (returned m no-station out o .station)
         go _ (no-opening e) u = never _ e u
         go _ (begins room r p a) u =
-            subst (λ (i : ℕ). Good i (W.as-station (m .n) (m .station) (began question Gathering none (init-statement mac m question v out) []))) (G .same-number)
-            (good-state (m .station) (m .n) (began question Gathering none (init-statement mac m question v out) []) (r .at-most-31) (r .low) (r .high)
-            (init-sane mac eight m question v r p)
-            (subst (λ (c : List ℕ). Certain (mac c) (began question Gathering none (init-statement mac m question v out) [])) (G .same-key)
+            let b = began (m .n) question (eqb jump 1) Gathering none (init-statement mac m question v out) [] in
+            subst (λ (i : ℕ). Good i (W.as-station (m .n) (m .station) b)) (G .same-number)
+            (good-state (m .station) (m .n) b (r .at-most-31) (r .low) (r .high)
+            (init-sane mac eight m question v (eqb jump 1) r p)
+            (subst (λ (c : List ℕ). Certain (mac c) b) (G .same-key)
             (record { held = (own-verifies (mac (m .key)) (m .station) question kind-INIT v D-GET 0, tt); for-value = tt; for-none = tt; given = ((λ a b. absurd (omega arith)), tt) })))
 
     pub good-giving : (number : ℕ) (t : Station) → Good number t → (m : Module) (ws : List ℕ) (coin : ℕ) (out : List ℕ) → OfGroup mac key n number m
@@ -248,9 +277,12 @@ module _ (mac : List ℕ → List ℕ → List ℕ) (key : List ℕ) (n : ℕ) w
         go _ (goes-on A size c above k) u =
             here _ (good-state (m .station) (m .n) _ (A .range .at-most-31) (A .range .low) (A .range .high)
             (sent-sane mac eight m t ws coin out (good .lengths) A size c) (of-key (sent-certain mac m t ws coin out A eight (good .lengths) (C A) size c)))
+        go _ (enters J above) u =
+            here _ (good-state (m .station) (m .n) _ (J .range .at-most-31) (J .range .low) (J .range .high)
+            (jump-sane mac eight m t ws coin out J (good .lengths)) (of-key (jump-certain mac eight m t ws coin out J)))
 
     pub reached-good : (number : ℕ) (t : Station) → Reached mac key n number t → Good number t
-    reached-good number _ (by-opening m question v out G u) = good-opening number m question v out G u
+    reached-good number _ (by-opening m question v jump out G u) = good-opening number m question v jump out G u
     reached-good number _ (by-giving {t} r m ws coin out G u) = good-giving number t (reached-good number t r) m ws coin out G u
 
     -- the written words are the bundle's, and no more
@@ -260,12 +292,12 @@ module _ (mac : List ℕ → List ℕ → List ℕ) (key : List ℕ) (n : ℕ) w
     bundle-front i s c out top p a few =
         take-at (bundle-of s c) (drop (length (bundle-of s c)) out) (bundle-words (length c)) (ws-length i s c top p a few)
 
-    pub opening-written : (number : ℕ) (m : Module) (question v : ℕ) (out : List ℕ) → OfGroup mac key n number m → wrote (opening mac m question v out .number) ≡ true
-        → check-by (mac key) n Any (message (opening mac m question v out)) ≡ 0
+    pub opening-written : (number : ℕ) (m : Module) (question v jump : ℕ) (out : List ℕ) → OfGroup mac key n number m → wrote (opening mac m question v jump out .number) ≡ true
+        → check-by (mac key) n Any (message (opening mac m question v jump out)) ≡ 0
     unfolding opening returned
-    opening-written number m question v out G = go (opening-outcome mac m question v out) (opens-view mac m question v out)
+    opening-written number m question v jump out G = go (opening-outcome mac m question v jump out) (opens-view mac m question v jump out)
       where
-        go : (o : Outcome) → Opens mac m question v out o → wrote (returned m no-station out o .number) ≡ true
+        go : (o : Outcome) → Opens mac m question v jump out o → wrote (returned m no-station out o .number) ≡ true
             → check-by (mac key) n Any (message (returned m no-station out o)) ≡ 0
         go _ (no-opening {k} e) u = never (unrefused k) e (wrote-unrefused k u)
         go _ (begins room r p a) u = checks
@@ -294,6 +326,12 @@ module _ (mac : List ℕ → List ℕ → List ℕ) (key : List ℕ) (n : ℕ) w
         go _ (refuses {k} e) u = never (unrefused k) e (wrote-unrefused k u)
         go _ (holds-on A few) u = never false refl u
         go _ (shuts A size c) u = never false refl u
+        go _ (enters J above) u =
+            let c = certificate-of ws in
+            let s = jump-statement mac m t ws coin out in
+            ap (check-by (mac key) n Any) (bundle-front (m .n) s c out (J .range .at-most-31) (jump-proper mac eight m t ws coin out J) (J .fitting .certificate) (jump-few mac eight m t ws coin out J))
+            ∙ valid-found (mac key) n (bundle-of s c)
+            (subst (λ (i : ℕ). Valid (mac key) i (bundle-of s c)) (G .same-n) (subst (λ (x : List ℕ). Valid (mac x) (m .n) (bundle-of s c)) (G .same-key) (jump-valid mac eight m t ws coin out J)))
         go _ (goes-on A size c above k) u = checks A size c
           where
             checks : (A : Accepted mac m t ws coin out) (size : length (after mac m t ws coin out .held) ≡ quorum (m .n)) (c : closes last-round (t .stage) ≡ false)
@@ -314,10 +352,10 @@ module _ (mac : List ℕ → List ℕ → List ℕ) (key : List ℕ) (n : ℕ) w
                 (sent-valid mac m t ws coin out A eight (g .lengths) C size c)))
 
 -- ---- under HMAC, by the public check's own answer
-pub opening-valid : (key : List ℕ) (n number : ℕ) (m : Module) (question v : ℕ) (out : List ℕ) → OfGroup hmac-code key n number m
-    → wrote (opening hmac-code m question v out .number) ≡ true → checked key n (message (opening hmac-code m question v out)) ≡ 0
+pub opening-valid : (key : List ℕ) (n number : ℕ) (m : Module) (question v jump : ℕ) (out : List ℕ) → OfGroup hmac-code key n number m
+    → wrote (opening hmac-code m question v jump out .number) ≡ true → checked key n (message (opening hmac-code m question v jump out)) ≡ 0
 unfolding checked judged
-opening-valid key n number m question v out G u = opening-written hmac-code key n hmac-eight number m question v out G u
+opening-valid key n number m question v jump out G u = opening-written hmac-code key n hmac-eight number m question v jump out G u
 
 pub giving-valid : (key : List ℕ) (n number : ℕ) (t : Station) → Reached hmac-code key n number t → (m : Module) (ws : List ℕ) (coin : ℕ) (out : List ℕ)
     → OfGroup hmac-code key n number m → wrote (giving hmac-code m t ws coin out .number) ≡ true → checked key n (message (giving hmac-code m t ws coin out)) ≡ 0

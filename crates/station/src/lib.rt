@@ -34,10 +34,12 @@ pub struct Groups {
     pub none: [u32; KEPT_WORDS],
 }
 
+// A station: whether it jumps onto bundles of later steps is a setting that its opening gave it.
 pub struct Station {
     pub identity: Identity,
     pub stage: Stage,
     pub closed: bool,
+    pub jump: bool,
     pub decision: u32,
     pub held: Held,
     pub groups: Groups,

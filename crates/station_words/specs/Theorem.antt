@@ -29,7 +29,7 @@ pub no-station-read : (ws : List ℕ) → is-station ws ≡ false → reading ws
 unfolding reading pick
 no-station-read ws none = rw none
 
--- a station with a flag of 0 or 1 is written wherever 639 words are lent
+-- a station with a flag of 0 or 1 is written wherever 640 words are lent
 pub is-written : (t : Station) (out : List ℕ) → flag-fits (t .stage) ≡ true → station-words ≤ length out
     → writing t out ≡ record { number = 0; count = station-words; lent = over (words-of t) out }
 unfolding writing refusal pick

@@ -1,4 +1,4 @@
--- A station as 639 words (docs/SCRIPT.md, "The words of a station"), and back. Settings, sets and statements stand apart.
+-- A station as 640 words (docs/SCRIPT.md, "The words of a station"), and back. Settings, sets and statements stand apart.
 use Prim.Native.Nat.{ℕ, _+_}
 use mathlib.Core.Bool.{Bool, true, _&&_, _||_}
 use mathlib.Core.List.{List, [], _∷_, _++_}
@@ -42,8 +42,12 @@ value-at = slots-at + slots-words
 abbrev pub none-at : ℕ
 none-at = value-at + kept-words
 
+-- word 639, the last: the jump setting
+abbrev pub jump-at : ℕ
+jump-at = none-at + kept-words
+
 abbrev pub station-words : ℕ
-station-words = none-at + kept-words
+station-words = jump-at + 1
 
 -- ---- a station's words
 -- which stage, 0 gathering, 1 proposing, 2 voting; its round, 0 when gathering; its flag when proposing, else 0
@@ -52,14 +56,14 @@ stage-words Gathering = 0 ∷ 0 ∷ 0 ∷ []
 stage-words (Proposing r f) = 1 ∷ r .0 ∷ f ∷ []
 stage-words (Voting r) = 2 ∷ r .0 ∷ 0 ∷ []
 
--- 1 if closed, else 0
-unfoldable pub closed-word : Bool → ℕ
-closed-word closed = pick closed 1 0
+-- of closed and of the jump setting: 1 if it is so, else 0
+unfoldable pub truth-word : Bool → ℕ
+truth-word so = pick so 1 0
 
 -- n, station number, question; the stage's three words; closed; the decision
 unfoldable pub settings-of : Station → List ℕ
 settings-of t =
-    t .identity .n ∷ t .identity .station ∷ t .identity .question ∷ (stage-words (t .stage) ++ (closed-word (t .closed) ∷ t .decision ∷ []))
+    t .identity .n ∷ t .identity .station ∷ t .identity .question ∷ (stage-words (t .stage) ++ (truth-word (t .closed) ∷ t .decision ∷ []))
 
 -- the set of stations heard
 unfoldable pub sets-of : Station → List ℕ
@@ -69,18 +73,20 @@ sets-of t = t .held .heard ∷ []
 unfoldable pub statements-of : Station → List ℕ
 statements-of t = t .held .slots ++ t .groups .value ++ t .groups .none
 
+-- the jump setting stands last
 unfoldable pub words-of : Station → List ℕ
-words-of t = settings-of t ++ sets-of t ++ statements-of t
+words-of t = settings-of t ++ sets-of t ++ statements-of t ++ (truth-word (t .jump) ∷ [])
 
 -- ---- words that are a station
 -- a stage's three words: `0 0 0`, `1 round 0`, `1 round 1` or `2 round 0`, with any round
 abbrev pub is-stage : ℕ → ℕ → ℕ → Bool
 is-stage tag round flag = (eqb tag 0 && eqb round 0 && eqb flag 0) || (eqb tag 1 && leb flag 1) || (eqb tag 2 && eqb flag 0)
 
--- exactly 639 words, whose stage can be written down and whose closed word is 0 or 1; all other words are free
+-- exactly 640 words, whose stage can be written down and whose closed word and jump word are each 0 or 1; all other words are free
 unfoldable pub is-station : List ℕ → Bool
 is-station ws =
-    eqb (length ws) station-words && (is-stage (getD ws stage-at 0) (getD ws (stage-at + 1) 0) (getD ws (stage-at + 2) 0) && leb (getD ws closed-at 0) 1)
+    eqb (length ws) station-words
+    && (is-stage (getD ws stage-at 0) (getD ws (stage-at + 1) 0) (getD ws (stage-at + 2) 0) && leb (getD ws closed-at 0) 1 && leb (getD ws jump-at 0) 1)
 
 -- ---- the station of such words
 abbrev pub identity-in : List ℕ → Identity
@@ -100,6 +106,7 @@ station-in ws =
       identity = identity-in ws;
       stage = stage-in (getD ws stage-at 0) (getD ws (stage-at + 1) 0) (getD ws (stage-at + 2) 0);
       closed = eqb (getD ws closed-at 0) 1;
+      jump = eqb (getD ws jump-at 0) 1;
       decision = getD ws decision-at 0;
       held = record { heard = getD ws heard-at 0; slots = part slots-at slots-words ws };
       groups = record { value = part value-at kept-words ws; none = part none-at kept-words ws };
@@ -122,7 +129,7 @@ pub record Writing : Type 0 where
   pub count : ℕ
   pub lent : List ℕ
 
--- the returned number: 1 where fewer than 639 words are lent, 2 where the stage has no words
+-- the returned number: 1 where fewer than 640 words are lent, 2 where the stage has no words
 unfoldable pub refusal : Station → ℕ → ℕ
 refusal t lent = pick (leb station-words lent) (pick (flag-fits (t .stage)) 0 out-of-range) short-output
 

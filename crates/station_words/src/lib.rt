@@ -15,11 +15,12 @@ ghost use mathlib.Core.List.{_++_};
 ghost use Prim.Native.Nat.{_+_, _≤_};
 ghost use lib.ListN.{length};
 ghost use Rattle.format.specs.Bundle.{over};
-ghost use Rattle.station_words.specs.Words.{slots-at, station-words, stage-words, closed-word, settings-of, sets-of, is-stage, is-station, stage-in, part, station-in, flag-fits, refusal as Refusal, words-of, reading, writing, Wrote};
+ghost use Rattle.station_words.specs.Words.{slots-at, station-words, stage-words, truth-word, settings-of, sets-of, is-stage, is-station, stage-in, part, station-in, flag-fits, refusal as Refusal, words-of, reading, writing, Wrote};
 ghost use Rattle.station.specs.Words.{slots-words, kept-words};
 ghost use Rattle.station_words.specs.Laws.Put.{put-at, Parts};
 
-// Where the parts begin: the stage's words, the closed word, the decision, the set of stations heard, the held statements, both kept groups.
+// Where the parts begin: the stage's words, the closed word, the decision, the set of stations heard, the held statements, both kept groups, the
+// jump setting.
 const STAGE_AT: usize = 3;
 
 const CLOSED_AT: usize = 6;
@@ -34,8 +35,10 @@ const VALUE_AT: usize = SLOTS_AT + SLOTS_WORDS;
 
 const NONE_AT: usize = VALUE_AT + KEPT_WORDS;
 
+const JUMP_AT: usize = NONE_AT + KEPT_WORDS;
+
 // How many words a station has.
-pub const STATION_WORDS: usize = NONE_AT + KEPT_WORDS;
+pub const STATION_WORDS: usize = JUMP_AT + 1;
 
 // What reading answers: 0 and the station, or 3 and the station that is none.
 pub struct Reading {
@@ -78,7 +81,8 @@ fn is_station(ws: &[u32]) -> bool
         return false;
     }
     let closed = ws[CLOSED_AT];
-    is_stage(ws[STAGE_AT], ws[STAGE_AT + 1], ws[STAGE_AT + 2]) & (closed <= 1)
+    let jump = ws[JUMP_AT];
+    is_stage(ws[STAGE_AT], ws[STAGE_AT + 1], ws[STAGE_AT + 2]) & (closed <= 1) & (jump <= 1)
 }
 
 // The stage of three words that are those of one.
@@ -137,6 +141,7 @@ fn station_in(ws: &[u32]) -> Station
         identity,
         stage: stage_in(ws[STAGE_AT], ws[STAGE_AT + 1], ws[STAGE_AT + 2]),
         closed: ws[CLOSED_AT] == 1,
+        jump: ws[JUMP_AT] == 1,
         decision: ws[DECISION_AT],
         held,
         groups,
@@ -181,10 +186,11 @@ fn flag_fits(stage: Stage) -> bool
     }
 }
 
-fn closed_word(closed: bool) -> u32
-    ensures { λ r. ⌜ r ≡ closed-word closed ⌝ }
+// The word of the closed mark, and of the jump setting.
+fn truth_word(so: bool) -> u32
+    ensures { λ r. ⌜ r ≡ truth-word so ⌝ }
 {
-    if closed { 1 } else { 0 }
+    if so { 1 } else { 0 }
 }
 
 // The settings and the set.
@@ -202,7 +208,7 @@ fn head(t: Station) -> [u32; 9]
         stage[0],
         stage[1],
         stage[2],
-        closed_word(t.closed),
+        truth_word(t.closed),
         t.decision,
         held.heard,
     ]
@@ -223,14 +229,22 @@ fn refusal(t: Station, lent: usize) -> u32
 }
 
 // Puts the parts of a station, each behind the one before.
-fn put_parts(out: &mut [u32], head: &[u32], slots: &[u32], value: &[u32], none: &[u32])
-    requires { ⌜ Parts (now head) (now slots) (now value) (now none) × (station-words ≤ length (now out)) ⌝ }
-    ensures { λ _. ⌜ now (out .exit) ≡ over (now (head .entry) ++ now (slots .entry) ++ now (value .entry) ++ now (none .entry)) (now (out .entry)) ⌝ }
+fn put_parts(
+    out: &mut [u32],
+    head: &[u32],
+    slots: &[u32],
+    value: &[u32],
+    none: &[u32],
+    jump: &[u32],
+)
+    requires { ⌜ Parts (now head) (now slots) (now value) (now none) (now jump) × (station-words ≤ length (now out)) ⌝ }
+    ensures { λ _. ⌜ now (out .exit) ≡ over (now (head .entry) ++ now (slots .entry) ++ now (value .entry) ++ now (none .entry) ++ now (jump .entry)) (now (out .entry)) ⌝ }
 {
     put(out, 0, head);
     put(out, SLOTS_AT, slots);
     put(out, VALUE_AT, value);
     put(out, NONE_AT, none);
+    put(out, JUMP_AT, jump);
 }
 
 // Puts the words of a station.
@@ -244,7 +258,8 @@ fn put_station(t: Station, out: &mut [u32])
     let groups = t.groups;
     let value = groups.value;
     let none = groups.none;
-    put_parts(out, &words, &slots, &value, &none);
+    let jump = [truth_word(t.jump)];
+    put_parts(out, &words, &slots, &value, &none, &jump);
 }
 
 // Writes a station's words at the front of those lent.

@@ -36,6 +36,10 @@ most-bundles = 40
 abbrev pub the-question : ℕ
 the-question = 1
 
+-- valley opens with jump off
+abbrev pub jump-off : ℕ
+jump-off = 0
+
 -- "The key is 32 zero bytes."
 abbrev pub the-key : List ℕ
 the-key = replicate 32 0
@@ -89,7 +93,7 @@ bundle-at w k = take (at-number (w .bundles) k no-bundle .count) (at-number (w .
 -- ---- the events
 -- "`open s v` opens station s with proposal v on question 1"
 abbrev pub opens : World → ℕ → ℕ → Returned
-opens w s v = opening hmac-code (module-at w s) the-question v the-output
+opens w s v = opening hmac-code (module-at w s) the-question v jump-off the-output
 
 -- "`give s k c` gives bundle k to station s with coin c"
 abbrev pub gives : World → ℕ → ℕ → ℕ → Returned

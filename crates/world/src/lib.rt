@@ -176,14 +176,14 @@ pub fn shorter_of(count: usize, length: usize) -> usize
     length
 }
 
-// Opens station s with proposal v on question 1.
+// Opens station s with proposal v on question 1. valley opens with jump off.
 pub fn open_call(w: World, s: u32, v: u32) -> Call
     ensures { λ r. ⌜ returned-by r ≡ opens w s v ⌝ }
 {
     let modules = w.modules;
     let m = module_at(modules, s);
     let mut words = [0u32; OUTPUT_WORDS];
-    let o = opening::open(m, 1, v, &mut words);
+    let o = opening::open(m, 1, v, 0, &mut words);
     let station = o.station;
     let after = o.after;
     Call {

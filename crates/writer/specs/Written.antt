@@ -4,10 +4,10 @@ use mathlib.Core.Bool.{Bool, _&&_}
 use mathlib.Core.List.{List, [], _∷_, _++_}
 use lib.Count.{ones}
 use lib.Dec.{ltb, leb}
-use lib.ListN.{length, getD}
+use lib.ListN.{length, getD, set}
 use Rattle.laws.specs.Pick.{pick}
 use Rattle.laws.specs.Sets.{bit}
-use Rattle.format.specs.Numbers.{statement-words, code-words, output-words, most-statements, bundle-words}
+use Rattle.format.specs.Numbers.{statement-words, code-words, output-words, most-statements, bundle-words, place-of}
 use Rattle.format.specs.Group.{quorum}
 use Rattle.format.specs.Bundle.{head-mark, mark-bit, over}
 use Rattle.station.specs.Words.{sites}
@@ -47,3 +47,18 @@ lent-after w0 question code slots set group k out =
 
 unfoldable pub count-after : ℕ → ℕ → ℕ → ℕ
 count-after lent set k = pick (writable lent set (ones set) k) (bundle-words (ones set + k)) 0
+
+-- ---- a given bundle, copied
+-- the words of a bundle with another word 0 of its main statement
+unfoldable pub with-word : ℕ → List ℕ → List ℕ
+with-word w0 ws = set ws 1 w0
+
+-- there is a main statement, and the lent words have room for all
+unfoldable pub copyable : ℕ → ℕ → Bool
+copyable have lent = leb (place-of 1) have && leb have lent
+
+unfoldable pub copy-after : ℕ → List ℕ → List ℕ → List ℕ
+copy-after w0 ws out = pick (copyable (length ws) (length out)) (over (with-word w0 ws) out) out
+
+unfoldable pub copy-count : ℕ → ℕ → ℕ
+copy-count have lent = pick (copyable have lent) have 0

@@ -13,10 +13,10 @@ ghost use mathlib.Core.Path.{_≡_};
 ghost use Prim.Native.Nat.{_+_, _*_, _^_, _≤_, _<_};
 ghost use lib.Count.{ones};
 ghost use lib.ListN.{length};
-ghost use Rattle.format.specs.Numbers.{bundle-words, code-words, most-statements, output-words, place-of, statement-words};
+ghost use Rattle.format.specs.Numbers.{bundle-words, most-statements, output-words, place-of, statement-words};
 ghost use Rattle.format.specs.Group.{quorum};
 ghost use Rattle.station.specs.Words.{sites, slots-words};
-ghost use Rattle.writer.specs.Written.{laid, part, held-words, main-words, words-of, writable as Writable, lent-after, count-after};
+ghost use Rattle.writer.specs.Written.{laid, part, held-words, main-words, words-of, writable as Writable, lent-after, count-after, copy-after, copy-count};
 
 // As many statements as a kept group has.
 const LARGEST_QUORUM: u32 = MOST_STATIONS / 2 + 1;
@@ -24,14 +24,14 @@ const LARGEST_QUORUM: u32 = MOST_STATIONS / 2 + 1;
 // A head that counts no statement.
 const HEAD: u32 = HEAD_MARK * MARK;
 
-// Writes the ten words of the slot that begins at a place, at the front of the lent words.
-fn write_slot(out: &mut [u32], slots: &[u32; SLOTS_WORDS], at: usize)
-    requires { ⌜ (at + statement-words ≤ slots-words) × (statement-words ≤ length (now out)) ⌝ }
-    ensures { λ _. ⌜ now (out .exit) ≡ laid (part statement-words at (now (slots .entry))) (now (out .entry)) ⌝ }
+// Copies n words, from a place on, to the front of the lent ones.
+fn copy_words(out: &mut [u32], ws: &[u32], at: usize, n: usize)
+    requires { ⌜ (at + n ≤ length (now ws)) × (n ≤ length (now out)) ⌝ }
+    ensures { λ _. ⌜ now (out .exit) ≡ laid (part n at (now (ws .entry))) (now (out .entry)) ⌝ }
 {
     let mut i: usize = 0;
-    while i < STATEMENT_WORDS {
-        out[i] = slots[at + i];
+    while i < n {
+        out[i] = ws[at + i];
         i += 1;
     }
 }
@@ -45,7 +45,12 @@ fn write_held(out: &mut [u32], slots: &[u32; SLOTS_WORDS], set: u32)
     let mut i: u32 = 0;
     while i < MOST_STATIONS {
         if held::in_set(set, i) {
-            write_slot(&mut out[at..], slots, i as usize * STATEMENT_WORDS);
+            copy_words(
+                &mut out[at..],
+                &slots[..],
+                i as usize * STATEMENT_WORDS,
+                STATEMENT_WORDS,
+            );
             at += STATEMENT_WORDS;
         }
         i += 1;
@@ -57,24 +62,7 @@ fn write_group(out: &mut [u32], group: &[u32; KEPT_WORDS], k: usize)
     requires { ⌜ (k ≤ quorum sites) × (k * statement-words ≤ length (now out)) ⌝ }
     ensures { λ _. ⌜ now (out .exit) ≡ laid (part (k * statement-words) 0 (now (group .entry))) (now (out .entry)) ⌝ }
 {
-    let n = k * STATEMENT_WORDS;
-    let mut i: usize = 0;
-    while i < n {
-        out[i] = group[i];
-        i += 1;
-    }
-}
-
-// Writes the eight words of a code at the front of the lent words.
-fn write_code(out: &mut [u32], code: &[u32; CODE_WORDS])
-    requires { ⌜ code-words ≤ length (now out) ⌝ }
-    ensures { λ _. ⌜ now (out .exit) ≡ laid (part code-words 0 (now (code .entry))) (now (out .entry)) ⌝ }
-{
-    let mut i: usize = 0;
-    while i < CODE_WORDS {
-        out[i] = code[i];
-        i += 1;
-    }
+    copy_words(out, &group[..], 0, k * STATEMENT_WORDS);
 }
 
 // Writes the head word and the main statement at the front of the lent words.
@@ -85,7 +73,7 @@ fn write_main(out: &mut [u32], count: u32, w0: u32, question: u32, code: &[u32; 
     out[0] = HEAD + count;
     out[1] = w0;
     out[2] = question;
-    write_code(&mut out[3..], code);
+    copy_words(&mut out[3..], &code[..], 0, CODE_WORDS);
 }
 
 // Whether a bundle of the set's count of statements and k more can be written into the words lent.
@@ -140,4 +128,18 @@ pub fn write_bundle(
         return 0;
     }
     write_parts(out, w0, question, code, slots, set, count, group, k)
+}
+
+// Writes a given bundle with another word 0 of its main statement. It answers the word count, and changes nothing where there is no main statement or no
+// room.
+pub fn copy_bundle(out: &mut [u32], w0: u32, ws: &[u32]) -> usize
+    ensures { λ r. ⌜ (r ≡ copy-count (length (now (ws .entry))) (length (now (out .entry)))) × (now (out .exit) ≡ copy-after w0 (now (ws .entry)) (now (out .entry))) ⌝ }
+{
+    let count = ws.len();
+    if !((CERTIFICATE_AT <= count) & (count <= out.len())) {
+        return 0;
+    }
+    copy_words(out, ws, 0, count);
+    out[1] = w0;
+    count
 }

@@ -2,10 +2,10 @@
 #![allow(dead_code, unused_imports)]
 
 use second::sealed::{make, Module};
-use second::station::{give, open, Answer, StationWords};
+use second::station::{give, open, Answer, StationWords, JUMP_OFF};
 use second::words::{Bundle, Flag, Statement, NONE};
 
-pub use second::samples::{init, p, station, v, D, KEY, QUESTION, R};
+pub use second::samples::{init, jumping, p, station, v, D, KEY, QUESTION, R};
 
 pub fn module(n: u32, number: u32) -> Module {
     let (returned, module) = make(&KEY, n, number);
@@ -34,9 +34,13 @@ pub fn bundle(main: Statement, groups: &[&[Statement]]) -> Vec<u32> {
 }
 
 pub fn opened(n: u32, number: u32, value: u32) -> (Module, StationWords) {
+    opened_with(n, number, value, JUMP_OFF)
+}
+
+pub fn opened_with(n: u32, number: u32, value: u32, jump: u32) -> (Module, StationWords) {
     let mut module = module(n, number);
     let mut lent = [0; 331];
-    let (answer, station) = open(&mut module, QUESTION, value, &mut lent);
+    let (answer, station) = open(&mut module, QUESTION, value, jump, &mut lent);
     assert_eq!((answer.number, answer.count), (20, 11));
     (module, station)
 }

@@ -25,7 +25,7 @@ use Rattle.station.specs.Words.{Lengths}
 use Rattle.format.specs.Bundle.{bundle-of}
 use Rattle.station.specs.Calls.{returned, opening, giving, opening-outcome, giving-outcome, no-station}
 use Rattle.format.specs.Laws.ReadBack.{Proper}
-use Rattle.station.specs.Laws.Views.{Opens, no-opening, begins, opens-view, Gives, refuses, holds-on, shuts, goes-on, gives-view}
+use Rattle.station.specs.Laws.Views.{Opens, no-opening, begins, opens-view, Gives, refuses, holds-on, shuts, goes-on, enters, gives-view}
 use Rattle.station.specs.Returns.{unrefused, wrote, wrote-unrefused, sent-wrote}
 use Rattle.agreement.specs.Demand.{Action, opens, gives, codes, tosses, view, Entry, act, bundle-coded, statement-coded, coded-in, as-returned}
 
@@ -78,18 +78,18 @@ module _ (mac : List ℕ → List ℕ → List ℕ) (eight : (key ws : List ℕ)
   after-is m t out (sends k s c u) = refl
 
   -- opening
-  module _ (m : Module) (i q v : ℕ) (out : List ℕ) where
-    open-numbered : (o : Outcome) → Opens mac m q v out o → Numbered o
+  module _ (m : Module) (i q v j : ℕ) (out : List ℕ) where
+    open-numbered : (o : Outcome) → Opens mac m q v j out o → Numbered o
     open-numbered _ (no-opening {k} w) = refused-silent k w
     open-numbered _ (begins room r p a) = refl
 
-    pub open-coded : coded-at m i (opens q v out) ≡ log-of i (opening-outcome mac m q v out)
+    pub open-coded : coded-at m i (opens q v j out) ≡ log-of i (opening-outcome mac m q v j out)
     unfolding act opening
-    open-coded = logs-is i m no-station out (opening-outcome mac m q v out) (open-numbered (opening-outcome mac m q v out) (opens-view mac m q v out))
+    open-coded = logs-is i m no-station out (opening-outcome mac m q v j out) (open-numbered (opening-outcome mac m q v j out) (opens-view mac m q v j out))
 
-    pub open-after : act mac key n m (opens q v out) .after ≡ after-of m (opening-outcome mac m q v out)
+    pub open-after : act mac key n m (opens q v j out) .after ≡ after-of m (opening-outcome mac m q v j out)
     unfolding act opening
-    open-after = after-is m no-station out (opening-outcome mac m q v out)
+    open-after = after-is m no-station out (opening-outcome mac m q v j out)
 
   -- giving
   module _ (m : Module) (i k : ℕ) (t : Station) (ws : List ℕ) (coin : ℕ) (out : List ℕ) (L : Lengths t) where
@@ -98,6 +98,7 @@ module _ (mac : List ℕ → List ℕ → List ℕ) (eight : (key ws : List ℕ)
     give-numbered _ (holds-on A few) = refl
     give-numbered _ (shuts A size c) = refl
     give-numbered _ (goes-on A size c a w) = ap wrote w ∙ sent-wrote _
+    give-numbered _ (enters J a) = refl
 
     pub give-coded : coded-at m i (gives k t ws coin out) ≡ log-of i (giving-outcome mac m t ws coin out)
     unfolding act giving

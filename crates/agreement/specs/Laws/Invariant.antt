@@ -56,18 +56,22 @@ module _ (key : List ℕ) (n : ℕ) (faulty : List ℕ) where
     pub same-n : m .n ≡ n
     pub same-number : m .station ≡ i
 
-  pub record LogInv (f : ℕ → Module) (l : List Entry) : Type 0 where
+  -- `off` says of a site and a question that the site's stations on it do not jump: their none votes had two values before them
+  abbrev HadBoth : (ℕ → ℕ → Type 0) → List Statement → Statement → Type 0
+  HadBoth off l s = member (s .station) faulty ≡ false → off (s .station) (s .question) → s .kind ≡ kind-V → s .value ≡ none → Split n l (s .question) (s .round)
+
+  pub record LogInv (off : ℕ → ℕ → Type 0) (f : ℕ → Module) (l : List Entry) : Type 0 where
     pub mods : (i : ℕ) → 1 ≤ i → i ≤ n → Mine i (f i)
     pub bound : All (λ s. NotAbove (f (s .station)) s) (reads l)
     pub formed : All (Formed n) (reads l)
     pub sites : All AtSite l
     pub distinct : Distinct (reads l)
     pub just : All (λ s. member (s .station) faulty ≡ false → Just n (reads l) s) (reads l)
-    pub split : All (λ s. member (s .station) faulty ≡ false → s .kind ≡ kind-V → s .value ≡ none → Split n (reads l) (s .question) (s .round)) (reads l)
+    pub split : All (HadBoth off (reads l)) (reads l)
 
-  pub start : least-stations ≤ n → n ≤ most-stations → LogInv (λ i. making key n i .made) []
+  pub start : (off : ℕ → ℕ → Type 0) → least-stations ≤ n → n ≤ most-stations → LogInv off (λ i. making key n i .made) []
   unfolding reads making pick
-  start low top =
+  start off low top =
       record { mods = λ i lo hi. made i lo hi; bound = tt; formed = tt; sites = tt; distinct = tt; just = tt; split = tt }
     where
       made : (i : ℕ) → 1 ≤ i → i ≤ n → Mine i (making key n i .made)
@@ -76,8 +80,9 @@ module _ (key : List ℕ) (n : ℕ) (faulty : List ℕ) where
           (record { same-key = refl; same-n = refl; same-number = refl })
 
   -- a call that codes no statement and leaves its module as it was, whatever else it codes
-  pub unchanged : (f g : ℕ → Module) (es l : List Entry) → reads es ≡ [] → All AtSite es → ((i : ℕ) → f i ≡ g i) → LogInv f l → LogInv g (es ++ l)
-  unchanged f g es l none-there at e I =
+  pub unchanged : (before off : ℕ → ℕ → Type 0) → ((i q : ℕ) → off i q → before i q) → (f g : ℕ → Module) (es l : List Entry) → reads es ≡ [] → All AtSite es → ((i : ℕ) → f i ≡ g i)
+      → LogInv before f l → LogInv off g (es ++ l)
+  unchanged before off earlier f g es l none-there at e I =
       let same : reads l ≡ reads (es ++ l) = sym (reads-append es l ∙ ap (λ (x : List Statement). x ++ reads l) none-there) in
       record {
         mods = λ i lo hi. subst (λ (m : Module). Mine i m) (e i) (I .mods i lo hi);
@@ -86,13 +91,13 @@ module _ (key : List ℕ) (n : ℕ) (faulty : List ℕ) where
         sites = all-append AtSite es l at (I .sites);
         distinct = subst Distinct same (I .distinct);
         just = subst (λ (x : List Statement). All (λ s. member (s .station) faulty ≡ false → Just n x s) x) same (I .just);
-        split = subst (λ (x : List Statement). All (λ s. member (s .station) faulty ≡ false → s .kind ≡ kind-V → s .value ≡ none → Split n x (s .question) (s .round)) x) same (I .split);
+        split = subst (λ (x : List Statement). All (HadBoth off x) x) same (all-map (λ s h a b. h a (earlier (s .station) (s .question) b)) (reads l) (I .split));
       }
 
-  module _ (f g : ℕ → Module) (es l : List Entry) (j : ℕ) (s : Statement) (one : reads es ≡ bare s ∷ []) (at : All AtSite es) (top : n ≤ most-stations) (lo : 1 ≤ j) (hi : j ≤ n) (I : LogInv f l) (p : Proper n s) (mine : s .station ≡ j)
+  module _ (before off : ℕ → ℕ → Type 0) (earlier : (i q : ℕ) → off i q → before i q) (f g : ℕ → Module) (es l : List Entry) (j : ℕ) (s : Statement) (one : reads es ≡ bare s ∷ []) (at : All AtSite es) (top : n ≤ most-stations) (lo : 1 ≤ j) (hi : j ≤ n) (I : LogInv before f l) (p : Proper n s) (mine : s .station ≡ j)
       (high : above (last-for (f j) (s .question)) (s .question) (step s) ≡ true) (now : g j ≡ advanced (f j) (s .question) (step s)) (others : (i : ℕ) → (i ≡ j → ⊥) → g i ≡ f i)
       (sj : member j faulty ≡ false → Just n (reads l) s)
-      (ss : member j faulty ≡ false → s .kind ≡ kind-V → s .value ≡ none → Split n (reads l) (s .question) (s .round)) where
+      (ss : member j faulty ≡ false → off j (s .question) → s .kind ≡ kind-V → s .value ≡ none → Split n (reads l) (s .question) (s .round)) where
     shape-s : Formed n s
     shape-s = formed-out n s (p .formed)
 
@@ -136,7 +141,7 @@ module _ (key : List ℕ) (n : ℕ) (faulty : List ℕ) where
     reads-on : reads (es ++ l) ≡ l2
     reads-on = reads-append es l ∙ ap (λ (x : List Statement). x ++ reads l) one
 
-    pub log-add : LogInv g (es ++ l)
+    pub log-add : LogInv off g (es ++ l)
     log-add =
         record {
           mods = mods-on;
@@ -149,8 +154,8 @@ module _ (key : List ℕ) (n : ℕ) (faulty : List ℕ) where
             (λ h. just-more n (bare s) (reads l) (bare s) (bare-just n (reads l) s (sj (ap (λ (i : ℕ). member i faulty) (sym mine) ∙ h)))),
             all-map (λ t k h. just-more n (bare s) (reads l) t (k h)) (reads l) (I .just),
           );
-          split = subst (λ (x : List Statement). All (λ t. member (t .station) faulty ≡ false → t .kind ≡ kind-V → t .value ≡ none → Split n x (t .question) (t .round)) x) (sym reads-on) (
-            (λ h a b. split-more n (bare s) (reads l) (ss (ap (λ (i : ℕ). member i faulty) (sym mine) ∙ h) a b)),
-            all-map (λ t k h a b. split-more n (bare s) (reads l) (k h a b)) (reads l) (I .split),
+          split = subst (λ (x : List Statement). All (HadBoth off x) x) (sym reads-on) (
+            (λ h o a b. split-more n (bare s) (reads l) (ss (ap (λ (i : ℕ). member i faulty) (sym mine) ∙ h) (subst (λ (i : ℕ). off i (s .question)) mine o) a b)),
+            all-map (λ t k h o a b. split-more n (bare s) (reads l) (k h (earlier (t .station) (t .question) o) a b)) (reads l) (I .split),
           );
         }

@@ -16,7 +16,7 @@ same-line a b e = cc
 -- a call that is of another site, or refused, changes no station of the site
 went-not : (v : View) (r : Returned) (o k : ℕ) (l : Found) → went v false r o k l ≡ l
 unfolding pick
-went-not starting r o k l = refl
+went-not (starting q j) r o k l = refl
 went-not (going-on h t ws) r o k l = refl
 went-not apart r o k l = refl
 

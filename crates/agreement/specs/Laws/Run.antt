@@ -11,25 +11,25 @@ use Rattle.laws.specs.Pick.{pick}
 use Rattle.laws.specs.Bools.{never, both, join, left}
 use Rattle.laws.specs.All.{All}
 use Rattle.laws.specs.Count.{count}
-use Rattle.format.specs.Numbers.{kind-INIT, kind-V, none, D-GET, kept, sent, sent-decided, closed-now, last-round, code-words, least-stations, most-stations, place-of}
+use Rattle.format.specs.Numbers.{kind-INIT, kind-V, none, D-GET, kept, sent, sent-decided, closed-now, jumped, last-round, code-words, least-stations, most-stations, place-of}
 use Rattle.format.specs.Group.{quorum}
 use Rattle.format.specs.Statement.{Statement, statement, written, step}
-use Rattle.format.specs.Bundle.{main-of, all-written, bundle-of, over}
+use Rattle.format.specs.Bundle.{main-of, certificate-of, all-written, bundle-of, over}
 use Rattle.format.specs.Laws.Shape.{init}
 use Rattle.rules.specs.Rules.{rule-1, some}
 use Rattle.modules.specs.declared.Module.{Module}
 use Rattle.modules.specs.Counter.{above, advanced, last-for}
 use Rattle.station.specs.declared.Stage.the-variants.{Gathering}
 use Rattle.station.specs.declared.Station.{Station}
-use Rattle.station.specs.Machine.{State, Outcome, refused, keeps, sends, began, shut, closes, follows, has-value}
+use Rattle.station.specs.Machine.{State, Outcome, refused, keeps, sends, began, shut, stage-of, closes, follows, has-value}
 use Rattle.station.specs.Words as W
 use Rattle.station.specs.Words.{Lengths}
 use Rattle.station.specs.Calls.{Returned, returned, opening, giving, opening-outcome, giving-outcome, no-station}
 use Rattle.format.specs.Laws.ReadBack.{Proper, statement-drop, statement-back}
 use Rattle.station.specs.Laws.Keep.{steps-0}
-use Rattle.station.specs.Laws.Views.{InRange, init-statement, Opens, no-opening, begins, opens-view, Gives, refuses, holds-on, shuts, goes-on, gives-view, sent-statement, Accepted, after, decision-then}
+use Rattle.station.specs.Laws.Views.{InRange, init-statement, Opens, no-opening, begins, opens-view, Gives, refuses, holds-on, shuts, goes-on, enters, gives-view, sent-statement, jump-statement, Accepted, Jumping, after, decision-then}
 use Rattle.station.specs.Returns.{unrefused, wrote, took, wrote-unrefused, sent-wrote, sent-took}
-use Rattle.station.specs.Laws.Fits.{own-proper, init-sane, sent-proper}
+use Rattle.station.specs.Laws.Fits.{own-proper, init-sane, sent-proper, jump-proper}
 use Rattle.agreement.specs.Maths.Safe.{Just, Split}
 use Rattle.agreement.specs.Maths.Just.{bare, backed-just}
 use Rattle.agreement.specs.Maths.Standing.{Standing}
@@ -37,10 +37,10 @@ use Rattle.agreement.specs.Maths.Took.{none-there, enough-before}
 use Rattle.agreement.specs.Laws.Lists.{same-line, module-now, module-other, module-same}
 use Rattle.agreement.specs.Laws.Effect.{entry, coded-at, Effect, silent, speaks, log-of, after-of, open-coded, open-after, give-coded, give-after}
 use Rattle.agreement.specs.Laws.Line.{reads, reads-append, AtSite, Line, line-more, open-line}
-use Rattle.agreement.specs.Laws.Giving.{kept-line, shut-line, sent-line, sent-just, sent-split}
+use Rattle.agreement.specs.Laws.Giving.{kept-line, shut-line, sent-line, sent-just, sent-split, jump-line, jump-just}
 use Rattle.agreement.specs.Laws.Invariant.{Mine, LogInv, unchanged, log-add, entry-read, entry-at}
 use Rattle.agreement.specs.Maths.Votes.{votes}
-use Rattle.agreement.specs.Demand.{Action, opens, gives, Call, call, site, action, apart, view, Entry, Lineage, Found, found, written-main, given-main, opened, gave, member, act, modules, answer, log, openings, lineage, Presents, CodesCame}
+use Rattle.agreement.specs.Demand.{Action, opens, gives, Call, call, site, action, apart, view, Entry, Lineage, Found, found, written-main, given-main, opened, gave, member, act, modules, answer, log, openings, lineage, Presents, JumpOff, CodesCame}
 
 -- the main statement of a written bundle, read again
 main-written : (n : ℕ) (s : Statement) (c : List Statement) (out : List ℕ) → n ≤ most-stations → Proper n s → statement (over (bundle-of s c) out) (place-of 0) ≡ s
@@ -51,7 +51,7 @@ main-written n s c out top p =
     ∙ statement-back n s (all-written c ++ drop (length (bundle-of s c)) out) top p
 
 -- ---- a station that has just been opened
-module _ (mac : List ℕ → List ℕ → List ℕ) (eight : (key ws : List ℕ) → length (mac key ws) ≡ code-words) (m : Module) (q v : ℕ) (out : List ℕ) (l : List Statement) (r : InRange m) (p : v < 2) where
+module _ (mac : List ℕ → List ℕ → List ℕ) (eight : (key ws : List ℕ) → length (mac key ws) ≡ code-words) (m : Module) (q v : ℕ) (j : Bool) (out : List ℕ) (l : List Statement) (r : InRange m) (p : v < 2) where
   abbrev s : Statement
   s = init-statement mac m q v out
 
@@ -65,7 +65,7 @@ module _ (mac : List ℕ → List ℕ → List ℕ) (eight : (key ws : List ℕ)
   unfolding step
   init-step = steps-0 kind-INIT 0 refl
 
-  init-standing : Standing (m .n) l2 (m .station) (began q Gathering none s []) (s ∷ [])
+  init-standing : Standing (m .n) l2 (m .station) (began (m .n) q j Gathering none s []) (s ∷ [])
   unfolding some pick
   init-standing =
       record {
@@ -76,7 +76,7 @@ module _ (mac : List ℕ → List ℕ → List ℕ) (eight : (key ws : List ℕ)
         names = λ w k low enough. absurd (none-yet w k enough);
         while-open = λ e.
             record {
-              sane = init-sane mac eight m q v r p;
+              sane = init-sane mac eight m q v j r p;
               given = ((λ a b. absurd (omega arith)), tt);
               among = (List·Memᴰ·head refl, tt);
               for-value-coded = tt;
@@ -93,8 +93,8 @@ module _ (mac : List ℕ → List ℕ → List ℕ) (eight : (key ws : List ℕ)
       none-yet : (w k : ℕ) → quorum (m .n) ≤ count (votes (s ∷ []) q k w) (m .n) → ⊥
       none-yet w k enough = omega (arith, enough-before q k w (m .n) (quorum (m .n)) s [] (λ e. omega (arith, init-step)) enough, none-there (m .n))
 
-  pub init-line : Line (m .n) l2 (m .station) (W.as-station (m .n) (m .station) (began q Gathering none s [])) (s ∷ [])
-  init-line = open-line (m .n) (m .station) l2 (began q Gathering none s []) (s ∷ []) (r .at-most-31) (r .low) (r .high) (init-sane mac eight m q v r p) init-standing
+  pub init-line : Line (m .n) l2 (m .station) (W.as-station (m .n) (m .station) (began (m .n) q j Gathering none s [])) (s ∷ [])
+  init-line = open-line (m .n) (m .station) l2 (began (m .n) q j Gathering none s []) (s ∷ []) (r .at-most-31) (r .low) (r .high) (init-sane mac eight m q v j r p) init-standing
 
 module _ (mac : List ℕ → List ℕ → List ℕ) (eight : (key ws : List ℕ) → length (mac key ws) ≡ code-words) (key : List ℕ) (n : ℕ) (low : least-stations ≤ n) (top : n ≤ most-stations) (faulty : List ℕ) where
   -- a site's module is the group's: what holds by its words holds by the group's
@@ -113,8 +113,12 @@ module _ (mac : List ℕ → List ℕ → List ℕ) (eight : (key ws : List ℕ)
   abbrev Lines : List Statement → (ℕ → ℕ → Found) → Type 0
   Lines l f = (i k : ℕ) (line : Lineage) → 1 ≤ i → i ≤ n → member i faulty ≡ false → f i k ≡ found line → Line n l i (line .present) (line .took)
 
+  -- no station of the site on the question jumps
+  abbrev Off : List Call → ℕ → ℕ → Type 0
+  Off cs i q = JumpOff mac key n i q cs
+
   pub record Inv (cs : List Call) : Type 0 where
-    pub logs : LogInv key n faulty (modules mac key n cs) (log mac key n cs)
+    pub logs : LogInv key n faulty (Off cs) (modules mac key n cs) (log mac key n cs)
     pub lines : Lines (reads (log mac key n cs)) (lineage mac key n cs)
 
   lines-more : (u : Statement) (l : List Statement) (f : ℕ → ℕ → Found) → Lines l f → Lines (u ∷ l) f
@@ -129,16 +133,21 @@ module _ (mac : List ℕ → List ℕ → List ℕ) (eight : (key ws : List ℕ)
     abbrev new : List Entry
     new = coded-at mac eight key n m (site c) (action c)
 
+    -- a setting that is off in the longer list was off before
+    off-before : (i q : ℕ) → Off (c ∷ cs) i q → Off cs i q
+    unfolding JumpOff
+    off-before i q h = h .1
+
     log-is : log mac key n (c ∷ cs) ≡ new ++ log mac key n cs
     unfolding log
     log-is = refl
 
-    module _ (lo : 1 ≤ site c) (hi : site c ≤ n) (I : LogInv key n faulty (modules mac key n cs) (log mac key n cs)) where
+    module _ (lo : 1 ≤ site c) (hi : site c ≤ n) (I : LogInv key n faulty (Off cs) (modules mac key n cs) (log mac key n cs)) where
       -- no statement was coded
-      quiet : reads new ≡ [] → All AtSite new → act mac key n m (action c) .after ≡ m → LogInv key n faulty (modules mac key n (c ∷ cs)) (log mac key n (c ∷ cs))
+      quiet : reads new ≡ [] → All AtSite new → act mac key n m (action c) .after ≡ m → LogInv key n faulty (Off (c ∷ cs)) (modules mac key n (c ∷ cs)) (log mac key n (c ∷ cs))
       quiet e at a =
-          subst (λ (l : List Entry). LogInv key n faulty (modules mac key n (c ∷ cs)) l) (sym log-is)
-          (unchanged key n faulty (modules mac key n cs) (modules mac key n (c ∷ cs)) new (log mac key n cs) e at (module-same mac key n c cs a) I)
+          subst (λ (l : List Entry). LogInv key n faulty (Off (c ∷ cs)) (modules mac key n (c ∷ cs)) l) (sym log-is)
+          (unchanged key n faulty (Off cs) (Off (c ∷ cs)) off-before (modules mac key n cs) (modules mac key n (c ∷ cs)) new (log mac key n cs) e at (module-same mac key n c cs a) I)
 
       reads-quiet : reads new ≡ [] → reads (log mac key n (c ∷ cs)) ≡ reads (log mac key n cs)
       reads-quiet e = ap reads log-is ∙ reads-append new (log mac key n cs) ∙ ap (λ (x : List Statement). x ++ reads (log mac key n cs)) e
@@ -147,12 +156,13 @@ module _ (mac : List ℕ → List ℕ → List ℕ) (eight : (key ws : List ℕ)
       spoke : (s : Statement) → Proper (m .n) s → s .station ≡ m .station → above (last-for m (s .question)) (s .question) (step s) ≡ true
           → reads new ≡ bare s ∷ [] → All AtSite new → act mac key n m (action c) .after ≡ advanced m (s .question) (step s)
           → (member (site c) faulty ≡ false → Just n (reads (log mac key n cs)) s)
-          → (member (site c) faulty ≡ false → s .kind ≡ kind-V → s .value ≡ none → Rattle.agreement.specs.Maths.Safe.Split n (reads (log mac key n cs)) (s .question) (s .round))
-          → LogInv key n faulty (modules mac key n (c ∷ cs)) (log mac key n (c ∷ cs))
+          → (member (site c) faulty ≡ false → Off (c ∷ cs) (site c) (s .question) → s .kind ≡ kind-V → s .value ≡ none
+          → Rattle.agreement.specs.Maths.Safe.Split n (reads (log mac key n cs)) (s .question) (s .round))
+          → LogInv key n faulty (Off (c ∷ cs)) (modules mac key n (c ∷ cs)) (log mac key n (c ∷ cs))
       spoke s p mine high e at a sj ss =
           let M = I .mods (site c) lo hi in
-          subst (λ (l : List Entry). LogInv key n faulty (modules mac key n (c ∷ cs)) l) (sym log-is)
-          (log-add key n faulty (modules mac key n cs) (modules mac key n (c ∷ cs)) new (log mac key n cs) (site c) s e at top lo hi I
+          subst (λ (l : List Entry). LogInv key n faulty (Off (c ∷ cs)) (modules mac key n (c ∷ cs)) l) (sym log-is)
+          (log-add key n faulty (Off cs) (Off (c ∷ cs)) off-before (modules mac key n cs) (modules mac key n (c ∷ cs)) new (log mac key n cs) (site c) s e at top lo hi I
           (subst (λ (x : ℕ). Proper x s) (M .same-n) p) (mine ∙ M .same-number) high (module-now mac key n c cs ∙ a) (module-other mac key n c cs) sj ss)
 
       reads-spoke : (s : Statement) → reads new ≡ bare s ∷ [] → reads (log mac key n (c ∷ cs)) ≡ bare s ∷ reads (log mac key n cs)
@@ -215,9 +225,9 @@ module _ (mac : List ℕ → List ℕ → List ℕ) (eight : (key ws : List ℕ)
       (λ s e h. none-coded h (eqb-true _ _ (coded-only (eqb (answer mac key n cs (call i a) .number) 0) _ (entry i s) (rw is-apart at e))))
 
   -- ---- opening
-  module _ (j q v : ℕ) (out : List ℕ) (cs : List Call) (lo : 1 ≤ j) (hi : j ≤ n) (I : Inv cs) where
+  module _ (j q v setting : ℕ) (out : List ℕ) (cs : List Call) (lo : 1 ≤ j) (hi : j ≤ n) (I : Inv cs) where
     abbrev c : Call
-    c = call j (opens q v out)
+    c = call j (opens q v setting out)
 
     abbrev mj : Module
     mj = modules mac key n cs j
@@ -231,7 +241,7 @@ module _ (mac : List ℕ → List ℕ → List ℕ) (eight : (key ws : List ℕ)
     unfolding lineage
     lines-are r e l h = subst (λ (x : Returned). Lines l (lines-by x)) (sym e) h
 
-    answer-is : (o : Outcome) → opening-outcome mac mj q v out ≡ o → answer mac key n cs c ≡ returned mj no-station out o
+    answer-is : (o : Outcome) → opening-outcome mac mj q v setting out ≡ o → answer mac key n cs c ≡ returned mj no-station out o
     unfolding act opening
     answer-is o e = ap (returned mj no-station out) e
 
@@ -242,32 +252,32 @@ module _ (mac : List ℕ → List ℕ → List ℕ) (eight : (key ws : List ℕ)
 
     pub open-step : Inv (c ∷ cs)
     unfolding returned pick
-    open-step = go (opening-outcome mac mj q v out) refl (opens-view mac mj q v out)
+    open-step = go (opening-outcome mac mj q v setting out) refl (opens-view mac mj q v setting out)
       where
         mine : Mine key n faulty j mj
         mine = I .logs .mods j lo hi
 
-        refused-so : (k : ℕ) → opening-outcome mac mj q v out ≡ refused k → unrefused k ≡ false → Inv (c ∷ cs)
+        refused-so : (k : ℕ) → opening-outcome mac mj q v setting out ≡ refused k → unrefused k ≡ false → Inv (c ∷ cs)
         refused-so k e w =
-            let quiet-log = none-read c cs lo hi (I .logs) (open-coded mac eight key n mj j q v out ∙ ap (log-of mac eight key n j) e) in
+            let quiet-log = none-read c cs lo hi (I .logs) (open-coded mac eight key n mj j q v setting out ∙ ap (log-of mac eight key n j) e) in
             record {
-              logs = quiet c cs lo hi (I .logs) (quiet-log .0) (quiet-log .1) (open-after mac eight key n mj j q v out ∙ ap (after-of mac eight key n mj) e);
+              logs = quiet c cs lo hi (I .logs) (quiet-log .0) (quiet-log .1) (open-after mac eight key n mj j q v setting out ∙ ap (after-of mac eight key n mj) e);
               lines = subst (λ (l : List Statement). Lines l (lineage mac key n (c ∷ cs))) (sym (reads-quiet c cs lo hi (I .logs) (quiet-log .0)))
                   (lines-are (returned mj no-station out (refused k)) (answer-is (refused k) e) (reads (log mac key n cs))
                   (λ i x line a b h f. I .lines i x line a b h (not-picked (eqb j i && unrefused k && eqb (openings mac key n cs i) x) _ _ _ (middle (eqb j i) (unrefused k) _ w) f)));
             }
 
         begun : (r : InRange mj) (p : v < 2) → above (last-for mj q) q (step (init-statement mac mj q v out)) ≡ true
-            → opening-outcome mac mj q v out ≡ sends sent (init-statement mac mj q v out) [] (began q Gathering none (init-statement mac mj q v out) []) → Inv (c ∷ cs)
+            → opening-outcome mac mj q v setting out ≡ sends sent (init-statement mac mj q v out) [] (began (mj .n) q (eqb setting 1) Gathering none (init-statement mac mj q v out) []) → Inv (c ∷ cs)
         begun r p a e =
             let s = init-statement mac mj q v out in
-            let o = sends sent s [] (began q Gathering none s []) in
+            let o = sends sent s [] (began (mj .n) q (eqb setting 1) Gathering none s []) in
             let proper : Proper (mj .n) s = own-proper mac eight mj q kind-INIT v D-GET 0 r (init refl refl p refl) in
-            let coded = one-read c cs lo hi (I .logs) s proper refl (open-coded mac eight key n mj j q v out ∙ ap (log-of mac eight key n j) e) in
+            let coded = one-read c cs lo hi (I .logs) s proper refl (open-coded mac eight key n mj j q v setting out ∙ ap (log-of mac eight key n j) e) in
             let to-n : (l : List Statement) → Just (mj .n) l s → Just n l s = λ l x. subst (λ (z : ℕ). Just z l s) (mine .same-n) x in
             record {
-              logs = spoke c cs lo hi (I .logs) s proper refl a (coded .0) (coded .1) (open-after mac eight key n mj j q v out ∙ ap (after-of mac eight key n mj) e)
-                  (λ h. to-n (reads (log mac key n cs)) (init-just mac eight mj q v out (reads (log mac key n cs)) r p (reads (log mac key n cs)))) (λ h x y. absurd (omega arith));
+              logs = spoke c cs lo hi (I .logs) s proper refl a (coded .0) (coded .1) (open-after mac eight key n mj j q v setting out ∙ ap (after-of mac eight key n mj) e)
+                  (λ h. to-n (reads (log mac key n cs)) (init-just mac eight mj q v (eqb setting 1) out (reads (log mac key n cs)) r p (reads (log mac key n cs)))) (λ h o x y. absurd (omega arith));
               lines = subst (λ (l : List Statement). Lines l (lineage mac key n (c ∷ cs))) (sym (reads-spoke c cs lo hi (I .logs) s (coded .0)))
                   (lines-are (returned mj no-station out o) (answer-is o e) (bare s ∷ reads (log mac key n cs))
                   (λ i x line a b h f. picked i x line a b h (eqb j i && true && eqb (openings mac key n cs i) x) refl f));
@@ -275,7 +285,7 @@ module _ (mac : List ℕ → List ℕ → List ℕ) (eight : (key ws : List ℕ)
           where
             picked : (i x : ℕ) (line : Lineage) → 1 ≤ i → i ≤ n → member i faulty ≡ false → (b : Bool) → (eqb j i && true && eqb (openings mac key n cs i) x) ≡ b
                 → pick b (found (record {
-                  present = W.as-station (mj .n) (mj .station) (began q Gathering none (init-statement mac mj q v out) []);
+                  present = W.as-station (mj .n) (mj .station) (began (mj .n) q (eqb setting 1) Gathering none (init-statement mac mj q v out) []);
                   took = statement (over (bundle-of (init-statement mac mj q v out) []) out) 1 ∷ [];
                 })) (lineage mac key n cs i x) ≡ found line
                 → Line n (bare (init-statement mac mj q v out) ∷ reads (log mac key n cs)) i (line .present) (line .took)
@@ -284,9 +294,9 @@ module _ (mac : List ℕ → List ℕ → List ℕ) (eight : (key ws : List ℕ)
                 let proper : Proper (mj .n) s = own-proper mac eight mj q kind-INIT v D-GET 0 r (init refl refl p refl) in
                 let ji : j ≡ i = eqb-true j i (both (eqb j i) true (both (eqb j i && true) _ z .0) .0) in
                 let same = same-line _ line f in
-                let T = W.as-station (mj .n) (mj .station) (began q Gathering none s []) in
+                let T = W.as-station (mj .n) (mj .station) (began (mj .n) q (eqb setting 1) Gathering none s []) in
                 let L : Line n (bare s ∷ reads (log mac key n cs)) j T (s ∷ [])
-                = of-mine j mj mine (bare s ∷ reads (log mac key n cs)) T (s ∷ []) (init-line mac eight mj q v out (reads (log mac key n cs)) r p) in
+                = of-mine j mj mine (bare s ∷ reads (log mac key n cs)) T (s ∷ []) (init-line mac eight mj q v (eqb setting 1) out (reads (log mac key n cs)) r p) in
                 let L1 : Line n (bare s ∷ reads (log mac key n cs)) j T (statement (over (bundle-of s []) out) 1 ∷ [])
                 = subst (λ (y : Statement). Line n (bare s ∷ reads (log mac key n cs)) j T (y ∷ [])) (sym (written-is proper (r .at-most-31))) L in
                 subst (λ (y : Lineage). Line n (bare s ∷ reads (log mac key n cs)) i (y .present) (y .took)) same
@@ -294,14 +304,15 @@ module _ (mac : List ℕ → List ℕ → List ℕ) (eight : (key ws : List ℕ)
             picked i x line a b h false z f =
                 line-more n (bare (init-statement mac mj q v out)) (reads (log mac key n cs)) i (line .present) (line .took) (I .lines i x line a b h f)
 
-        go : (o : Outcome) → opening-outcome mac mj q v out ≡ o → Opens mac mj q v out o → Inv (c ∷ cs)
+        go : (o : Outcome) → opening-outcome mac mj q v setting out ≡ o → Opens mac mj q v setting out o → Inv (c ∷ cs)
         go _ e (no-opening {k} w) = refused-so k e w
         go _ e (begins room r p a) = begun r p a e
 
   -- ---- giving
   module _ (j o : ℕ) (t : Station) (ws : List ℕ) (coin : ℕ) (out : List ℕ) (cs : List Call) (lo : 1 ≤ j) (hi : j ≤ n) (I : Inv cs) (len : Lengths t)
       (came : CodesCame mac key n (log mac key n cs) ws)
-      (sound : member j faulty ≡ false → unrefused (answer mac key n cs (call j (gives o t ws coin out)) .number) ≡ true → Presents mac key n cs j o t) where
+      (sound : member j faulty ≡ false → unrefused (answer mac key n cs (call j (gives o t ws coin out)) .number) ≡ true → Presents mac key n cs j o t)
+      (opened-on : member j faulty ≡ false → unrefused (answer mac key n cs (call j (gives o t ws coin out)) .number) ≡ true → t .jump ≡ true → Off cs j (t .identity .question) → ⊥) where
     abbrev g : Call
     g = call j (gives o t ws coin out)
 
@@ -430,12 +441,12 @@ module _ (mac : List ℕ → List ℕ → List ℕ) (eight : (key ws : List ℕ)
                 → k ≡ pick (ltb (t .decision) none || eqb (decision-then mac mg t ws coin out) none) sent sent-decided
                 → giving-outcome mac mg t ws coin out ≡ sends k (sent-statement mac mg t ws coin out)
                 (follows (mg .n) (t .stage) (after mac mg t ws coin out) coin .first ++ follows (mg .n) (t .stage) (after mac mg t ws coin out) coin .second)
-                (began (t .identity .question) (follows (mg .n) (t .stage) (after mac mg t ws coin out) coin .stage) (decision-then mac mg t ws coin out) (sent-statement mac mg t ws coin out)
-                (follows (mg .n) (t .stage) (after mac mg t ws coin out) coin .first)) → Inv (g ∷ cs)
+                (began (mg .n) (t .identity .question) (t .jump) (follows (mg .n) (t .stage) (after mac mg t ws coin out) coin .stage) (decision-then mac mg t ws coin out) (sent-statement mac mg t ws coin out)
+                (follows (mg .n) (t .stage) (after mac mg t ws coin out) coin .first ++ follows (mg .n) (t .stage) (after mac mg t ws coin out) coin .second)) → Inv (g ∷ cs)
             sent-so k A size more a w e =
                 let s = sent-statement mac mg t ws coin out in
                 let x = follows (mg .n) (t .stage) (after mac mg t ws coin out) coin in
-                let u = began (t .identity .question) (x .stage) (decision-then mac mg t ws coin out) s (x .first) in
+                let u = began (mg .n) (t .identity .question) (t .jump) (x .stage) (decision-then mac mg t ws coin out) s (x .first ++ x .second) in
                 let o' = sends k s (x .first ++ x .second) u in
                 let proper : Proper (mg .n) s = sent-proper mac eight mg t ws coin out len A size more in
                 let coded = one-read g cs lo hi (I .logs) s proper refl (log-g o' e) in
@@ -447,7 +458,7 @@ module _ (mac : List ℕ → List ℕ → List ℕ) (eight : (key ws : List ℕ)
                   logs = spoke g cs lo hi (I .logs) s proper refl a (coded .0) (coded .1) (after-g o' e)
                       (λ h. let H = whose h un in
                       subst (λ (z : ℕ). Just z before s) (mine-g .same-n) (sent-just mac eight mg t ws coin out (log mac key n cs) (H .line .took) (H .known) A came-g size more))
-                      (λ h y z. let H = whose h un in
+                      (λ h off y z. let H = whose h un in
                       subst (λ (z : ℕ). Split z before (s .question) (s .round)) (mine-g .same-n) (sent-split mac eight mg t ws coin out (log mac key n cs) (H .line .took) (H .known) A came-g size more y z));
                   lines = subst (λ (l : List Statement). Lines l (lineage mac key n (g ∷ cs))) (sym (reads-spoke g cs lo hi (I .logs) s (coded .0)))
                       (given-are (returned mg t out o') (returned-is o' e) (bare s ∷ before)
@@ -456,4 +467,29 @@ module _ (mac : List ℕ → List ℕ → List ℕ) (eight : (key ws : List ℕ)
                       (subst (λ (y : List Statement). Line n (bare s ∷ before) j T (s ∷ (y ++ H .line .took))) (sym (given-is k tk))
                       (of-mine j mg mine-g (bare s ∷ before) T (s ∷ (main-of ws ∷ H .line .took))
                       (sent-line mac eight mg t ws coin out (log mac key n cs) (H .line .took) (H .known) A came-g size more))))));
+                }
+        go _ e (enters J a) = jumped-so J a e
+          where
+            jumped-so : (J : Jumping mac mg t ws coin out) → above (last-for mg (t .identity .question)) (t .identity .question) (step (jump-statement mac mg t ws coin out)) ≡ true
+                → giving-outcome mac mg t ws coin out ≡ sends jumped (jump-statement mac mg t ws coin out) (certificate-of ws)
+                (began (mg .n) (t .identity .question) (t .jump) (stage-of (main-of ws)) (t .decision) (jump-statement mac mg t ws coin out) (certificate-of ws)) → Inv (g ∷ cs)
+            jumped-so J a e =
+                let s = jump-statement mac mg t ws coin out in
+                let u = began (mg .n) (t .identity .question) (t .jump) (stage-of (main-of ws)) (t .decision) s (certificate-of ws) in
+                let o' = sends jumped s (certificate-of ws) u in
+                let proper : Proper (mg .n) s = jump-proper mac eight mg t ws coin out J in
+                let coded = one-read g cs lo hi (I .logs) s proper refl (log-g o' e) in
+                let un : unrefused (answer mac key n cs g .number) ≡ true = number-g o' e refl in
+                let T : Station = W.as-station (mg .n) (mg .station) u in
+                record {
+                  logs = spoke g cs lo hi (I .logs) s proper refl a (coded .0) (coded .1) (after-g o' e)
+                      (λ h. let H = whose h un in
+                      subst (λ (z : ℕ). Just z before s) (mine-g .same-n) (jump-just mac eight mg t ws coin out (log mac key n cs) (H .line .took) (H .known) J came-g))
+                      (λ h off y z. absurd (opened-on h un (J .on) (off-before g cs j (t .identity .question) off)));
+                  lines = subst (λ (l : List Statement). Lines l (lineage mac key n (g ∷ cs))) (sym (reads-spoke g cs lo hi (I .logs) s (coded .0)))
+                      (given-are (returned mg t out o') (returned-is o' e) (bare s ∷ before)
+                      (placed (returned mg t out o') (bare s ∷ before) (lines-more (bare s) before (lineage mac key n cs) (I .lines)) (λ h. whose h un)
+                      (λ H h. subst (λ (y : List Statement). Line n (bare s ∷ before) j T (y ++ H .line .took)) (sym (main-is jumped s (certificate-of ws) u refl proper (J .range .at-most-31)))
+                      (of-mine j mg mine-g (bare s ∷ before) T (s ∷ H .line .took)
+                      (jump-line mac eight mg t ws coin out (log mac key n cs) (H .line .took) (H .known) J came-g)))));
                 }

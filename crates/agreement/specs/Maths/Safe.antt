@@ -40,8 +40,6 @@ pub record LogOk (n : ℕ) (sound : ℕ → Bool) (l : List Statement) : Type 0 
   pub distinct : Distinct l
   pub small : (s : Statement) → In s l → s .kind ≡ 1 → s .value < 2
   pub just : (s : Statement) → In s l → sound (s .station) ≡ true → Just n l s
-  -- a none vote of round 1 has two values before it; this is for the backing alone
-  pub split : (s : Statement) → In s l → sound (s .station) ≡ true → s .kind ≡ 2 → s .value ≡ 2 → s .round ≡ 1 → Split n l (s .question) (s .round)
 
 -- q votes for v were coded in one round
 pub record Decided (n : ℕ) (l : List Statement) (q v : ℕ) : Type 0 where
@@ -158,20 +156,23 @@ module _ (n : ℕ) (sound : ℕ → Bool) (l : List Statement) (few : count (λ 
           let t : e .round ≡ d .round = omega (arith, ltb-false (d .round) (e .round) a, ltb-false (e .round) (d .round) b) in
           same 2 q (d .round) v w (d .votes) (rw t at (e .votes))
 
+  -- a sound site's none vote of a question's round has two values before it
+  abbrev pub Splits : ℕ → ℕ → Type 0
+  Splits q r = (s : Statement) → In s l → sound (s .station) ≡ true → s .kind ≡ 2 → s .value ≡ 2 → s .question ≡ q → s .round ≡ r → Split n l (s .question) (s .round)
+
   -- where all proposals of a round have one value and the sound sites' none votes of it are split, there are not q none votes of it
-  pub no-none : (q r v : ℕ) → ((s : Statement) → In s l → sound (s .station) ≡ true → s .kind ≡ 2 → s .value ≡ 2 → s .round ≡ r → Split n l (s .question) (s .round))
-      → AllFor q r v → NoNone q r
+  pub no-none : (q r v : ℕ) → Splits q r → AllFor q r v → NoNone q r
   no-none q r v splits k a =
       let h = a-sound 2 q r 2 a in
       let s = h .it .one in
-      go (splits s (h .it .mem) (rw (h .it .station≡) (h .ok)) (h .it .kind≡) (h .it .value≡) (h .it .round≡)) (h .it .question≡) (h .it .round≡)
+      go (splits s (h .it .mem) (rw (h .it .station≡) (h .ok)) (h .it .kind≡) (h .it .value≡) (h .it .question≡) (h .it .round≡)) (h .it .question≡) (h .it .round≡)
     where
       go : {q′ r′ : ℕ} → Split n l q′ r′ → q′ ≡ q → r′ ≡ r → ⊥
       go p x y = p .apart (k (p .a) (p .a-in) (p .a-kind) (p .a-qn ∙ x) (p .a-rnd ∙ y) (p .a-just) ∙ sym (k (p .b) (p .b-in) (p .b-kind) (p .b-qn ∙ x) (p .b-rnd ∙ y) (p .b-just)))
 
-  -- a value that too few proposed is never decided
-  pub backed : (q v : ℕ) → Decided n l q v → Supp n l 0 q 0 v (backing n v)
-  backed q v d = go (ltb (count (has l 0 q 0 v) n) (backing n v)) refl
+  -- a value that too few proposed is never decided, where the none votes of round 1 are split
+  pub backed : (q v : ℕ) → Splits q 1 → Decided n l q v → Supp n l 0 q 0 v (backing n v)
+  backed q v splits d = go (ltb (count (has l 0 q 0 v) n) (backing n v)) refl
     where
       other : count (has l 0 q 0 v) n < backing n v → AllFor q 1 (1 - v)
       other h m i k x y j = sm (eqb (m .value) v) refl
@@ -183,7 +184,7 @@ module _ (n : ℕ) (sound : ℕ → Bool) (l : List Statement) (few : count (λ 
       go : (b : Bool) → ltb (count (has l 0 q 0 v) n) (backing n v) ≡ b → Supp n l 0 q 0 v (backing n v)
       go true e =
           let k : AllFor q 1 (1 - v) = other (ltb-true _ _ e) in
-          let locked : Locked q (d .round) (1 - v) = lock-to q 1 (d .round) (1 - v) (omega arith) (d .from1) (k, no-none q 1 (1 - v) (L .split) k) in
+          let locked : Locked q (d .round) (1 - v) = lock-to q 1 (d .round) (1 - v) (omega arith) (d .from1) (k, no-none q 1 (1 - v) splits k) in
           let t : v ≡ 1 - v = all-for-value q (d .round) (1 - v) v (locked .0) (voted-for q (d .round) v (d .small) (d .votes)) in
           absurd (omega (arith, d .small))
       go false e = ltb-false _ _ e

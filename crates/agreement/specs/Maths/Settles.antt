@@ -13,7 +13,7 @@ use Rattle.format.specs.Group.{quorum, most-faulty}
 use Rattle.format.specs.Statement.{Statement}
 use Rattle.agreement.specs.Maths.Log.{In, Supp}
 use Rattle.agreement.specs.Maths.Safe as Safe
-use Rattle.agreement.specs.Maths.Safe.{Just, Split, LogOk, Locked, Decided}
+use Rattle.agreement.specs.Maths.Safe.{Just, LogOk, Locked, Decided}
 
 module _ (n : ℕ) (sound : ℕ → Bool) (l : List Statement) (few : count (λ i. not (sound i)) n ≤ most-faulty n) (big : least-stations ≤ n) (L : LogOk n sound l) where
   -- where all proposals of a round have one value, and there are not q none votes of the round before, a justified vote of it is for that value
@@ -39,7 +39,7 @@ module _ (n : ℕ) (sound : ℕ → Bool) (l : List Statement) (few : count (λ 
   -- a lucky round: a quorum proposed v in the round before, and each coin of this one shows v
   pub lucky-locks : (q r v : ℕ) → 1 ≤ r → Supp n l kind-P q r v (quorum n)
       → ((s : Statement) → In s l → s .kind ≡ kind-P → s .question ≡ q → s .round ≡ suc r → (s .flag ≡ D-GET → ⊥) → s .value ≡ v)
-      → ((s : Statement) → In s l → sound (s .station) ≡ true → s .kind ≡ kind-V → s .value ≡ none → s .round ≡ suc r → Split n l (s .question) (s .round))
+      → Safe.Splits n sound l few big L q (suc r)
       → Locked n sound l few big L q (suc r) v
   lucky-locks q r v from major coins splits = (all-for, Safe.no-none n sound l few big L q (suc r) v splits all-for)
     where

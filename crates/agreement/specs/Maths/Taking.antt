@@ -3,7 +3,7 @@
 use mathlib.Core.Path.{_≡_, refl, sym, _∙_, ap, subst}
 use mathlib.Core.Bool.{Bool, true, false, _&&_}
 use mathlib.Core.List.{List, [], _∷_, _++_, List·Memᴰ·head, List·Memᴰ·tail}
-use Prim.Native.Nat.{ℕ, _+_, _*_, _≤_, _<_}
+use Prim.Native.Nat.{ℕ, _+_, _-_, _*_, _≤_, _<_}
 use native.Mathlib.Omega.{arith}
 use lib.Dec.{eqb, ltb}
 use lib.ListN.{length, take}
@@ -16,7 +16,7 @@ use Rattle.format.specs.Numbers.{kind-INIT, kind-P, kind-V, none, D-GET, R-GET,
 use Rattle.format.specs.Group.{quorum}
 use Rattle.format.specs.Statement.{Statement, step}
 use Rattle.format.specs.Laws.ReadBack.{Proper}
-use Rattle.rules.specs.Rules.{some, some-value, which, Holds, Backed}
+use Rattle.rules.specs.Rules.{some-value, which, none-votes, Holds, Backed}
 use Rattle.rules.specs.declared.Which.the-variants.{Any, Only}
 use Rattle.certificate.specs.Check.{every}
 use Rattle.station.specs.declared.Stage.{Stage}
@@ -31,9 +31,10 @@ use Rattle.station.specs.Laws.Fits.{began-sane, decision-low, ready, backed}
 use Rattle.station.specs.Written.{next-all, backed-given}
 use Rattle.agreement.specs.Maths.Log.{In, all-at}
 use Rattle.agreement.specs.Maths.Safe.{Just, Split}
-use Rattle.agreement.specs.Maths.Just.{bare, Coded, backed-just, bare-just, just-more, coded-more}
-use Rattle.agreement.specs.Maths.Took.{NowHeld, votes-held, number-few, enough-before, enough-after, held-enough, all-counted, decided-every, every-decided}
+use Rattle.agreement.specs.Maths.Just.{bare, Coded, backed-just, bare-just}
+use Rattle.agreement.specs.Maths.Took.{NowHeld, votes-held, enough-before, enough-after, held-enough, all-counted, decided-every, every-decided}
 use Rattle.agreement.specs.Maths.Votes.{votes}
+use Rattle.agreement.specs.Maths.Entering.{few-votes, entered-standing}
 use Rattle.agreement.specs.Maths.Standing.{Enough, Open, Standing}
 
 -- a step that is odd is that of votes
@@ -127,12 +128,6 @@ module _ (n number : ℕ) (l : List Statement) (u : State) (took : List Statemen
         ∙ right (has-value (s .value) m && eqb (m .station) (s .station)) _ (f e)) took (O .now-held),
   )
 
-  -- ---- the votes of the present step are those held
-  few-votes : (held took : List Statement) (σ v r : ℕ) → NowHeld σ held took → length held < quorum n → σ ≡ 2 * r + 1
-      → quorum n ≤ count (votes took (u .question) r v) n → ⊥
-  few-votes held took σ v r now few e enough =
-      omega (arith, votes-held (u .question) r v held took n (subst (λ (z : ℕ). NowHeld z held took) e now), number-few (has-value v) held)
-
   named1 : (v : ℕ) → v < none → u .decision ≡ v → Enough n took1 (u .question) v
   named1 v low e =
       let E = K .named v low e in
@@ -148,7 +143,7 @@ module _ (n number : ℕ) (l : List Statement) (u : State) (took : List Statemen
   names-kept few v r low enough = go (eqb (stage-step (u .stage)) (2 * r + 1)) refl
     where
       go : (b : Bool) → eqb (stage-step (u .stage)) (2 * r + 1) ≡ b → u .decision < none
-      go true e = absurd (few-votes (k .held) took1 (stage-step (u .stage)) v r now1 few (eqb-true _ _ e) enough)
+      go true e = absurd (few-votes n (u .question) (k .held) took1 (stage-step (u .stage)) v r now1 few (eqb-true _ _ e) enough)
       go false e = names-before v r low (eqb-false _ _ e) enough
 
   given1 : Given (k .held)
@@ -256,24 +251,24 @@ module _ (n number : ℕ) (l : List Statement) (u : State) (took : List Statemen
       abbrev x : Next
       x = follows n (u .stage) k coin
 
-      abbrev l2 : List Statement
-      l2 = bare s ∷ l
-
-      abbrev took2 : List Statement
-      took2 = s ∷ took1
+      abbrev c2 : List Statement
+      c2 = x .first ++ x .second
 
       R : Ready n (u .question) x
       R = ready n k F coin bit (u .stage) refl more
 
-      s-backed : Backed n s (x .first ++ x .second)
+      s-backed : Backed n s c2
       s-backed = backed n k F coin bit given1 (u .stage) refl more s kind≡ value≡ flag≡ round≡
+
+      c2-coded : All (Coded n l) c2
+      c2-coded = all-append (Coded n l) (x .first) (x .second) (parts-coded coin (u .stage) .0) (parts-coded coin (u .stage) .1)
+
+      c2-asked : All (λ y. y .question ≡ u .question) c2
+      c2-asked = all-append (λ y. y .question ≡ u .question) (x .first) (x .second) (R .alike) (R .more-alike)
 
       -- the statement sent is justified by what was coded before
       pub sent-just : Just n l s
-      sent-just =
-          backed-just n l s (x .first ++ x .second) (all-append (Coded n l) (x .first) (x .second) (parts-coded coin (u .stage) .0) (parts-coded coin (u .stage) .1))
-          (all-map (λ y e. e ∙ sym on) (x .first ++ x .second) (all-append (λ y. y .question ≡ u .question) (x .first) (x .second) (R .alike) (R .more-alike)))
-          s-backed
+      sent-just = backed-just n l s c2 c2-coded (all-map (λ y e. e ∙ sym on) c2 c2-asked) s-backed
 
       -- and a none vote had both values among justified proposals
       pub sent-split : s .kind ≡ kind-V → s .value ≡ none → Split n l (s .question) (s .round)
@@ -326,65 +321,19 @@ module _ (n number : ℕ) (l : List Statement) (u : State) (took : List Statemen
               no-vote true z = omega arith
               no-vote false z = omega arith
 
-      s-coded : Coded n l2 s
-      s-coded = record { mem = List·Memᴰ·head refl; low = low; high = high }
-
-      facts2 : All (λ y. Coded n l2 y × Just n l2 y) took2
-      facts2 = ((s-coded, just-more n (bare s) l s sent-just), all-map (λ y p. (coded-more n (bare s) l y (p .0), just-more n (bare s) l y (p .1))) took1 facts1)
-
-      up : stage-step (u .stage) < stage-step (x .stage)
-      up = steps-up n (u .stage) k coin
-
       s-step : step s ≡ stage-step (x .stage)
       unfolding step
       s-step = λ i. Rattle.format.specs.Words.step-of ((kind≡ ∙ R .kind) i) ((round≡ ∙ R .round) i)
 
-      upto2 : All (λ y. step y ≤ stage-step (x .stage)) took2
-      upto2 = (omega (arith, s-step), all-map (λ y e. omega (arith, up)) took1 upto1)
-
-      now2 : NowHeld (stage-step (x .stage)) (s ∷ []) took2
-      unfolding some
-      now2 = (
-        (λ e. left (has-value (s .value) s && eqb (s .station) (s .station)) false (join (has-value (s .value) s) _ (eq-eqb (s .value) (s .value) refl) (eq-eqb (s .station) (s .station) refl))),
-        all-map (λ y f e. absurd (omega (arith, up))) took1 upto1,
-      )
-
-      names2 : (v r : ℕ) → v < none → quorum n ≤ count (votes took2 (u .question) r v) n → decided-then < none
-      names2 v r low enough = go (eqb (stage-step (x .stage)) (2 * r + 1)) refl
-        where
-          go : (b : Bool) → eqb (stage-step (x .stage)) (2 * r + 1) ≡ b → decided-then < none
-          go true e = absurd (few-votes (s ∷ []) took2 (stage-step (x .stage)) v r now2 (omega arith) (eqb-true _ _ e) enough)
-          go false e = names-ended v r low (enough-before (u .question) r v n (quorum n) s took1 (λ z. eqb-false (stage-step (x .stage)) (2 * r + 1) e (sym s-step ∙ z)) enough)
-
-      named2 : (v : ℕ) → v < none → decided-then ≡ v → Enough n took2 (u .question) v
-      named2 v low e = let E = named-ended v low e in record { round = E .round; enough = enough-after (u .question) (E .round) v n (quorum n) s took1 (E .enough) }
-
-      kept2 : (b : Bool) → All (Coded n l2) (pick b (x .first) [])
-      unfolding pick
-      kept2 true = all-map (coded-more n (bare s) l) (x .first) (parts-coded coin (u .stage) .0)
-      kept2 false = tt
-
-      sent-sane : Sane n number (began (u .question) (x .stage) decided-then s (x .first))
+      sent-sane : Sane n number (began n (u .question) (u .jump) (x .stage) decided-then s c2)
       sent-sane =
-          began-sane n number (u .question) decided-then (x .stage) s (x .first) big p mine low on s-step (R .rounds) (R .flag s flag≡) low-ended (R .proper) (R .alike)
-          (λ e. subst (λ (v : ℕ). Holds (value-group n (x .stage) v) (x .first)) (sym value≡) (R .for-value s value≡ flag≡ e)) (R .for-none s value≡ flag≡)
+          began-sane n number (u .question) decided-then (u .jump) (x .stage) s c2 big p mine low on s-step (R .rounds) (R .flag s flag≡) low-ended
+          (all-append (Proper n) (x .first) (x .second) (R .proper) (R .more-proper)) c2-asked
+          (λ e. subst (λ (c : List Statement). Holds (value-group n (x .stage) (s .value)) c) (sym (R .front))
+          (subst (λ (v : ℕ). Holds (value-group n (x .stage) v) (x .first)) (sym value≡) (R .for-value s value≡ flag≡ e)))
+          (λ e. subst (λ (c : List Statement). Holds (none-votes n (round-in (x .stage) - 1)) c) (sym (R .front)) (R .for-none s value≡ flag≡ e))
 
-      pub sent-standing : Standing n l2 number (began (u .question) (x .stage) decided-then s (x .first)) took2
+      pub sent-standing : Standing n (bare s ∷ l) number (began n (u .question) (u .jump) (x .stage) decided-then s c2) (s ∷ took1)
       sent-standing =
-          record {
-            facts = facts2;
-            asked = (on, asked1);
-            low = low-ended;
-            named = named2;
-            names = names2;
-            while-open = λ e.
-                record {
-                  sane = sent-sane;
-                  given = (backed-given n s (x .first ++ x .second) s-backed, tt);
-                  among = (List·Memᴰ·head refl, tt);
-                  for-value-coded = kept2 (supplies-for-value (x .stage) s);
-                  for-none-coded = kept2 (supplies-for-none (x .stage) s);
-                  upto = upto2;
-                  now-held = now2;
-                };
-          }
+          entered-standing n number (u .question) (u .jump) l (x .stage) decided-then s c2 took1 big low high on s-step (stage-step (u .stage)) (steps-up n (u .stage) k coin) upto1 facts1 asked1 c2-coded c2-asked
+          s-backed low-ended named-ended names-ended sent-sane

@@ -40,7 +40,7 @@ returns c =
     let m = d .before .before in
     let l = m .before .before in
     let a = l .before .before .before .args in
-    opened-is (a .registers .now) (a .names) (m .module-at .result) (l .length-at .result) _ _ (m .module-at .ensures) (l .length-at .ensures .1) (a .question) (a .proposal) (d .«open» .ensures .number-is) (d .«open» .ensures .count-is)
+    opened-is (a .registers .now) (a .names) (m .module-at .result) (l .length-at .result) _ _ (m .module-at .ensures) (l .length-at .ensures .1) (a .question) (a .proposal) (a .jump) (d .«open» .ensures .number-is) (d .«open» .ensures .count-is)
 
 pub open-spec : {M : Type 1} → statement M
 open-spec =

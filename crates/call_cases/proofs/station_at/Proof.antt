@@ -1,6 +1,6 @@
 -- The part of the slice that is lent: the law `part-lent`.
 use mathlib.Core.Path.{_∙_, ap}
-use Rattle.station_words.specs.Words.{reading}
+use Rattle.station_words.specs.Words.{station-words, reading}
 use Rattle.call_cases.specs.Registers.{part-lent}
 use borrow.Author.Needs.{needs}
 use Rattle.call_cases.proofs.station_at.Statement.{statement}
@@ -25,7 +25,7 @@ read-requires : tie.Need-read-requires
 read-requires c κs = search needs
 
 returns : tie.Need-returns
-returns c = c .read .ensures ∙ ap reading (part-lent (c .before .before .before .args .registers .now) (c .before .before .before .args .at) 639)
+returns c = c .read .ensures ∙ ap reading (part-lent (c .before .before .before .args .registers .now) (c .before .before .before .args .at) station-words)
 
 pub station-at-spec : {M : Type 1} → statement M
 station-at-spec =

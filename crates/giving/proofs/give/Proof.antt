@@ -1,18 +1,19 @@
--- Where a test fails, and where the pair is not above the last, all is as it was; else what follows the bundle kept.
+-- Where a test fails, and where the pair is not above the last, all is as it was; else a jump, or what follows the bundle kept.
 use Prim.Native.Nat.{ℕ}
+use mathlib.Core.Path.{sym, _∙_}
 use mir.Syntax.{w32}
 use borrow.Author.Needs.{needs, length-unmapped, elem-fits-field}
 use Rattle.station.specs.Words.{Lengths}
 use Rattle.keeping.specs.Laws.One.{LowWords}
 use Rattle.giving.specs.Laws.Found.{answers-none}
-use Rattle.giving.specs.Laws.Give.{give-refused, none-found, give-12, give-after}
+use Rattle.giving.specs.Laws.Give.{give-refused, none-found, jumps-found, give-jump, give-12, give-after}
 use Rattle.giving.proofs.give.Statement.{statement}
 use Rattle.giving.proofs.give.Tie as tie
 
 -- the parameter's arrays have their declared lengths
 lengths : (s : tie.Start) → Lengths (s .args .t)
 lengths s =
-    let f = s .good .1 .0 .1 .1 .1 .1 .1 .1 in
+    let f = s .good .1 .0 .1 .1 .1 .1 .1 .1 .1 in
     let held = f .0 in
     let groups = f .1 .0 in
     record {
@@ -24,7 +25,7 @@ lengths s =
 -- and words of 32 bits
 low-words : (s : tie.Start) → LowWords (s .args .t)
 low-words s =
-    let f = s .good .1 .0 .1 .1 .1 .1 .1 .1 in
+    let f = s .good .1 .0 .1 .1 .1 .1 .1 .1 .1 in
     let held = f .0 in
     let groups = f .1 .0 in
     record {
@@ -45,6 +46,36 @@ returns c =
     answers-none _ _ _ _ _ _ (c .no-bundle .ensures)
     (give-refused (a .m) (a .t) (a .ws .now) (a .coin) (a .out .now) _ (c .before .before .refusal .ensures) (c .before .if1 .taken))
 
+word-at-requires : tie.Need-word-at-requires
+word-at-requires c κs = search needs
+
+read-fields-requires : tie.Need-read-fields-requires
+read-fields-requires c κs = search needs
+
+jumps-requires : tie.Need-jumps-requires
+jumps-requires c κs = search needs
+
+jump-on-requires : tie.Need-jump-on-requires
+jump-on-requires c κs = search needs
+
+same-length : tie.Need-same-length
+same-length c = search needs
+
+returns-2 : tie.Need-returns-2
+returns-2 c =
+    let j = c .before .before in
+    let i = j .before .before in
+    let b = i .before in
+    let f = b .before in
+    let w = f .before in
+    let e = w .before .before in
+    let s = e .before .before .before in
+    let a = s .args in
+    give-jump (a .m) (a .t) (a .ws .now) (a .coin) (a .out .now) (lengths s) (λ i. e .before .before .shared-slice-known .given i .fits) _ _ _ _ _
+    (none-found (a .m) (a .t) (a .ws .now) (a .coin) (a .out .now) _ (e .refusal .ensures) (w .before .if1 .left))
+    (sym (jumps-found (a .m) (a .t) (a .ws .now) (a .coin) (a .out .now) _ _ _ (w .word-at .ensures) (f .read-fields .ensures) (b .jumps .ensures)) ∙ i .if2 .taken)
+    (j .jump-on .ensures) (λ i. c .slice-known2 .given i .fits)
+
 keep-requires : tie.Need-keep-requires
 keep-requires c κs = search needs
 
@@ -54,32 +85,42 @@ taken-requires c κs = search needs
 no-bundle-requires-2 : tie.Need-no-bundle-requires-2
 no-bundle-requires-2 c κs = search needs
 
-same-length : tie.Need-same-length
-same-length c = search needs
-
-returns-2 : tie.Need-returns-2
-returns-2 c =
-    let s = c .before .before .before .before .before .before .before .before .before .before .before .before in
-    let a = s .args in
-    let e = c .before .before .before .before .before .before .before .before .before .refusal in
-    answers-none _ _ _ _ _ _ (c .no-bundle2 .ensures)
-    (give-12 (a .m) (a .t) (a .ws .now) (a .coin) (a .out .now) (lengths s) (low-words s)
-    (λ i. c .before .before .before .before .before .before .before .before .before .before .before .shared-slice-known .given i .fits) _ _ _ _ _ _
-    (none-found (a .m) (a .t) (a .ws .now) (a .coin) (a .out .now) _ (e .ensures) (c .before .before .before .before .before .before .before .before .if1 .left))
-    (c .before .before .before .before .before .before .before .keep .ensures) (c .before .before .before .before .before .taken .ensures) (λ i. c .before .before .before .slice-known2 .given i .fits) (c .before .if2 .taken))
-
 same-length-2 : tie.Need-same-length-2
 same-length-2 c = search needs
 
 returns-3 : tie.Need-returns-3
 returns-3 c =
-    let s = c .before .before .before .before .before .before .before .before .before .before .before in
+    let k = c .before .before .before .before .before .before .before in
+    let i = k .before in
+    let b = i .before in
+    let f = b .before in
+    let w = f .before in
+    let e = w .before .before in
+    let s = e .before .before .before in
     let a = s .args in
-    let e = c .before .before .before .before .before .before .before .before .refusal in
-    give-after (a .m) (a .t) (a .ws .now) (a .coin) (a .out .now) (lengths s) (low-words s)
-    (λ i. c .before .before .before .before .before .before .before .before .before .before .shared-slice-known .given i .fits) _ _ _ _ _ _
-    (none-found (a .m) (a .t) (a .ws .now) (a .coin) (a .out .now) _ (e .ensures) (c .before .before .before .before .before .before .before .if1 .left))
-    (c .before .before .before .before .before .before .keep .ensures) (c .before .before .before .before .taken .ensures) (λ i. c .before .before .slice-known2 .given i .fits) (c .if2 .left)
+    answers-none _ _ _ _ _ _ (c .no-bundle2 .ensures)
+    (give-12 (a .m) (a .t) (a .ws .now) (a .coin) (a .out .now) (lengths s) (low-words s) (λ i. e .before .before .shared-slice-known .given i .fits) _ _ _ _ _ _
+    (none-found (a .m) (a .t) (a .ws .now) (a .coin) (a .out .now) _ (e .refusal .ensures) (w .before .if1 .left))
+    (sym (jumps-found (a .m) (a .t) (a .ws .now) (a .coin) (a .out .now) _ _ _ (w .word-at .ensures) (f .read-fields .ensures) (b .jumps .ensures)) ∙ i .if2 .left)
+    (k .keep .ensures) (c .before .before .before .before .before .taken .ensures) (λ i. c .before .before .before .slice-known3 .given i .fits) (c .before .if3 .taken))
+
+same-length-3 : tie.Need-same-length-3
+same-length-3 c = search needs
+
+returns-4 : tie.Need-returns-4
+returns-4 c =
+    let k = c .before .before .before .before .before .before in
+    let i = k .before in
+    let b = i .before in
+    let f = b .before in
+    let w = f .before in
+    let e = w .before .before in
+    let s = e .before .before .before in
+    let a = s .args in
+    give-after (a .m) (a .t) (a .ws .now) (a .coin) (a .out .now) (lengths s) (low-words s) (λ i. e .before .before .shared-slice-known .given i .fits) _ _ _ _ _ _
+    (none-found (a .m) (a .t) (a .ws .now) (a .coin) (a .out .now) _ (e .refusal .ensures) (w .before .if1 .left))
+    (sym (jumps-found (a .m) (a .t) (a .ws .now) (a .coin) (a .out .now) _ _ _ (w .word-at .ensures) (f .read-fields .ensures) (b .jumps .ensures)) ∙ i .if2 .left)
+    (k .keep .ensures) (c .before .before .before .before .taken .ensures) (λ i. c .before .before .slice-known3 .given i .fits) (c .if3 .left)
 
 pub give-spec : {M : Type 1} → statement M
 give-spec =
@@ -88,10 +129,16 @@ give-spec =
     refusal-requires
     no-bundle-requires
     returns
+    word-at-requires
+    read-fields-requires
+    jumps-requires
+    jump-on-requires
+    same-length
+    returns-2
     keep-requires
     taken-requires
     no-bundle-requires-2
-    same-length
-    returns-2
     same-length-2
-    returns-3)
+    returns-3
+    same-length-3
+    returns-4)

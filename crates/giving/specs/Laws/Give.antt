@@ -1,31 +1,32 @@
--- The three ways out of giving: a test fails; the pair is not above the last, and the station is as it was; else what follows the bundle kept.
+-- The ways out of giving: a test fails; the station jumps; the pair is not above the last, and the station is as it was; else what follows the bundle kept.
 use Prim.Native.Nat.{ℕ}
 use mathlib.Core.Bool.{Bool, true, false, _||_}
 use mathlib.Core.List.{List}
 use mathlib.Core.Path.{_≡_, refl, sym, ap, _∙_, subst}
 use lib.Count.{ones}
 use lib.Dec.{eqb, ltb}
-use lib.ListN.{length}
+use lib.ListN.{length, getD}
 use borrow.Author.Tests.{eq-eqb, ne-eqb}
 use Rattle.laws.specs.Pick.{pick, here, skip}
 use Rattle.laws.specs.Bools.{never}
 use Rattle.laws.specs.Refusals.{first-failed}
 use Rattle.format.specs.Numbers.{none, kept, sent, sent-decided, closed-now, not-above, last-round}
 use Rattle.format.specs.Group.{quorum}
-use Rattle.format.specs.Words.{step-of}
+use Rattle.format.specs.declared.Fields.{Fields}
+use Rattle.format.specs.Words.{fields-of, step-of}
 use Rattle.format.specs.Statement.{statement-code}
 use Rattle.hmac.specs.Code.{hmac-code}
 use Rattle.format.specs.Bundle.{main-of, certificate-of}
 use Rattle.modules.specs.declared.Module.{Module}
 use Rattle.modules.specs.Counter.{above, last-for}
 use Rattle.station.specs.declared.Station.{Station}
-use Rattle.station.specs.Machine.{refused, taken, closes, decision-at}
+use Rattle.station.specs.Machine.{refused, taken, jumps, entered, answered, closes, decision-at}
 use Rattle.station.specs.Words.{held-by, state-of, Lengths}
 use Rattle.station.specs.Words as W
 use Rattle.station.specs.Calls.{Returned, returned, give-tests, giving}
 use Rattle.station.specs.Answers.{Answers}
-use Rattle.station.specs.Laws.Views.{Accepted, accepted, after}
-use Rattle.refusal.specs.Refusal.{first-refusal, first-refusal-by-length}
+use Rattle.station.specs.Laws.Views.{Accepted, accepted, jumping as makes-jump, after}
+use Rattle.refusal.specs.Refusal.{first-refusal, first-refusal-by-length, jumps-by, jumps-is}
 use Rattle.laws.specs.Below.{Below}
 use Rattle.keeping.specs.Laws.One.{LowWords}
 use Rattle.keeping.specs.Kept.{with-bundle}
@@ -35,7 +36,9 @@ use Rattle.ending.specs.After.{next-by}
 use Rattle.moving.specs.Moves.{answer, with-no-bundle, sending-words, moving}
 use Rattle.giving.specs.Gives.{shut-words, ending-words, after-words}
 use Rattle.moving.specs.Laws.Found.{answers-by, answers-same}
-use Rattle.giving.specs.Laws.Whole.{not-12, or-as-was, given-is}
+use Rattle.jumping.specs.Jumps.{jumping}
+use Rattle.jumping.specs.Laws.Law.{jumped-is}
+use Rattle.giving.specs.Laws.Whole.{not-12, or-as-was, passed-so, given-is}
 
 module _ (m : Module) (t : Station) (ws : List ℕ) (coin : ℕ) (out : List ℕ) where
   pub give-refused : (k : ℕ) → k ≡ first-refusal m t ws coin (length out) → (k ≡ 0 → ⊥) → Answers (giving hmac-code m t ws coin out) k 0 t m out
@@ -45,12 +48,28 @@ module _ (m : Module) (t : Station) (ws : List ℕ) (coin : ℕ) (out : List ℕ
       let f : k ≡ first-failed (give-tests hmac-code m t ws coin out) = e ∙ first-refusal-by-length m t ws coin out in
       answers-by (with-no-bundle k t m out) (giving hmac-code m t ws coin out)
       (ap (λ (z : ℕ). with-no-bundle z t m out) f
-      ∙ sym (ap (λ (b : Bool). returned m t out (pick b (taken (statement-code (hmac-code (m .key))) last-round (m .n) (m .station) (last-for m (t .identity .question)) (state-of t) (main-of ws) (certificate-of ws) coin)
+      ∙ sym (ap (λ (b : Bool). returned m t out (pick b (answered (statement-code (hmac-code (m .key))) last-round (m .n) (m .station) (last-for m (t .identity .question)) (state-of t) (main-of ws) (certificate-of ws) coin)
       (refused (first-failed (give-tests hmac-code m t ws coin out))))) (ne-eqb (first-failed (give-tests hmac-code m t ws coin out)) 0 (λ z. no-0 (f ∙ z)))))
 
   -- where the number found is 0, no test fails
   pub none-found : (k : ℕ) → k ≡ first-refusal m t ws coin (length out) → k ≡ 0 → first-failed (give-tests hmac-code m t ws coin out) ≡ 0
   none-found k e z = sym (first-refusal-by-length m t ws coin out) ∙ sym e ∙ z
+
+  -- whether it jumps, as the code finds it
+  pub jumps-found : (w : ℕ) (f : Fields) (b : Bool) → w ≡ getD ws 1 0 → f ≡ fields-of w → b ≡ jumps-by (t .stage) (t .jump) f → b ≡ jumps (state-of t) (main-of ws)
+  jumps-found w f b ew ef eb = eb ∙ jumps-is t ws f (ef ∙ ap fields-of ew)
+
+  pub give-jump : Lengths t → Below ws → (number count : ℕ) (u : Station) (after-m : Module) (xs : List ℕ) → first-failed (give-tests hmac-code m t ws coin out) ≡ 0
+      → jumps (state-of t) (main-of ws) ≡ true → Answers (jumping m t ws coin out) number count u after-m xs → Below xs → Answers (giving hmac-code m t ws coin out) number count u after-m xs
+  unfolding pick
+  give-jump L low number count u after-m xs none-failed to-jump a low-xs =
+      let J = makes-jump hmac-code m t ws coin out L to-jump none-failed in
+      answers-same (jumping m t ws coin out) (giving hmac-code m t ws coin out) number count u after-m xs
+      (sym (passed-so m t ws coin out none-failed
+      ∙ ap (λ (b : Bool). returned m t out (pick b
+      (entered (statement-code (hmac-code (m .key))) last-round (m .n) (m .station) (last-for m (t .identity .question)) (state-of t) (main-of ws) (certificate-of ws) coin)
+      (taken (statement-code (hmac-code (m .key))) last-round (m .n) (m .station) (last-for m (t .identity .question)) (state-of t) (main-of ws) (certificate-of ws) coin))) to-jump
+      ∙ jumped-is m t ws coin out J low (subst Below (a .lent-is) low-xs))) a
 
   -- 12 leaves the lent words
   twelve-lent : (k : Station) → after-words m k coin out .number ≡ not-above → after-words m k coin out .lent ≡ out
@@ -77,10 +96,10 @@ module _ (m : Module) (t : Station) (ws : List ℕ) (coin : ℕ) (out : List ℕ
       go false false false e = refl
 
   module _ (L : Lengths t) (A : LowWords t) (low : Below ws) (number count : ℕ) (u kk : Station) (after-m : Module) (xs : List ℕ)
-      (none-failed : first-failed (give-tests hmac-code m t ws coin out) ≡ 0) (ek : kk ≡ with-bundle t ws)
+      (none-failed : first-failed (give-tests hmac-code m t ws coin out) ≡ 0) (stays : jumps (state-of t) (main-of ws) ≡ false) (ek : kk ≡ with-bundle t ws)
       (a : Answers (after-words m kk coin out) number count u after-m xs) (low-xs : Below xs) where
     acc : Accepted hmac-code m t ws coin out
-    acc = accepted hmac-code m t ws coin out L none-failed
+    acc = accepted hmac-code m t ws coin out L stays none-failed
 
     k : Station
     k = W.as-station (m .n) (m .station) (after hmac-code m t ws coin out)
@@ -94,7 +113,7 @@ module _ (m : Module) (t : Station) (ws : List ℕ) (coin : ℕ) (out : List ℕ
 
     whole : giving hmac-code m t ws coin out ≡ or-as-was m t out (after-words m k coin out)
     unfolding k
-    whole = given-is m t ws coin out L acc none-failed (subst Below (b .lent-is) low-xs)
+    whole = given-is m t ws coin out L acc none-failed stays (subst Below (b .lent-is) low-xs)
 
     pub give-12 : number ≡ not-above → Answers (giving hmac-code m t ws coin out) not-above 0 t m xs
     give-12 e =

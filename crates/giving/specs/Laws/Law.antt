@@ -225,14 +225,14 @@ module _ (m : Module) (K : State) (top : m .n ≤ most-stations) (F : Full (m .n
       record {
         number = answer (K .decision) d;
         count = bundle-words (length (x .first ++ x .second));
-        station = W.as-station (m .n) (m .station) (began (K .question) (x .stage) d s (x .first));
+        station = W.as-station (m .n) (m .station) (began (m .n) (K .question) (K .jump) (x .stage) d s (x .first ++ x .second));
         after = advanced m (K .question) (step s);
         lent = over (bundle-of s (x .first ++ x .second)) out;
       }
 
-  pub sending-is : Below (sending-words m k X f d out .lent) → take (quorum (m .n)) (x .first ++ x .second) ≡ x .first → sending-words m k X f d out ≡ by-definition
+  pub sending-is : Below (sending-words m k X f d out .lent) → sending-words m k X f d out ≡ by-definition
   unfolding sending-words W.as-station
-  sending-is low front =
+  sending-is low =
       let sl : List ℕ = slots-of (K .held) 1 sites in
       let gr : List ℕ = group-by (X .kept) (k .groups) in
       let q : ℕ = K .question in
@@ -241,16 +241,16 @@ module _ (m : Module) (K : State) (top : m .n ≤ most-stations) (F : Full (m .n
       = λ i. sent-lent m (K .question) (own-fields m (ek i) (ev i) (ef i) (er i)) (slots-of (K .held) 1 sites) (C .set i) (group-by (X .kept) (k .groups)) (C .size i) out in
       let count1 : sent-count (X .set) (count-by (X .kept) (m .n) (X .value)) out ≡ bundle-words (length (x .first ++ x .second))
       = (λ i. sent-count (C .set i) (C .size i) out)
-      ∙ count-is m (K .question) (x .kind) (x .value) (x .flag) (x .round) (x .stage) d (C .held) (C .more) (slots-of (K .held) 1 sites) (group-by (X .kept) (k .groups)) (C .made) (x .first) (x .second) (C .same) out room p fit later in
-      let station1 : sent-station m (K .question) (X .stage) d (sent-bundle m (K .question) f (slots-of (K .held) 1 sites) (X .set) (group-by (X .kept) (k .groups)) (count-by (X .kept) (m .n) (X .value)) out)
-      ≡ W.as-station (m .n) (m .station) (began (K .question) (x .stage) d s (x .first))
-      = (λ i. sent-station m (K .question) (es i) d (sent-bundle m (K .question) (own-fields m (ek i) (ev i) (ef i) (er i)) (slots-of (K .held) 1 sites) (C .set i) (group-by (X .kept) (k .groups)) (C .size i) out))
-      ∙ station-is m (K .question) (x .kind) (x .value) (x .flag) (x .round) (x .stage) d (C .held) (C .more) (slots-of (K .held) 1 sites) (group-by (X .kept) (k .groups)) (C .made) (x .first) (x .second) (C .same) out room p fit later
-      (subst Below lent0 low) front in
+      ∙ count-is m (K .question) (x .kind) (x .value) (x .flag) (x .round) (K .jump) (x .stage) d (C .held) (C .more) (slots-of (K .held) 1 sites) (group-by (X .kept) (k .groups)) (C .made) (x .first ++ x .second) (C .same) out room p fit later in
+      let station1 : sent-station m (K .question) (K .jump) (X .stage) d (sent-bundle m (K .question) f (slots-of (K .held) 1 sites) (X .set) (group-by (X .kept) (k .groups)) (count-by (X .kept) (m .n) (X .value)) out)
+      ≡ W.as-station (m .n) (m .station) (began (m .n) (K .question) (K .jump) (x .stage) d s (x .first ++ x .second))
+      = (λ i. sent-station m (K .question) (K .jump) (es i) d (sent-bundle m (K .question) (own-fields m (ek i) (ev i) (ef i) (er i)) (slots-of (K .held) 1 sites) (C .set i) (group-by (X .kept) (k .groups)) (C .size i) out))
+      ∙ station-is m (K .question) (x .kind) (x .value) (x .flag) (x .round) (K .jump) (x .stage) d (C .held) (C .more) (slots-of (K .held) 1 sites) (group-by (X .kept) (k .groups)) (C .made) (x .first ++ x .second) (C .same) out room p fit later
+      (subst Below lent0 low) in
       let after1 : sent-after m (K .question) f (slots-of (K .held) 1 sites) (X .set) (group-by (X .kept) (k .groups)) (count-by (X .kept) (m .n) (X .value)) out
       ≡ advanced m (K .question) (step s)
       = (λ i. sent-after m (K .question) (own-fields m (ek i) (ev i) (ef i) (er i)) (slots-of (K .held) 1 sites) (C .set i) (group-by (X .kept) (k .groups)) (C .size i) out)
-      ∙ after-is m (K .question) (x .kind) (x .value) (x .flag) (x .round) (x .stage) d (C .held) (C .more) (slots-of (K .held) 1 sites) (group-by (X .kept) (k .groups)) (C .made) (x .first) (x .second) (C .same) out room p fit later in
+      ∙ after-is m (K .question) (x .kind) (x .value) (x .flag) (x .round) (K .jump) (x .stage) d (C .held) (C .more) (slots-of (K .held) 1 sites) (group-by (X .kept) (k .groups)) (C .made) (x .first ++ x .second) (C .same) out room p fit later in
       let lent1 = lent0
-      ∙ lent-is m (K .question) (x .kind) (x .value) (x .flag) (x .round) (x .stage) d (C .held) (C .more) (slots-of (K .held) 1 sites) (group-by (X .kept) (k .groups)) (C .made) (x .first) (x .second) (C .same) out room p fit later in
+      ∙ lent-is m (K .question) (x .kind) (x .value) (x .flag) (x .round) (K .jump) (x .stage) d (C .held) (C .more) (slots-of (K .held) 1 sites) (group-by (X .kept) (k .groups)) (C .made) (x .first ++ x .second) (C .same) out room p fit later in
       λ i. record { number = answer (K .decision) d; count = count1 i; station = station1 i; after = after1 i; lent = lent1 i }

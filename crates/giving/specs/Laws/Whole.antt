@@ -22,7 +22,7 @@ use Rattle.modules.specs.Counter.{above, last-for}
 use Rattle.station.specs.declared.Stage.{Stage}
 use Rattle.station.specs.declared.Stage.the-variants.{Gathering, Proposing, Voting}
 use Rattle.station.specs.declared.Station.{Station}
-use Rattle.station.specs.Machine.{State, Next, Outcome, refused, keeps, sends, began, moved, shut, ended, taken, follows, closes, decision-at, round-in}
+use Rattle.station.specs.Machine.{State, Next, Outcome, refused, keeps, sends, began, moved, shut, ended, taken, jumps, entered, answered, follows, closes, decision-at, round-in}
 use Rattle.station.specs.Words.{sites, set-of, slot-of, slots-of, held-in, held-by, state-of, Lengths}
 use Rattle.station.specs.Words as W
 use Rattle.station.specs.Calls.{Returned, returned, give-tests, giving}
@@ -56,6 +56,15 @@ in-range-of : (g : Stage) → InRounds g → round-in g ≤ last-round
 in-range-of Gathering i = omega arith
 in-range-of (Proposing r f) i = i .1
 in-range-of (Voting r) i = i .1
+
+-- where no test fails, giving is what the station answers
+pub passed-so : (m : Module) (t : Station) (ws : List ℕ) (coin : ℕ) (out : List ℕ) → first-failed (give-tests hmac-code m t ws coin out) ≡ 0
+    → giving hmac-code m t ws coin out
+    ≡ returned m t out (answered (statement-code (hmac-code (m .key))) last-round (m .n) (m .station) (last-for m (t .identity .question)) (state-of t) (main-of ws) (certificate-of ws) coin)
+unfolding giving pick
+passed-so m t ws coin out z =
+    ap (λ (b : Bool). returned m t out (pick b (answered (statement-code (hmac-code (m .key))) last-round (m .n) (m .station) (last-for m (t .identity .question)) (state-of t) (main-of ws) (certificate-of ws) coin)
+    (refused (first-failed (give-tests hmac-code m t ws coin out))))) (eq-eqb _ 0 z)
 
 module _ (m : Module) (t : Station) (ws : List ℕ) (coin : ℕ) (out : List ℕ) (L : Lengths t) (A : Accepted hmac-code m t ws coin out) where
   abbrev K : State
@@ -108,7 +117,7 @@ module _ (m : Module) (t : Station) (ws : List ℕ) (coin : ℕ) (out : List ℕ
       s = own-statement m (t .identity .question) (x .kind) (x .value) (x .flag) (x .round)
 
       sent-all : Outcome
-      sent-all = sends (pick (ltb (t .decision) none || eqb d none) sent sent-decided) s (x .first ++ x .second) (began (t .identity .question) (x .stage) d s (x .first))
+      sent-all = sends (pick (ltb (t .decision) none || eqb d none) sent sent-decided) s (x .first ++ x .second) (began (m .n) (t .identity .question) (t .jump) (x .stage) d s (x .first ++ x .second))
 
       go : (a : Bool) → above (last-for m q) q (step-of (X .kind) (X .round .0)) ≡ a → Below (pick a (sending-words m k X (own-fields m (X .kind) (X .value) (X .flag) (X .round .0)) d out) (with-no-bundle not-above k m out) .lent)
           → returned m t out (pick a sent-all (refused not-above))
@@ -117,7 +126,7 @@ module _ (m : Module) (t : Station) (ws : List ℕ) (coin : ℕ) (out : List ℕ
           skip _ _ _ _ (not-12 (ltb (t .decision) none || eqb d none))
           (sym (sending-is m K (A .range .at-most-31) F d out (A .room) X x ek (ap (λ (y : Next). y .value) e) (ap (λ (y : Next). y .flag) e) er (ap (λ (y : Next). y .stage) e)
           (chosen (m .n) K (A .range .at-most-31) F (t .stage) refl goes coin R) (sent-proper hmac-code hmac-eight m t ws coin out L A size goes)
-          (range-fits m (A .range)) (ap (above (last-for m q) q) (sym (λ i. step-of (ek i) (er i))) ∙ later) low (R .front)))
+          (range-fits m (A .range)) (ap (above (last-for m q) q) (sym (λ i. step-of (ek i) (er i))) ∙ later) low))
       go false later low = refl
 
   -- the step has ended
@@ -146,12 +155,14 @@ module _ (m : Module) (t : Station) (ws : List ℕ) (coin : ℕ) (out : List ℕ
           ≡ or-as-was m t out (moving m k (next-by (m .n) (t .stage) (set-of (K .held)) (slots-of (K .held) 1 sites) coin) z out)) (sym same-d)
           (goes-on size e d refl) low
 
-  pub given-is : first-failed (give-tests hmac-code m t ws coin out) ≡ 0 → Below (after-words m k coin out .lent)
+  pub given-is : first-failed (give-tests hmac-code m t ws coin out) ≡ 0 → jumps (state-of t) (main-of ws) ≡ false → Below (after-words m k coin out .lent)
       → giving hmac-code m t ws coin out ≡ or-as-was m t out (after-words m k coin out)
   unfolding giving taken after-words returned state-of W.as-station pick
-  given-is z low =
-      ap (λ (b : Bool). returned m t out (pick b (taken (statement-code (hmac-code (m .key))) last-round (m .n) (m .station) (last-for m (t .identity .question)) (state-of t) (main-of ws) (certificate-of ws) coin)
-      (refused (first-failed (give-tests hmac-code m t ws coin out))))) (eq-eqb _ 0 z)
+  given-is z stays low =
+      passed-so m t ws coin out z
+      ∙ ap (λ (b : Bool). returned m t out (pick b
+      (entered (statement-code (hmac-code (m .key))) last-round (m .n) (m .station) (last-for m (t .identity .question)) (state-of t) (main-of ws) (certificate-of ws) coin)
+      (taken (statement-code (hmac-code (m .key))) last-round (m .n) (m .station) (last-for m (t .identity .question)) (state-of t) (main-of ws) (certificate-of ws) coin))) stays
       ∙ go (ltb (length (K .held)) (quorum (m .n))) refl (subst (λ (c : ℕ). Below (pick (ltb c (quorum (m .n))) (with-no-bundle kept k m out) (ending-words m k coin out) .lent)) number low)
       ∙ ap (λ (c : ℕ). or-as-was m t out (pick (ltb c (quorum (m .n))) (with-no-bundle kept k m out) (ending-words m k coin out))) (sym number)
     where

@@ -16,8 +16,9 @@ use Rattle.format.specs.Group.{quorum}
 use Rattle.format.specs.Numbers.{statement-words}
 use Rattle.format.specs.Words.{fields-of, formed, station-of}
 use Rattle.format.specs.Statement.{Statement, statement, statements, word-0, written}
-use Rattle.format.specs.Bundle.{all-formed, all-written}
+use Rattle.format.specs.Bundle.{count-in, main-of, certificate-of, all-formed, all-written, bundle-of}
 use Rattle.format.specs.Laws.Layout.{covered-read}
+use Rattle.certificate.specs.Valid.{Bundle}
 use Rattle.certificate.specs.Laws.Parts.{parts-length}
 use Rattle.station.specs.Words.{held-in, set-of, slot-of, slots-of, group-words, sites, kept-words, slots-words}
 use Rattle.station.specs.Fit.{zeros, slot-fits, slots-fit}
@@ -46,6 +47,20 @@ all-back n ws low (suc k) at room h =
     let more : all-written (statements ws (at + 10) k) ≡ take (k * 10) (drop 10 (drop at ws))
     = all-back n ws low k (at + 10) (omega arith) (b .1) ∙ ap (take (k * 10)) (sym (drop-drop 10 at ws)) in
     rw (e, take-add 10 (k * 10) (drop at ws)) (λ i. one i ++ more i)
+
+-- the words of a bundle, which is read and written again
+pub bundle-back : (n : ℕ) (ws : List ℕ) → Below ws → Bundle n ws → ws ≡ bundle-of (main-of ws) (certificate-of ws)
+unfolding bundle-of all-formed
+bundle-back n ws low B =
+    let b = both (formed n (fields-of (getD ws 1 0))) _ (B .fields) in
+    let head : getD ws 0 0 ≡ 3 * 2 ^ 30 + length (certificate-of ws) = omega (arith, B .head-kind, B .head-zeros, parts-length ws 11 (count-in ws)) in
+    let one : written (main-of ws) ≡ take 10 (drop 1 ws) = written-back n ws 1 low (omega (arith, B .size)) (b .0) in
+    let few : length (drop 11 ws) ≤ count-in ws * 10 = rw length-drop (omega (arith, B .size)) in
+    let rest : all-written (certificate-of ws) ≡ drop 10 (drop 1 ws)
+    = all-back n ws low (count-in ws) 11 (omega (arith, B .size)) (b .1) ∙ take-all (count-in ws * 10) (drop 11 ws) few ∙ sym (drop-drop 10 1 ws) in
+    drop-cons ws 0 0 (omega (arith, B .size))
+    ∙ (λ i. head i ∷ sym (take-append-drop 10 (drop 1 ws)) i)
+    ∙ (λ i. (3 * 2 ^ 30 + length (certificate-of ws)) ∷ (sym one i ++ sym rest i))
 
 pub zeros-back : (ws : List ℕ) (k at : ℕ) → at + k ≤ length ws → zeros ws at k ≡ true → take k (drop at ws) ≡ replicate k 0
 unfolding zeros

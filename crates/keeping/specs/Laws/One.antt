@@ -138,6 +138,7 @@ one-form n number t top L A h shut =
       identity = record { n = F .same-n i; station = F .same-number i; question = t .identity .question };
       stage = t .stage;
       closed = t .closed;
+      jump = t .jump;
       decision = t .decision;
       held = record { heard = a i; slots = b i };
       groups = record { value = c i; none = d i };

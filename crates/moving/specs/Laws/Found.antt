@@ -45,10 +45,10 @@ module _ (m : Module) (k : Station) (x : Following) (d : ℕ) (out : List ℕ) w
   -- all that `send` promises, with the certificate that was chosen
   pub next-sent : (f : Fields) (count : ℕ) (t : Station) (after : Module) (xs group : List ℕ) (z : ℕ)
       → group ≡ group-by (x .kept) (k .groups) → z ≡ count-by (x .kept) (m .n) (x .value)
-      → (count ≡ sent-count (x .set) z out) × (t ≡ sent-station m (k .identity .question) (x .stage) d (sent-bundle m (k .identity .question) f (k .held .slots) (x .set) group z out))
+      → (count ≡ sent-count (x .set) z out) × (t ≡ sent-station m (k .identity .question) (k .jump) (x .stage) d (sent-bundle m (k .identity .question) f (k .held .slots) (x .set) group z out))
       × (after ≡ sent-after m (k .identity .question) f (k .held .slots) (x .set) group z out) × (xs ≡ sent-lent m (k .identity .question) f (k .held .slots) (x .set) group z out)
       → (count ≡ sent-count (x .set) (count-by (x .kept) (m .n) (x .value)) out)
-      × (t ≡ sent-station m (k .identity .question) (x .stage) d (sent-bundle m (k .identity .question) f (k .held .slots) (x .set) (group-by (x .kept) (k .groups)) (count-by (x .kept) (m .n) (x .value)) out))
+      × (t ≡ sent-station m (k .identity .question) (k .jump) (x .stage) d (sent-bundle m (k .identity .question) f (k .held .slots) (x .set) (group-by (x .kept) (k .groups)) (count-by (x .kept) (m .n) (x .value)) out))
       × (after ≡ sent-after m (k .identity .question) f (k .held .slots) (x .set) (group-by (x .kept) (k .groups)) (count-by (x .kept) (m .n) (x .value)) out)
       × (xs ≡ sent-lent m (k .identity .question) f (k .held .slots) (x .set) (group-by (x .kept) (k .groups)) (count-by (x .kept) (m .n) (x .value)) out)
   next-sent f count t after xs group z eg ez h = rw (eg, ez) at h
@@ -65,7 +65,7 @@ module _ (m : Module) (k : Station) (x : Following) (d : ℕ) (out : List ℕ) w
 
     pub moved-sent : (number count : ℕ) (t : Station) (after : Module) (xs : List ℕ) → not v ≡ false → number ≡ answer (k .decision) d
         → (count ≡ sent-count (x .set) (count-by (x .kept) (m .n) (x .value)) out)
-        × (t ≡ sent-station m (k .identity .question) (x .stage) d (sent-bundle m (k .identity .question) f (k .held .slots) (x .set) (group-by (x .kept) (k .groups)) (count-by (x .kept) (m .n) (x .value)) out))
+        × (t ≡ sent-station m (k .identity .question) (k .jump) (x .stage) d (sent-bundle m (k .identity .question) f (k .held .slots) (x .set) (group-by (x .kept) (k .groups)) (count-by (x .kept) (m .n) (x .value)) out))
         × (after ≡ sent-after m (k .identity .question) f (k .held .slots) (x .set) (group-by (x .kept) (k .groups)) (count-by (x .kept) (m .n) (x .value)) out)
         × (xs ≡ sent-lent m (k .identity .question) f (k .held .slots) (x .set) (group-by (x .kept) (k .groups)) (count-by (x .kept) (m .n) (x .value)) out)
         → Answers (moving m k x d out) number count t after xs

@@ -15,6 +15,7 @@ use Rattle.format.specs.Group.{quorum, most-faulty}
 use Rattle.format.specs.Statement.{Statement, step}
 use Rattle.format.specs.Laws.Shape.{Shape, init, proposal, vote, formed-out}
 use Rattle.format.specs.Laws.ReadBack.{Proper}
+use Rattle.certificate.specs.Check.{every}
 use Rattle.certificate.specs.Exact.{every-in}
 use Rattle.station.specs.declared.Station.{Station}
 use Rattle.station.specs.Machine.{State, stage-step, has-value}
@@ -34,7 +35,7 @@ use Rattle.never_stuck.specs.Laws.Steps.{calm}
 use Rattle.never_stuck.specs.Laws.Heard.{sane-of}
 use Rattle.never_stuck.specs.Laws.Advance.{state-stage, state-question}
 use Rattle.never_stuck.specs.Laws.Phase.{At}
-use Rattle.never_stuck.specs.Laws.Level.{Within}
+use Rattle.never_stuck.specs.Laws.Level.{Waiting}
 
 -- the coin that goes with a round's proposals: 1 if a quorum proposed 1, else 0
 abbrev one-proposed : ℕ → List Statement → ℕ → ℕ → Bool
@@ -83,7 +84,7 @@ calm-one : (n : ℕ) (l : List Statement) (q r : ℕ) → (Supp n l kind-P q r 0
 unfolding lucky-coin
 calm-one n l q r two s j h e f = calm-by n l q r (one-proposed n l q r) (leb-true (quorum n) (count (has l kind-P q r 1) n)) (λ y z. omega (arith, leb-false (quorum n) (count (has l kind-P q r 1) n) y)) two s j h e f
 
-module _ (mac : List ℕ → List ℕ → List ℕ) (eight : (key ws : List ℕ) → length (mac key ws) ≡ code-words) (key : List ℕ) (n : ℕ) (low : least-stations ≤ n) (top : n ≤ most-stations) (q : ℕ) (team : ℕ → Bool)
+module _ (mac : List ℕ → List ℕ → List ℕ) (eight : (key ws : List ℕ) → length (mac key ws) ≡ code-words) (key : List ℕ) (n : ℕ) (low : least-stations ≤ n) (top : n ≤ most-stations) (q : ℕ) (team : ℕ → Bool) (floor : ℕ)
     (enough : Quorate n team) (r : ℕ) (cs : List Call) (P : Premises mac key n cs) where
   abbrev l : List Statement
   l = reads (log mac key n cs)
@@ -91,9 +92,8 @@ module _ (mac : List ℕ → List ℕ → List ℕ) (eight : (key ws : List ℕ)
   abbrev pub coin : ℕ
   coin = lucky-coin n (reads (log mac key n cs)) q r
 
-  pub calmed : (y : ℕ) → Within mac eight key n low top q team enough cs y (2 * r + 1) (2 * r + 1) → At mac eight key n low top q team enough cs y (2 * r + 1) (calm coin)
-  calmed y o =
-      record { opening = o .opening; station = o .station; waits = o .waits; in-step = in-step; held-ok = every-in (calm coin) (state-of (o .station) .held) held-calm }
+  pub calm-held : (jump : Bool) (y : ℕ) (o : Waiting mac eight key n low top q team floor enough jump cs y (2 * r + 1) (2 * r + 1)) → every (calm coin) (state-of (o .station) .held) ≡ true
+  calm-held jump y o = every-in (calm coin) (state-of (o .station) .held) held-calm
     where
       in-step : stage-step (o .station .stage) ≡ 2 * r + 1
       in-step = omega (arith, o .from, o .upto)
@@ -136,3 +136,6 @@ module _ (mac : List ℕ → List ℕ → List ℕ) (eight : (key ws : List ℕ)
           (x .1 .1 .1 ∙ ap stage-step (state-stage (o .station)) ∙ in-step) (x .1 .1 .0 ∙ asked)) (u .held)
           (all-two (Proper n) (λ s. In s took × ((s .question ≡ u .question) × (step s ≡ stage-step (u .stage)))) (u .held) (S .proper)
           (all-two (λ s. In s took) (λ s. (s .question ≡ u .question) × (step s ≡ stage-step (u .stage))) (u .held) (line-open n l y (o .station) took L (w .still-open) .among) (S .alike)))
+
+  pub calmed : (jump : Bool) (y : ℕ) → Waiting mac eight key n low top q team floor enough jump cs y (2 * r + 1) (2 * r + 1) → At mac eight key n low top q team floor enough cs y (2 * r + 1) (calm coin)
+  calmed jump y o = record { opening = o .opening; station = o .station; waits = o .waits; in-step = omega (arith, o .from, o .upto); held-ok = calm-held jump y o }

@@ -1,44 +1,46 @@
--- A bundle of a waiting station's step is heard: what a site wrote for that step, and is not held yet, is kept or ends the step; no refusal is left over.
-use mathlib.Core.Path.{_≡_, refl, sym, _∙_, subst}
+-- A bundle is heard by a waiting station: what a site wrote for the station's step, and is not held yet, is kept or ends the step; and with jump on, what a site
+-- wrote for a later step makes it jump. No refusal is left over.
+use mathlib.Core.Path.{_≡_, refl, sym, _∙_, ap, subst}
 use mathlib.Core.Bool.{Bool, true, false, not, _&&_, _||_}
 use mathlib.Core.List.{List, [], _∷_, _++_}
 use Prim.Native.Nat.{ℕ, suc, _≤_, _<_}
 use native.Mathlib.Omega.{arith}
 use lib.Dec.{eqb, ltb, leb}
 use lib.ListN.{length, length-replicate}
-use borrow.Author.Tests.{eq-eqb, ne-eqb, lt-ltb, le-leb}
+use borrow.Author.Tests.{eq-eqb, ne-eqb, ltb-true, lt-ltb, le-leb}
 use Rattle.laws.specs.Pick.{pick, not-t}
-use Rattle.laws.specs.Bools.{never, both, join}
+use Rattle.laws.specs.Bools.{never, both, join, left, right, is-false}
 use Rattle.laws.specs.All.{All, all-append}
 use Rattle.laws.specs.Refusals.{Test, test, first-failed, all-passed, none-failed, passed-front}
-use Rattle.format.specs.Numbers.{none, kept, sent, sent-decided, closed-now, output-words, conflicting, not-above, last-round, code-words, least-stations, most-stations}
+use Rattle.format.specs.Numbers.{none, kept, sent, sent-decided, closed-now, jumped, output-words, conflicting, not-above, last-round, code-words, least-stations, most-stations}
 use Rattle.format.specs.Group.{quorum, size-fits}
 use Rattle.format.specs.Words.{of-group}
 use Rattle.format.specs.Statement.{Statement, statements, step, statement-code}
 use Rattle.format.specs.Bundle.{count-in, main-of, certificate-of, bundle-fits}
-use Rattle.rules.specs.declared.Which.the-variants.{Any}
+use Rattle.rules.specs.declared.Which.the-variants.{Any, Only}
 use Rattle.rules.specs.Rules.{rule}
-use Rattle.certificate.specs.Check.{one-question, all-verify, check-by, check-tests}
+use Rattle.certificate.specs.Check.{one-question, all-verify, bundle-tests, check-by, check-tests}
 use Rattle.modules.specs.declared.Last.{Last}
 use Rattle.modules.specs.declared.Module.{Module}
 use Rattle.modules.specs.Counter.{above, pair, last-for, module-fits}
 use Rattle.modules.specs.Above.{above-in, later-step}
 use Rattle.station.specs.declared.Station.{Station}
-use Rattle.station.specs.Machine.{Next, refused, keeps, sends, began, shut, moved, ended, taken, follows, closes, decision-at, held-of, conflict, stage-step}
+use Rattle.station.specs.Machine.{Next, refused, keeps, sends, began, shut, stage-of, jumps, moved, ended, taken, follows, closes, decision-at, held-of, conflict, stage-step, place-tests, step-tests}
 use Rattle.station.specs.Words.{state-of, Lengths}
 use Rattle.station.specs.Fit.{fits}
-use Rattle.station.specs.Calls.{returned, opening, giving, give-tests}
+use Rattle.station.specs.Calls.{returned, opening, giving, station-tests, give-tests}
 use Rattle.station.specs.Returns.{unrefused}
 use Rattle.station.specs.Demand.{Reached, by-opening, by-giving}
 use Rattle.station.specs.Written.{reached-good}
 use Rattle.station.specs.Laws.Fits.{opening-fits, giving-fits}
 use Rattle.station.specs.Laws.Sane.{Sane}
 use Rattle.station.specs.Laws.FitSane.{fits-sane}
-use Rattle.station.specs.Laws.Views.{after, sent-statement, ten-tests}
+use Rattle.station.specs.Laws.Views.{after, sent-statement, jump-statement, ten-tests}
 use Rattle.agreement.specs.Maths.Taking.{steps-up}
 use Rattle.agreement.specs.Laws.Invariant.{Mine}
+use Rattle.agreement.specs.Laws.Lists.{same-line}
 use Rattle.agreement.specs.Theorem.{claim, at, in-group, rest, rest-i, rest-sound}
-use Rattle.agreement.specs.Demand.{Call, call, gives, act, modules, answer, Presents, Sound}
+use Rattle.agreement.specs.Demand.{Call, call, gives, Lineage, act, modules, answer, lineage, Presents, Sound}
 use Rattle.never_stuck.specs.Claim.{room, Waits}
 use Rattle.never_stuck.specs.Laws.Spoken.{Premises, Spoke}
 use Rattle.never_stuck.specs.Laws.Steps.{next-step}
@@ -47,19 +49,19 @@ use Rattle.never_stuck.specs.Laws.Walked.{walk}
 
 module _ (mac : List ℕ → List ℕ → List ℕ) (m : Module) (t : Station) (ws : List ℕ) (coin : ℕ) (out : List ℕ) (L : Lengths t) where
   -- where ten tests have passed and the next is refused, that is by 10
-  clash-ten : All (λ x. x .ok ≡ true) (ten-tests mac m t ws coin out L) → conflict (state-of t .stage) (main-of ws ∷ state-of t .held) ≡ true
+  clash-ten : jumps (state-of t) (main-of ws) ≡ false → All (λ x. x .ok ≡ true) (ten-tests mac m t ws coin out L) → conflict (state-of t .stage) (main-of ws ∷ state-of t .held) ≡ true
       → giving mac m t ws coin out .number ≡ conflicting
   unfolding giving returned pick first-failed
-  clash-ten p c =
+  clash-ten here p c =
       let f : first-failed (give-tests mac m t ws coin out) ≡ conflicting
-      = passed-front (ten-tests mac m t ws coin out L) (test (not (conflict (state-of t .stage) (main-of ws ∷ state-of t .held))) conflicting ∷ []) p ∙ rw c in
+      = passed-front (ten-tests mac m t ws coin out L) (test (jumps (state-of t) (main-of ws) || not (conflict (state-of t .stage) (main-of ws ∷ state-of t .held))) conflicting ∷ []) p ∙ rw (here, c) in
       rw (ne-eqb (first-failed (give-tests mac m t ws coin out)) 0 (λ z. omega arith)) f
 
   -- where all tests have passed and the module stands at the station's step, nothing is refused
-  taken-heard : first-failed (give-tests mac m t ws coin out) ≡ 0 → last-for m (t .identity .question) ≡ pair (t .identity .question) (stage-step (t .stage))
+  taken-heard : jumps (state-of t) (main-of ws) ≡ false → first-failed (give-tests mac m t ws coin out) ≡ 0 → last-for m (t .identity .question) ≡ pair (t .identity .question) (stage-step (t .stage))
       → unrefused (giving mac m t ws coin out .number) ≡ true
   unfolding giving returned pick taken ended state-of step
-  taken-heard pass stands = rw (eq-eqb (first-failed (give-tests mac m t ws coin out)) 0 pass) (by (ltb (length (after mac m t ws coin out .held)) (quorum (m .n))))
+  taken-heard here pass stands = rw (eq-eqb (first-failed (give-tests mac m t ws coin out)) 0 pass, here) (by (ltb (length (after mac m t ws coin out .held)) (quorum (m .n))))
     where
       x : Next
       x = follows (m .n) (t .stage) (after mac m t ws coin out) coin
@@ -77,7 +79,7 @@ module _ (mac : List ℕ → List ℕ → List ℕ) (m : Module) (t : Station) (
           subst (λ (l : Last). above l (t .identity .question) (step s) ≡ true) (sym stands) (above-in (pair (t .identity .question) (stage-step (t .stage))) (t .identity .question) (step s) (later-step refl higher))
 
       sent-by : (a b : Bool) → a ≡ true
-          → unrefused (returned m t out (pick a (sends (pick b sent sent-decided) s (x .first ++ x .second) (began (t .identity .question) (x .stage) d s (x .first))) (refused not-above)) .number) ≡ true
+          → unrefused (returned m t out (pick a (sends (pick b sent sent-decided) s (x .first ++ x .second) (began (m .n) (t .identity .question) (t .jump) (x .stage) d s (x .first ++ x .second))) (refused not-above)) .number) ≡ true
       sent-by true true e = refl
       sent-by true false e = refl
       sent-by false b e = never false refl e
@@ -95,9 +97,9 @@ module _ (mac : List ℕ → List ℕ → List ℕ) (m : Module) (t : Station) (
 module _ (mac : List ℕ → List ℕ → List ℕ) (eight : (key ws : List ℕ) → length (mac key ws) ≡ code-words) (key : List ℕ) (n : ℕ) (low : least-stations ≤ n) (top : n ≤ most-stations) where
   -- a station made by opening and changed only by these calls fits
   reached-fits : (i : ℕ) (t : Station) → Reached mac key n i t → fits n i t ≡ true
-  reached-fits i _ (by-opening m question v out G u) =
-      subst (λ (z : ℕ). fits n z (opening mac m question v out .station) ≡ true) (G .same-number)
-      (subst (λ (z : ℕ). fits z (m .station) (opening mac m question v out .station) ≡ true) (G .same-n) (opening-fits mac eight m question v out u))
+  reached-fits i _ (by-opening m question v jump out G u) =
+      subst (λ (z : ℕ). fits n z (opening mac m question v jump out .station) ≡ true) (G .same-number)
+      (subst (λ (z : ℕ). fits z (m .station) (opening mac m question v jump out .station) ≡ true) (G .same-n) (opening-fits mac eight m question v jump out u))
   reached-fits i _ (by-giving {t} r m ws coin out G u) =
       subst (λ (z : ℕ). fits n z (giving mac m t ws coin out .station) ≡ true) (G .same-number)
       (subst (λ (z : ℕ). fits z (m .station) (giving mac m t ws coin out .station) ≡ true) (G .same-n) (giving-fits mac eight m t ws coin out (reached-good mac key n eight i t r .lengths) u))
@@ -119,8 +121,20 @@ module _ (mac : List ℕ → List ℕ → List ℕ) (eight : (key ws : List ℕ)
         let u = up-of x k t (w .sound) p in
         fits-sane n x t top (r .0) (r .1) (reached-good mac key n eight x t (u .reached) .lengths) (reached-fits x t (u .reached)) (w .still-open)
 
-    module _ (q x k : ℕ) (t : Station) (W : Waits mac key n cs q x k t) (y : ℕ) (ws : List ℕ) (sp : Spoke mac key n cs y q (stage-step (t .stage)) ws) (new : held-of y (state-of t .held) ≡ false)
-        (coin : ℕ) (bit : coin < 2) where
+    -- a sound site has one station on a question
+    pub same-waiting : (q x k o : ℕ) (t u : Station) → Waits mac key n cs q x k t → Waits mac key n cs q x o u → t ≡ u
+    same-waiting q x k o t u a b =
+        let p = a .presents in
+        let p' = b .presents in
+        let r = in-group mac eight key n low top cs (P .given) x k (p .line) (p .is) in
+        let W = walk mac eight key n low top (rest mac eight key n low top cs (P .given) (P .few) x x) cs (P .given) (rest-sound mac eight key n low top cs (P .given) (P .few) x x (a .sound) (a .sound)) x
+        (r .0) (r .1) (rest-i mac eight key n low top cs (P .given) (P .few) x x) in
+        let e : k ≡ o = W .unique k o (p .line) (p' .line) (p .is) (p' .is)
+        (ap (λ (z : Station). z .identity .question) (p .now) ∙ a .asked ∙ sym (ap (λ (z : Station). z .identity .question) (p' .now) ∙ b .asked)) in
+        sym (p .now) ∙ ap (λ (z : Lineage). z .present) (same-line (p .line) (p' .line) (sym (p .is) ∙ ap (lineage mac key n cs x) e ∙ p' .is)) ∙ p' .now
+
+    -- what a site wrote for a step, given to a waiting station
+    module _ (q x k : ℕ) (t : Station) (W : Waits mac key n cs q x k t) (y σ : ℕ) (ws : List ℕ) (sp : Spoke mac key n cs y q σ ws) (coin : ℕ) (bit : coin < 2) where
       abbrev m : Module
       m = modules mac key n cs x
 
@@ -149,47 +163,90 @@ module _ (mac : List ℕ → List ℕ → List ℕ) (eight : (key ws : List ℕ)
           (join (size-fits n) _ (join (leb 2 n) _ (le-leb 2 n low) (le-leb n 31 top)) (join (leb 1 x) _ (le-leb 1 x (range-x .0)) (le-leb x n (range-x .1))))
           (lt-ltb coin 2 bit)) (reached-fits x t (up-t .reached))))
 
-      ten : All (λ z. z .ok ≡ true) (ten-tests mac m t ws coin room len)
-      unfolding check-by state-of
-      ten =
+      ready : All (λ z. z .ok ≡ true) (station-tests m t coin room)
+      ready = (le-leb output-words (length room) (omega (arith, length-replicate {A = ℕ} output-words 0)), (ranged, (not-t (t .closed) (W .still-open), tt)))
+
+      pub valid-here : All (λ z. z .ok ≡ true) (bundle-tests (mac (m .key)) (m .n) (Only (t .identity .question)) ws)
+      unfolding check-by
+      valid-here =
           let ok = all-passed (check-tests (mac key) n Any ws) (omega arith, (omega arith, (omega arith, (omega arith, (omega arith, tt))))) (sp .valid) in (
-            le-leb output-words (length room) (omega (arith, length-replicate {A = ℕ} output-words 0)),
+            subst (λ (z : ℕ). bundle-fits z ws ≡ true) (sym (mine .same-n)) (ok .1 .0),
             (
-              ranged,
+              join (one-question (main-of ws) (certificate-of ws)) _ (both (one-question (main-of ws) (certificate-of ws)) true (ok .1 .1 .0) .0)
+                  (eq-eqb (main-of ws .question) (t .identity .question) (sp .asked ∙ sym (W .asked))),
               (
-                not-t (t .closed) (W .still-open),
-                (
-                  subst (λ (z : ℕ). bundle-fits z ws ≡ true) (sym (mine .same-n)) (ok .1 .0),
-                  (
-                    join (one-question (main-of ws) (certificate-of ws)) _ (both (one-question (main-of ws) (certificate-of ws)) true (ok .1 .1 .0) .0)
-                        (eq-eqb (main-of ws .question) (t .identity .question) (sp .asked ∙ sym (W .asked))),
-                    (
-                      subst (λ (z : List ℕ). all-verify (mac z) (statements ws 1 (suc (count-in ws))) ≡ true) (sym (mine .same-key)) (ok .1 .1 .1 .0),
-                      (
-                        subst (λ (z : ℕ). rule z (main-of ws) (certificate-of ws) ≡ true) (sym (mine .same-n)) (ok .1 .1 .1 .1 .0),
-                        (
-                          le-leb (stage-step (t .stage)) (step (main-of ws)) (omega (arith, sp .in-step)),
-                          (
-                            le-leb (step (main-of ws)) (stage-step (t .stage)) (omega (arith, sp .in-step)),
-                            (not-t (held-of (main-of ws .station) (state-of t .held)) (subst (λ (z : ℕ). held-of z (state-of t .held) ≡ false) (sym (sp .station)) new), tt),
-                          ),
-                        ),
-                      ),
-                    ),
-                  ),
-                ),
+                subst (λ (z : List ℕ). all-verify (mac z) (statements ws 1 (suc (count-in ws))) ≡ true) (sym (mine .same-key)) (ok .1 .1 .1 .0),
+                (subst (λ (z : ℕ). rule z (main-of ws) (certificate-of ws) ≡ true) (sym (mine .same-n)) (ok .1 .1 .1 .1 .0), tt),
               ),
             ),
           )
 
-      pub heard : unrefused (answer mac key n cs (call x (gives k t ws coin room)) .number) ≡ true
-      unfolding act state-of
-      heard = go (conflict (t .stage) (main-of ws ∷ state-of t .held)) refl
-        where
-          go : (b : Bool) → conflict (t .stage) (main-of ws ∷ state-of t .held) ≡ b → unrefused (giving mac m t ws coin room .number) ≡ true
-          go true e =
-              absurd (claim mac eight key n low top cs (P .given) (P .few) .no-conflict x k t ws coin room (W .sound) (W .presents) (sp .came) (clash-ten mac m t ws coin room len ten e))
-          go false e =
-              taken-heard mac m t ws coin room len
-              (none-failed (give-tests mac m t ws coin room)
-              (all-append (λ (z : Test). z .ok ≡ true) (ten-tests mac m t ws coin room len) (test (not (conflict (t .stage) (main-of ws ∷ state-of t .held))) conflicting ∷ []) ten (not-t _ e, tt))) stands
+      -- of the station's own step, and of a site that is not held: it is heard
+      module _ (there : σ ≡ stage-step (t .stage)) (new : held-of y (state-of t .held) ≡ false) where
+        here : jumps (state-of t) (main-of ws) ≡ false
+        unfolding state-of
+        here = is-false _ (λ h. let z : stage-step (t .stage) < step (main-of ws) = ltb-true _ _ (both (t .jump) _ h .1) in omega (arith, sp .in-step))
+
+        passes-9 : All (λ z. z .ok ≡ true) (place-tests (state-of t) (main-of ws))
+        unfolding state-of
+        passes-9 = (
+          le-leb (stage-step (t .stage)) (step (main-of ws)) (omega (arith, sp .in-step)),
+          (
+            right (jumps (state-of t) (main-of ws)) _ (le-leb (step (main-of ws)) (stage-step (t .stage)) (omega (arith, sp .in-step))),
+            (right (jumps (state-of t) (main-of ws)) _ (not-t (held-of (main-of ws .station) (state-of t .held)) (subst (λ (z : ℕ). held-of z (state-of t .held) ≡ false) (sym (sp .station)) new)), tt),
+          ),
+        )
+
+        ten : All (λ z. z .ok ≡ true) (ten-tests mac m t ws coin room len)
+        ten =
+            all-append (λ (z : Test). z .ok ≡ true) (station-tests m t coin room)
+            (bundle-tests (mac (m .key)) (m .n) (Only (t .identity .question)) ws ++ place-tests (state-of t) (main-of ws)) ready
+            (all-append (λ (z : Test). z .ok ≡ true) (bundle-tests (mac (m .key)) (m .n) (Only (t .identity .question)) ws) (place-tests (state-of t) (main-of ws)) valid-here passes-9)
+
+        pub heard : unrefused (answer mac key n cs (call x (gives k t ws coin room)) .number) ≡ true
+        unfolding act state-of
+        heard = go (conflict (t .stage) (main-of ws ∷ state-of t .held)) refl
+          where
+            go : (b : Bool) → conflict (t .stage) (main-of ws ∷ state-of t .held) ≡ b → unrefused (giving mac m t ws coin room .number) ≡ true
+            go true e =
+                absurd (claim mac eight key n low top cs (P .given) (P .few) .no-conflict x k t ws coin room (W .sound) (W .presents) (sp .came) (clash-ten mac m t ws coin room len here ten e))
+            go false e =
+                taken-heard mac m t ws coin room len here
+                (none-failed (give-tests mac m t ws coin room)
+                (all-append (λ (z : Test). z .ok ≡ true) (ten-tests mac m t ws coin room len)
+                (test (jumps (state-of t) (main-of ws) || not (conflict (t .stage) (main-of ws ∷ state-of t .held))) conflicting ∷ []) ten (right (jumps (state-of t) (main-of ws)) _ (not-t _ e), tt))) stands
+
+      -- of a later step, where the station jumps: it jumps
+      module _ (on : t .jump ≡ true) (later : stage-step (t .stage) < σ) where
+        jumping : jumps (state-of t) (main-of ws) ≡ true
+        unfolding state-of
+        jumping = join (t .jump) _ on (lt-ltb (stage-step (t .stage)) (step (main-of ws)) (omega (arith, sp .in-step)))
+
+        all-tests : first-failed (give-tests mac m t ws coin room) ≡ 0
+        unfolding state-of
+        all-tests =
+            none-failed (give-tests mac m t ws coin room)
+            (all-append (λ (z : Test). z .ok ≡ true) (station-tests m t coin room)
+            (bundle-tests (mac (m .key)) (m .n) (Only (t .identity .question)) ws ++ step-tests (state-of t) (main-of ws)) ready
+            (all-append (λ (z : Test). z .ok ≡ true) (bundle-tests (mac (m .key)) (m .n) (Only (t .identity .question)) ws) (step-tests (state-of t) (main-of ws)) valid-here (
+              le-leb (stage-step (t .stage)) (step (main-of ws)) (omega (arith, sp .in-step)),
+              (left (jumps (state-of t) (main-of ws)) _ jumping, (left (jumps (state-of t) (main-of ws)) _ jumping, (left (jumps (state-of t) (main-of ws)) _ jumping, tt))),
+            )))
+
+        pub jump-heard : unrefused (answer mac key n cs (call x (gives k t ws coin room)) .number) ≡ true
+        unfolding act giving returned pick state-of step
+        jump-heard = rw (eq-eqb (first-failed (give-tests mac m t ws coin room)) 0 all-tests, jumping) (by (above (last-for m (t .identity .question)) (t .identity .question) (step s)) up)
+          where
+            s : Statement
+            s = jump-statement mac m t ws coin room
+
+            up : above (last-for m (t .identity .question)) (t .identity .question) (step s) ≡ true
+            up =
+                subst (λ (l : Last). above l (t .identity .question) (step (main-of ws)) ≡ true) (sym stands)
+                (above-in (pair (t .identity .question) (stage-step (t .stage))) (t .identity .question) (step (main-of ws)) (later-step refl (omega (arith, sp .in-step))))
+
+            by : (a : Bool) → a ≡ true
+                → unrefused (returned m t room (pick a (sends jumped s (certificate-of ws)
+                (began (m .n) (t .identity .question) (t .jump) (stage-of (main-of ws)) (t .decision) s (certificate-of ws))) (refused not-above)) .number) ≡ true
+            by true e = refl
+            by false e = never false refl e

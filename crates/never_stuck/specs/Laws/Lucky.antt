@@ -18,7 +18,7 @@ use Rattle.never_stuck.specs.Laws.Advance.{then-onward, onward-sound, Ad
 use Rattle.never_stuck.specs.Laws.Sweep.{Team, Stable, Arrived}
 use Rattle.never_stuck.specs.Laws.Phase.{At, at-on, gone-on, phase}
 
-module _ (mac : List ℕ → List ℕ → List ℕ) (eight : (key ws : List ℕ) → length (mac key ws) ≡ code-words) (key : List ℕ) (n : ℕ) (low : least-stations ≤ n) (top : n ≤ most-stations) (q : ℕ) (team : ℕ → Bool)
+module _ (mac : List ℕ → List ℕ → List ℕ) (eight : (key ws : List ℕ) → length (mac key ws) ≡ code-words) (key : List ℕ) (n : ℕ) (low : least-stations ≤ n) (top : n ≤ most-stations) (q : ℕ) (team : ℕ → Bool) (floor : ℕ)
     (enough : Quorate n team) where
   -- a site whose station has counted the votes of round r, and names a decision
   pub record Done (cs : List Call) (r y : ℕ) : Type 0 where
@@ -30,37 +30,37 @@ module _ (mac : List ℕ → List ℕ → List ℕ) (eight : (key ws : List ℕ)
     pub named : station .decision < none
     pub counted : Counted mac key n r station
 
-  done-on : (r : ℕ) → Stable mac eight key n low top q team (λ cs y. Done cs r y)
+  done-on : (r : ℕ) → Stable mac eight key n low top q team floor (λ cs y. Done cs r y)
   done-on r cs x s y ne d =
       record {
         opening = d .opening;
         station = d .station;
-        sound = onward-sound mac eight key n low top q team y cs (s .list) (s .onward) (d .sound);
+        sound = onward-sound mac eight key n low top q team floor y cs (s .list) (s .onward) (d .sound);
         presents = s .presents-on y (d .opening) (d .station) ne (d .presents);
         asked = d .asked;
         named = d .named;
         counted = d .counted;
       }
 
-  module _ (r v : ℕ) (from : 1 ≤ r) (last : r + 1 ≤ last-round) (bit : v < 2) where
+  module _ (r v : ℕ) (fl : floor ≤ 2 * r + 1) (from : 1 ≤ r) (last : r + 1 ≤ last-round) (bit : v < 2) where
     -- votes of round r for v or for none, and the coin v: all propose v
-    tossed : (cs : List Call) (x k : ℕ) (t : Station) (A : Advanced mac eight key n low top q team cs x k (t .stage) (t .decision) v (calm v)) → t .identity .question ≡ q
-        → stage-step (t .stage) ≡ 2 * r + 1 → At mac eight key n low top q team enough (A .step .list) x (2 * (r + 1)) (has-value v)
+    tossed : (cs : List Call) (x k : ℕ) (t : Station) (A : Advanced mac eight key n low top q team floor cs x k (t .stage) (t .decision) (t .jump) v (calm v)) → t .identity .question ≡ q
+        → stage-step (t .stage) ≡ 2 * r + 1 → At mac eight key n low top q team floor enough (A .step .list) x (2 * (r + 1)) (has-value v)
     tossed cs x k t A asked e =
         let g = votes-go n r v v (t .stage) (A .state) refl e (A .all-ok) in
-        gone-on mac eight key n low top q team enough (A .step .list) x k (t .stage) (t .decision) (A .state) v (A .station) (2 * (r + 1)) (has-value v) (A .ended)
+        gone-on mac eight key n low top q team floor enough (A .step .list) x k (t .stage) (t .decision) (A .state) v (A .station) (2 * (r + 1)) (has-value v) (A .ended)
         (before-last (t .stage) (omega arith)) (g .0) (eq-eqb (follows n (t .stage) (A .state) v .value) v (g .1))
 
     -- equal proposals: all vote v
-    voted : (cs : List Call) (x k : ℕ) (t : Station) (A : Advanced mac eight key n low top q team cs x k (t .stage) (t .decision) v (has-value v)) → t .identity .question ≡ q
-        → stage-step (t .stage) ≡ 2 * (r + 1) → At mac eight key n low top q team enough (A .step .list) x (2 * (r + 1) + 1) (has-value v)
+    voted : (cs : List Call) (x k : ℕ) (t : Station) (A : Advanced mac eight key n low top q team floor cs x k (t .stage) (t .decision) (t .jump) v (has-value v)) → t .identity .question ≡ q
+        → stage-step (t .stage) ≡ 2 * (r + 1) → At mac eight key n low top q team floor enough (A .step .list) x (2 * (r + 1) + 1) (has-value v)
     voted cs x k t A asked e =
         let g = proposals-go n (r + 1) v v (t .stage) (A .state) bit (omega arith) e (omega (arith, A .full)) (A .all-ok) in
-        gone-on mac eight key n low top q team enough (A .step .list) x k (t .stage) (t .decision) (A .state) v (A .station) (2 * (r + 1) + 1) (has-value v) (A .ended)
+        gone-on mac eight key n low top q team floor enough (A .step .list) x k (t .stage) (t .decision) (A .state) v (A .station) (2 * (r + 1) + 1) (has-value v) (A .ended)
         (before-last (t .stage) (omega arith)) (g .0) (eq-eqb (follows n (t .stage) (A .state) v .value) v (g .1))
 
     -- equal votes: all have decided, and go on or are closed
-    decided : (cs : List Call) (x k : ℕ) (t : Station) (A : Advanced mac eight key n low top q team cs x k (t .stage) (t .decision) v (has-value v)) → t .identity .question ≡ q
+    decided : (cs : List Call) (x k : ℕ) (t : Station) (A : Advanced mac eight key n low top q team floor cs x k (t .stage) (t .decision) (t .jump) v (has-value v)) → t .identity .question ≡ q
         → stage-step (t .stage) ≡ 2 * (r + 1) + 1 → Done (A .step .list) (r + 1) x
     decided cs x k t A asked e = go (A .ended)
       where
@@ -92,17 +92,17 @@ module _ (mac : List ℕ → List ℕ → List ℕ) (eight : (key ws : List ℕ)
             }
 
     -- from the votes of round r on, with the coin v
-    pub lucky : (cs : List Call) → Premises mac key n cs → Team mac eight key n low top q team (λ y. At mac eight key n low top q team enough cs y (2 * r + 1) (calm v))
-        → Arrived mac eight key n low top q team cs (λ l y. Done l (r + 1) y)
+    pub lucky : (cs : List Call) → Premises mac key n cs → Team mac eight key n low top q team floor (λ y. At mac eight key n low top q team floor enough cs y (2 * r + 1) (calm v))
+        → Arrived mac eight key n low top q team floor cs (λ l y. Done l (r + 1) y)
     lucky cs P each =
-        let A = phase mac eight key n low top q team enough (2 * r + 1) v bit (calm v) (λ l y. At mac eight key n low top q team enough l y (2 * (r + 1)) (has-value v))
-        (at-on mac eight key n low top q team enough (2 * (r + 1)) (has-value v)) tossed cs P each in
-        let B = phase mac eight key n low top q team enough (2 * (r + 1)) v bit (has-value v) (λ l y. At mac eight key n low top q team enough l y (2 * (r + 1) + 1) (has-value v))
-        (at-on mac eight key n low top q team enough (2 * (r + 1) + 1) (has-value v)) voted (A .list) (A .premises) (A .each) in
-        let C = phase mac eight key n low top q team enough (2 * (r + 1) + 1) v bit (has-value v) (λ l y. Done l (r + 1) y) (done-on (r + 1)) decided (B .list) (B .premises) (B .each) in
+        let A = phase mac eight key n low top q team floor enough (2 * r + 1) v fl bit (calm v) (λ l y. At mac eight key n low top q team floor enough l y (2 * (r + 1)) (has-value v))
+        (at-on mac eight key n low top q team floor enough (2 * (r + 1)) (has-value v)) tossed cs P each in
+        let B = phase mac eight key n low top q team floor enough (2 * (r + 1)) v (omega arith) bit (has-value v) (λ l y. At mac eight key n low top q team floor enough l y (2 * (r + 1) + 1) (has-value v))
+        (at-on mac eight key n low top q team floor enough (2 * (r + 1) + 1) (has-value v)) voted (A .list) (A .premises) (A .each) in
+        let C = phase mac eight key n low top q team floor enough (2 * (r + 1) + 1) v (omega arith) bit (has-value v) (λ l y. Done l (r + 1) y) (done-on (r + 1)) decided (B .list) (B .premises) (B .each) in
         record {
           list = C .list;
           premises = C .premises;
-          onward = then-onward mac eight key n low top q team cs (B .list) (C .list) (then-onward mac eight key n low top q team cs (A .list) (B .list) (A .onward) (B .onward)) (C .onward);
+          onward = then-onward mac eight key n low top q team floor cs (B .list) (C .list) (then-onward mac eight key n low top q team floor cs (A .list) (B .list) (A .onward) (B .onward)) (C .onward);
           each = C .each;
         }

@@ -1,11 +1,12 @@
--- One giving that is heard: the station keeps the bundle, or ends its step with it and goes on, or is closed behind the last votes.
+-- One giving that is heard: the station keeps the bundle, or ends its step with it and goes on, or is closed behind the last votes; or it jumps.
 use mathlib.Core.Path.{_≡_, refl, sym, _∙_, ap, subst}
 use mathlib.Core.Bool.{true, false}
-use mathlib.Core.List.{List, _∷_, _++_}
+use mathlib.Core.List.{List, [], _∷_, _++_}
 use Prim.Native.Nat.{ℕ, _≤_, _<_}
+use native.Mathlib.Omega.{arith}
 use lib.ListN.{length}
 use Rattle.laws.specs.Bools.{never}
-use Rattle.format.specs.Numbers.{kept, closed-now, last-round, code-words, least-stations, most-stations}
+use Rattle.format.specs.Numbers.{kept, closed-now, jumped, last-round, code-words, least-stations, most-stations}
 use Rattle.format.specs.Group.{quorum}
 use Rattle.format.specs.Statement.{Statement, statement-code}
 use Rattle.format.specs.Bundle.{main-of, certificate-of}
@@ -14,22 +15,22 @@ use Rattle.modules.specs.Counter.{last-for}
 use Rattle.station.specs.declared.Stage.{Stage}
 use Rattle.station.specs.declared.Station.{Station}
 use Rattle.station.specs.Machine as Mach
-use Rattle.station.specs.Machine.{State, Next, Outcome, keeps, sends, own, began, follows, closes, decision-at, keeping, stage-step, held-of}
+use Rattle.station.specs.Machine.{State, Next, Outcome, keeps, sends, own, began, stage-of, follows, closes, decision-at, keeping, stage-step, copied-value}
 use Rattle.station.specs.Words as W
 use Rattle.station.specs.Words.{state-of, Lengths}
 use Rattle.station.specs.Calls.{Returned, returned, giving, giving-outcome}
 use Rattle.station.specs.Returns.{unrefused}
 use Rattle.station.specs.Written.{reached-good}
 use Rattle.station.specs.Laws.Sane.{state-back}
-use Rattle.station.specs.Laws.Fits.{sent-sane, kept-sane}
-use Rattle.station.specs.Laws.Views.{Accepted, sent-statement, Gives, refuses, holds-on, shuts, goes-on, gives-view}
+use Rattle.station.specs.Laws.Fits.{sent-sane, kept-sane, jump-sane}
+use Rattle.station.specs.Laws.Views.{Accepted, Jumping, sent-statement, jump-statement, Gives, refuses, holds-on, shuts, goes-on, enters, gives-view}
 use Rattle.agreement.specs.Laws.Invariant.{Mine}
 use Rattle.agreement.specs.Laws.Lists.{module-now}
 use Rattle.agreement.specs.Theorem.{at, in-group, rest}
 use Rattle.agreement.specs.Demand.{Call, call, gives, act, modules, answer, Presents, Sound}
 use Rattle.never_stuck.specs.Claim.{room, Waits}
 use Rattle.never_stuck.specs.Laws.Spoken.{Premises, Spoke, presents-now, sound-next, premises-next}
-use Rattle.never_stuck.specs.Laws.Heard.{up-of, heard}
+use Rattle.never_stuck.specs.Laws.Heard.{up-of}
 
 module _ (mac : List ℕ → List ℕ → List ℕ) (eight : (key ws : List ℕ) → length (mac key ws) ≡ code-words) (key : List ℕ) (n : ℕ) (low : least-stations ≤ n) (top : n ≤ most-stations) (q : ℕ) where
   -- the statement that follows a step of site x with what is held in u
@@ -42,20 +43,17 @@ module _ (mac : List ℕ → List ℕ → List ℕ) (eight : (key ws : List ℕ)
   -- the step of stage g has ended with what is held in u, and with the decision d before it: station t has gone on, or is closed
   pub data Ended (cs : List Call) (x k : ℕ) (g : Stage) (d : ℕ) (u : State) (coin : ℕ) (t : Station) : Type 0 where
     went : closes last-round g ≡ false → Waits mac key n cs q x k t
-        → state-of t ≡ began q (follows n g u coin .stage) (decision-at g d (u .held)) (saying x g u coin) (follows n g u coin .first) → Ended cs x k g d u coin t
+        → state-of t ≡ began n q (u .jump) (follows n g u coin .stage) (decision-at g d (u .held)) (saying x g u coin) (follows n g u coin .first ++ follows n g u coin .second)
+        → Ended cs x k g d u coin t
     shut : closes last-round g ≡ true → t .closed ≡ true → t .identity .question ≡ q → t .decision ≡ decision-at g d (u .held) → Ended cs x k g d u coin t
 
-  module _ (cs : List Call) (P : Premises mac key n cs) (x k : ℕ) (t : Station) (waits : Waits mac key n cs q x k t) (y : ℕ) (ws : List ℕ) (sp : Spoke mac key n cs y q (stage-step (t .stage)) ws)
-      (new : held-of y (state-of t .held) ≡ false) (coin : ℕ) (bit : coin < 2) where
+  module _ (cs : List Call) (P : Premises mac key n cs) (x k : ℕ) (t : Station) (waits : Waits mac key n cs q x k t) (y σ : ℕ) (ws : List ℕ) (sp : Spoke mac key n cs y q σ ws)
+      (coin : ℕ) (bit : coin < 2) (un : unrefused (answer mac key n cs (call x (gives k t ws coin room)) .number) ≡ true) where
     abbrev g : Call
     g = call x (gives k t ws coin room)
 
     abbrev then : Station
     then = answer mac key n cs g .station
-
-    pub data Moved : Type 0 where
-      stays : Waits mac key n (g ∷ cs) q x k then → length (with-bundle t ws .held) < quorum n → state-of then ≡ with-bundle t ws → Moved
-      ends : length (with-bundle t ws .held) ≡ quorum n → Ended (g ∷ cs) x k (t .stage) (t .decision) (with-bundle t ws) coin then → Moved
 
     p : Presents mac key n cs x k t
     p = waits .presents
@@ -66,9 +64,6 @@ module _ (mac : List ℕ → List ℕ → List ℕ) (eight : (key ws : List ℕ)
     len : Lengths t
     len = reached-good mac key n eight x t (up-of mac eight key n low top cs P x k t (waits .sound) p .reached) .lengths
 
-    pub not-refused : unrefused (answer mac key n cs g .number) ≡ true
-    not-refused = heard mac eight key n low top cs P q x k t waits y ws sp new coin bit
-
     pub premises-then : Premises mac key n (g ∷ cs)
     premises-then = premises-next mac key n cs x k t ws coin room p (range-x .0) (range-x .1) len (sp .came) P
 
@@ -76,7 +71,7 @@ module _ (mac : List ℕ → List ℕ → List ℕ) (eight : (key ws : List ℕ)
     sound-then = sound-next mac key n cs x k t ws coin room p x (waits .sound)
 
     pub presents-then : Presents mac key n (g ∷ cs) x k then
-    presents-then = presents-now mac key n cs x k t ws coin room p not-refused
+    presents-then = presents-now mac key n cs x k t ws coin room p un
 
     mine : Mine key n (rest mac eight key n low top cs (P .given) (P .few) x x) x (modules mac key n cs x)
     mine = at mac eight key n low top cs (P .given) (P .few) x x (waits .sound) (waits .sound) .logs .mods x (range-x .0) (range-x .1)
@@ -105,6 +100,10 @@ module _ (mac : List ℕ → List ℕ → List ℕ) (eight : (key ws : List ℕ)
           not-gone-on = ap (λ (m : Module). last-for m q .question) (module-now mac key n g cs) ∙ h .1 .1;
         }
 
+    pub data Moved : Type 0 where
+      stays : Waits mac key n (g ∷ cs) q x k then → length (with-bundle t ws .held) < quorum n → state-of then ≡ with-bundle t ws → Moved
+      ends : length (with-bundle t ws .held) ≡ quorum n → Ended (g ∷ cs) x k (t .stage) (t .decision) (with-bundle t ws) coin then → Moved
+
     kept-so : (A : Accepted mac mm t ws coin room) → length (with-bundle t ws .held) < quorum n → answer mac key n cs g ≡ returned mm t room (keeps kept (with-bundle t ws)) → Moved
     unfolding returned W.as-station state-of
     kept-so A few e =
@@ -121,24 +120,65 @@ module _ (mac : List ℕ → List ℕ → List ℕ) (eight : (key ws : List ℕ)
     f = follows n (t .stage) (with-bundle t ws) coin
 
     abbrev u : State
-    u = began (t .identity .question) (f .stage) (decision-at (t .stage) (t .decision) (with-bundle t ws .held)) (sent-statement mac mm t ws coin room) (f .first)
+    u = began n (t .identity .question) (t .jump) (f .stage) (decision-at (t .stage) (t .decision) (with-bundle t ws .held)) (sent-statement mac mm t ws coin room) (f .first ++ f .second)
 
     sent-so : (j : ℕ) (A : Accepted mac mm t ws coin room) (size : length (with-bundle t ws .held) ≡ quorum n) (more : closes last-round (t .stage) ≡ false)
         → answer mac key n cs g ≡ returned mm t room (sends j (sent-statement mac mm t ws coin room) (f .first ++ f .second) u) → Moved
-    unfolding returned W.as-station
+    unfolding returned W.as-station state-of
     sent-so j A size more e =
         ends size
         (went more (waits-then (subst Onto (sym e) (refl, (waits .asked, waits .asked))))
-        (subst (λ (z : ℕ). state-of then ≡ began z (f .stage) (decision-at (t .stage) (t .decision) (with-bundle t ws .held))
-        (own (statement-code (mac key)) x z (f .kind) (f .value) (f .flag) (f .round)) (f .first)) (waits .asked)
+        (subst (λ (z : ℕ). state-of then ≡ began n z (t .jump) (f .stage) (decision-at (t .stage) (t .decision) (with-bundle t ws .held))
+        (own (statement-code (mac key)) x z (f .kind) (f .value) (f .flag) (f .round)) (f .first ++ f .second)) (waits .asked)
         (ap (λ (r : Returned). state-of (r .station)) e ∙ state-back n x u top (range-x .0) (range-x .1) (sent-sane mac eight mm t ws coin room len A size more))))
 
-    pub moved : Moved
+    -- a bundle of the station's step
+    pub moved : σ ≡ stage-step (t .stage) → Moved
     unfolding returned
-    moved = go (giving-outcome mac mm t ws coin room) refl (gives-view mac mm t ws coin room len)
+    moved there = go (giving-outcome mac mm t ws coin room) refl (gives-view mac mm t ws coin room len)
       where
         go : (o : Outcome) → giving-outcome mac mm t ws coin room ≡ o → Gives mac mm t ws coin room o → Moved
-        go _ e (refuses {k} w) = never (unrefused k) w (sym (ap (λ (r : Returned). unrefused (r .number)) (a-is ∙ ap (returned mm t room) e)) ∙ not-refused)
+        go _ e (refuses {k} w) = never (unrefused k) w (sym (ap (λ (r : Returned). unrefused (r .number)) (a-is ∙ ap (returned mm t room) e)) ∙ un)
         go _ e (holds-on A few) = kept-so A few (a-is ∙ ap (returned mm t room) e)
         go _ e (shuts A size c) = shut-so size c (a-is ∙ ap (returned mm t room) e)
         go _ e (goes-on {k} A size c a w) = sent-so k A size c (a-is ∙ ap (returned mm t room) e)
+        go _ e (enters J a) = absurd (omega (arith, J .ahead, sp .in-step))
+
+    -- a bundle of a later step
+    pub record JumpedThere : Type 0 where
+      pub waits-on : Waits mac key n (g ∷ cs) q x k then
+      pub in-step : stage-step (then .stage) ≡ σ
+      pub setting : then .jump ≡ t .jump
+      pub decision : then .decision ≡ t .decision
+      -- the statement that it wrote is all that is held
+      pub says : Statement
+      pub held : state-of then .held ≡ says ∷ []
+      pub value : says .value ≡ copied-value (main-of ws) coin
+
+    pub jumped-there : stage-step (t .stage) < σ → JumpedThere
+    unfolding returned W.as-station state-of
+    jumped-there later = go (giving-outcome mac mm t ws coin room) refl (gives-view mac mm t ws coin room len)
+      where
+        jumped-so : (J : Jumping mac mm t ws coin room) → answer mac key n cs g ≡ returned mm t room (sends jumped (jump-statement mac mm t ws coin room) (certificate-of ws)
+            (began n (t .identity .question) (t .jump) (stage-of (main-of ws)) (t .decision) (jump-statement mac mm t ws coin room) (certificate-of ws))) → JumpedThere
+        jumped-so J e =
+            record {
+              waits-on = waits-then (subst Onto (sym e) (refl, (waits .asked, waits .asked)));
+              in-step = ap (λ (r : Returned). stage-step (r .station .stage)) e ∙ sym (J .fitting .in-step) ∙ sp .in-step;
+              setting = ap (λ (r : Returned). r .station .jump) e;
+              decision = ap (λ (r : Returned). r .station .decision) e;
+              says = jump-statement mac mm t ws coin room;
+              held = ap (λ (r : Returned). state-of (r .station) .held) e
+                  ∙ ap (λ (z : State). z .held)
+                  (state-back n x
+                  (began n (t .identity .question) (t .jump) (stage-of (main-of ws)) (t .decision) (jump-statement mac mm t ws coin room) (certificate-of ws)) top (range-x .0) (range-x .1)
+                  (jump-sane mac eight mm t ws coin room J len));
+              value = refl;
+            }
+
+        go : (o : Outcome) → giving-outcome mac mm t ws coin room ≡ o → Gives mac mm t ws coin room o → JumpedThere
+        go _ e (refuses {k} w) = never (unrefused k) w (sym (ap (λ (r : Returned). unrefused (r .number)) (a-is ∙ ap (returned mm t room) e)) ∙ un)
+        go _ e (holds-on A few) = absurd (omega (arith, A .fitting .in-step, sp .in-step))
+        go _ e (shuts A size c) = absurd (omega (arith, A .fitting .in-step, sp .in-step))
+        go _ e (goes-on A size c a w) = absurd (omega (arith, A .fitting .in-step, sp .in-step))
+        go _ e (enters J a) = jumped-so J (a-is ∙ ap (returned mm t room) e)

@@ -15,31 +15,31 @@ use Rattle.never_stuck.specs.Claim.{Onward, done}
 use Rattle.never_stuck.specs.Laws.Spoken.{Premises}
 use Rattle.never_stuck.specs.Laws.Advance.{Step, then-onward}
 
-module _ (mac : List ℕ → List ℕ → List ℕ) (eight : (key ws : List ℕ) → length (mac key ws) ≡ code-words) (key : List ℕ) (n : ℕ) (low : least-stations ≤ n) (top : n ≤ most-stations) (q : ℕ) (team : ℕ → Bool) where
+module _ (mac : List ℕ → List ℕ → List ℕ) (eight : (key ws : List ℕ) → length (mac key ws) ≡ code-words) (key : List ℕ) (n : ℕ) (low : least-stations ≤ n) (top : n ≤ most-stations) (q : ℕ) (team : ℕ → Bool) (floor : ℕ) where
   -- of each site of the team
   abbrev pub Team : (ℕ → Type 0) → Type 0
   Team A = (y : ℕ) → 1 ≤ y → y ≤ n → team y ≡ true → A y
 
   -- what is known of a site stays so where another goes on
   abbrev pub Stable : (List Call → ℕ → Type 0) → Type 0
-  Stable A = (cs : List Call) (x : ℕ) (s : Step mac eight key n low top q team cs x) (y : ℕ) → (y ≡ x → ⊥) → A cs y → A (s .list) y
+  Stable A = (cs : List Call) (x : ℕ) (s : Step mac eight key n low top q team floor cs x) (y : ℕ) → (y ≡ x → ⊥) → A cs y → A (s .list) y
 
   -- a list that goes on from another, behind which something is known of each site of the team
   pub record Arrived (cs : List Call) (A : List Call → ℕ → Type 0) : Type 0 where
     pub list : List Call
     pub premises : Premises mac key n list
-    pub onward : Onward mac key n q team cs list
+    pub onward : Onward mac key n q team floor cs list
     pub each : Team (A list)
 
   module _ (Low High : List Call → ℕ → Type 0) (low-on : Stable Low) (high-on : Stable High) where
     pub record Pushed (cs : List Call) (x : ℕ) : Type 0 where
-      pub step : Step mac eight key n low top q team cs x
+      pub step : Step mac eight key n low top q team floor cs x
       pub now : High (step .list) x
 
     pub record Swept (cs : List Call) (j : ℕ) : Type 0 where
       pub list : List Call
       pub premises : Premises mac key n list
-      pub onward : Onward mac key n q team cs list
+      pub onward : Onward mac key n q team floor cs list
       pub each : Team (λ y. Low list y ⊎ High list y)
       pub first : Team (λ y. y ≤ j → High list y)
 
@@ -64,7 +64,7 @@ module _ (mac : List ℕ → List ℕ → List ℕ) (eight : (key ws : List ℕ)
                   record {
                     list = p .step .list;
                     premises = p .step .premises;
-                    onward = then-onward mac eight key n low top q team cs (w .list) (p .step .list) (w .onward) (p .step .onward);
+                    onward = then-onward mac eight key n low top q team floor cs (w .list) (p .step .list) (w .onward) (p .step .onward);
                     each = λ y a c d. one y (eqb y (suc j)) refl (w .each y a c d);
                     first = λ y a c d z. early y a c d z (eqb y (suc j)) refl;
                   }

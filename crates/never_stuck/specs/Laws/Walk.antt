@@ -1,5 +1,5 @@
--- What a sound site has written, and where its module stands: for every list, each of its stations has written a bundle of each step up to its own; and the
--- module's last pair is the station's, unless it has gone on to a later question.
+-- What a sound site has written, and where its module stands: for every list, each of its open stations has written a bundle of its step, and with jump off one
+-- of each step up to it; and the module's last pair is the station's, unless it has gone on to a later question.
 use mathlib.Core.Path.{_≡_, refl, sym, _∙_, ap, subst}
 use mathlib.Core.Bool.{Bool, true, false}
 use mathlib.Core.List.{List, [], _∷_, _++_}
@@ -50,7 +50,7 @@ module _ (mac : List ℕ → List ℕ → List ℕ) (eight : (key ws : List ℕ)
 
   pub record Up (cs : List Call) (i : ℕ) (t : Station) : Type 0 where
     pub reached : Reached mac key n i t
-    pub told : (s : ℕ) → s ≤ stage-step (t .stage) → (s ≡ 1 → ⊥) → Said mac key n cs i (t .identity .question) s any
+    pub told : t .closed ≡ false → t .jump ≡ false → (s : ℕ) → s ≤ stage-step (t .stage) → (s ≡ 1 → ⊥) → Said mac key n cs i (t .identity .question) s any
     pub latest : t .closed ≡ false → Latest cs i t
     pub has-coded : last-for (modules mac key n cs i) (t .identity .question) .coded ≡ true
     pub behind : t .identity .question ≤ last-for (modules mac key n cs i) (t .identity .question) .question
@@ -71,7 +71,7 @@ module _ (mac : List ℕ → List ℕ → List ℕ) (eight : (key ws : List ℕ)
       let Q = t .identity .question in
       record {
         reached = u .reached;
-        told = λ s a b. said-later mac key n c cs i Q s any (u .told s a b);
+        told = λ o j s a b. said-later mac key n c cs i Q s any (u .told o j s a b);
         latest = λ o. latest-later c cs i t (u .latest o);
         has-coded = ap (λ (z : Module). last-for z Q .coded) m ∙ u .has-coded;
         behind = subst (λ (z : Module). t .identity .question ≤ last-for z (t .identity .question) .question) (sym m) (u .behind);
@@ -85,7 +85,7 @@ module _ (mac : List ℕ → List ℕ → List ℕ) (eight : (key ws : List ℕ)
   up-past c cs i t q σ last le ne u =
       record {
         reached = u .reached;
-        told = λ s a b. said-later mac key n c cs i (t .identity .question) s any (u .told s a b);
+        told = λ o j s a b. said-later mac key n c cs i (t .identity .question) s any (u .told o j s a b);
         latest = λ o. latest-later c cs i t (u .latest o);
         has-coded = ap (λ (z : Last). z .coded) last;
         behind = omega (arith, ap (λ (z : Last). z .question) last);

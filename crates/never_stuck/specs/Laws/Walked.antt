@@ -11,10 +11,10 @@ use borrow.Author.Tests.{eqb-true, eqb-false, eq-eqb}
 use Rattle.laws.specs.Pick.{pick}
 use Rattle.laws.specs.Bools.{never, both, join}
 use Rattle.laws.specs.All.{All, all-append}
-use Rattle.format.specs.Numbers.{kind-INIT, none, D-GET, kept, sent, closed-now, most-statements, last-round, code-words, least-stations, most-stations}
+use Rattle.format.specs.Numbers.{kind-INIT, none, D-GET, kept, sent, closed-now, jumped, most-statements, last-round, code-words, least-stations, most-stations}
 use Rattle.format.specs.Group.{quorum}
 use Rattle.format.specs.Statement.{Statement, step}
-use Rattle.format.specs.Bundle.{main-of}
+use Rattle.format.specs.Bundle.{main-of, certificate-of}
 use Rattle.format.specs.Laws.Shape.{init}
 use Rattle.format.specs.Laws.ReadBack.{Proper}
 use Rattle.rules.specs.declared.Which.the-variants.{Any}
@@ -29,22 +29,22 @@ use Rattle.station.specs.declared.Stage.{Stage}
 use Rattle.station.specs.declared.Stage.the-variants.{Gathering}
 use Rattle.station.specs.declared.Station.{Station}
 use Rattle.station.specs.Machine as Mach
-use Rattle.station.specs.Machine.{State, Next, Outcome, keeps, sends, began, shut, follows, closes, stage-step}
+use Rattle.station.specs.Machine.{State, Next, Outcome, keeps, sends, began, shut, stage-of, follows, closes, stage-step}
 use Rattle.station.specs.Words as W
 use Rattle.station.specs.Words.{state-of, Lengths}
 use Rattle.station.specs.Calls.{Returned, returned, opening, giving, opening-outcome, giving-outcome, no-station}
 use Rattle.station.specs.Returns.{unrefused, wrote, wrote-unrefused, sent-wrote}
 use Rattle.station.specs.Demand.{message, OfGroup, Reached, by-opening, by-giving}
-use Rattle.station.specs.Written.{opening-written, giving-written, reached-good, sent-backed}
+use Rattle.station.specs.Written.{opening-written, giving-written, reached-good, sent-backed, jump-few}
 use Rattle.station.specs.Laws.Insert.{every-insert}
-use Rattle.station.specs.Laws.Sane.{state-back}
+use Rattle.station.specs.Laws.Sane.{Sane, state-back}
 use Rattle.station.specs.Laws.Keep.{steps-0}
 use Rattle.station.specs.Laws.Bundles.{backed-few}
-use Rattle.station.specs.Laws.Fits.{own-proper, init-sane, next-ready, sent-proper, sent-sane, kept-sane}
-use Rattle.station.specs.Laws.Views.{InRange, init-statement, Opens, no-opening, begins, opens-view, Accepted, after, decision-then, sent-statement, Gives, refuses, holds-on, shuts, goes-on, gives-view}
+use Rattle.station.specs.Laws.Fits.{own-proper, init-sane, next-ready, sent-proper, sent-sane, kept-sane, jump-proper, jump-fitting, jump-sane}
+use Rattle.station.specs.Laws.Views.{InRange, init-statement, Opens, no-opening, begins, opens-view, Accepted, Jumping, after, decision-then, sent-statement, jump-statement, Gives, refuses, holds-on, shuts, goes-on, enters, gives-view}
 use Rattle.agreement.specs.Maths.Just.{Coded}
 use Rattle.agreement.specs.Laws.Line.{Line, reads}
-use Rattle.agreement.specs.Laws.Giving.{parts-coded}
+use Rattle.agreement.specs.Laws.Giving.{parts-coded, given-coded}
 use Rattle.agreement.specs.Laws.Invariant.{Mine}
 use Rattle.agreement.specs.Laws.Lists.{module-now, module-other, module-same, lineage-other, lineage-refused}
 use Rattle.agreement.specs.Laws.Run.{Inv}
@@ -78,15 +78,15 @@ module _ (mac : List ℕ → List ℕ → List ℕ) (eight : (key ws : List ℕ)
         (module-now mac key n (call i a) cs ∙ ap (λ (r : Returned). r .after) e ∙ sym m-is) w
 
     -- ---- opening
-    module _ (q v : ℕ) (out : List ℕ) (J : Inv mac eight key n low top faulty (call i (opens q v out) ∷ cs)) where
+    module _ (q v setting : ℕ) (out : List ℕ) (J : Inv mac eight key n low top faulty (call i (opens q v setting out) ∷ cs)) where
       abbrev c : Call
-      c = call i (opens q v out)
+      c = call i (opens q v setting out)
 
-      o-is : answer mac key n cs c ≡ opening mac mm q v out
+      o-is : answer mac key n cs c ≡ opening mac mm q v setting out
       unfolding act
-      o-is = ap (λ (z : Module). opening mac z q v out) m-is
+      o-is = ap (λ (z : Module). opening mac z q v setting out) m-is
 
-      a-is : answer mac key n cs c ≡ returned mm no-station out (opening-outcome mac mm q v out)
+      a-is : answer mac key n cs c ≡ returned mm no-station out (opening-outcome mac mm q v setting out)
       unfolding opening
       a-is = o-is
 
@@ -95,7 +95,7 @@ module _ (mac : List ℕ → List ℕ → List ℕ) (eight : (key ws : List ℕ)
         S = init-statement mac mm q v out
 
         abbrev U : State
-        U = began q Gathering none S []
+        U = began n q (eqb setting 1) Gathering none S []
 
         abbrev T : Station
         T = W.as-station n i U
@@ -143,14 +143,14 @@ module _ (mac : List ℕ → List ℕ → List ℕ) (eight : (key ws : List ℕ)
 
           reached-T : Reached mac key n i T
           reached-T = subst (λ (z : Station). Reached mac key n i z) (sym (ap (λ (r : Returned). r .station) o-is) ∙ station-is)
-              (by-opening mm q v out group (sym (ap (λ (r : Returned). unrefused (r .number)) o-is) ∙ un))
+              (by-opening mm q v setting out group (sym (ap (λ (r : Returned). unrefused (r .number)) o-is) ∙ un))
 
           state-T : state-of T ≡ U
-          state-T = state-back n i U top lo hi (init-sane mac eight mm q v r p)
+          state-T = state-back n i U top lo hi (init-sane mac eight mm q v (eqb setting 1) r p)
 
           valid : check-by (mac key) n Any (message (answer mac key n cs c)) ≡ 0
           valid = ap (λ (z : Returned). check-by (mac key) n Any (message z)) o-is
-              ∙ opening-written mac key n eight i mm q v out group (sym (ap (λ (z : Returned). wrote (z .number)) o-is) ∙ wr)
+              ∙ opening-written mac key n eight i mm q v setting out group (sym (ap (λ (z : Returned). wrote (z .number)) o-is) ∙ wr)
 
           coded-S : Coded n (reads (log mac key n (c ∷ cs))) S
           unfolding W.as-station new-line
@@ -169,7 +169,7 @@ module _ (mac : List ℕ → List ℕ → List ℕ) (eight : (key ws : List ℕ)
           up-new =
               record {
                 reached = reached-T;
-                told = λ s x y. record { words = message (answer mac key n cs c); spoke = spoke-0 s (omega (arith, steps-0 kind-INIT 0 refl)); passes = refl };
+                told = λ o j s x y. record { words = message (answer mac key n cs c); spoke = spoke-0 s (omega (arith, steps-0 kind-INIT 0 refl)); passes = refl };
                 latest = λ x. record {
                   words = message (answer mac key n cs c);
                   spoke = spoke-0 (stage-step Gathering) (steps-0 kind-INIT 0 refl);
@@ -194,10 +194,10 @@ module _ (mac : List ℕ → List ℕ → List ℕ) (eight : (key ws : List ℕ)
               (λ o l x f z. omega (arith, lower o l f, question-T))
 
       pub open-walk : Walk mac eight key n low top (c ∷ cs) i
-      open-walk = go (opening-outcome mac mm q v out) refl (opens-view mac mm q v out)
+      open-walk = go (opening-outcome mac mm q v setting out) refl (opens-view mac mm q v setting out)
         where
-          go : (o : Outcome) → opening-outcome mac mm q v out ≡ o → Opens mac mm q v out o → Walk mac eight key n low top (c ∷ cs) i
-          go _ e (no-opening {k} z) = refused-walk (opens q v out) no-station out k z (a-is ∙ ap (returned mm no-station out) e)
+          go : (o : Outcome) → opening-outcome mac mm q v setting out ≡ o → Opens mac mm q v setting out o → Walk mac eight key n low top (c ∷ cs) i
+          go _ e (no-opening {k} z) = refused-walk (opens q v setting out) no-station out k z (a-is ∙ ap (returned mm no-station out) e)
           go _ e (begins room r p a) = opened-walk r p a (a-is ∙ ap (returned mm no-station out) e)
 
     -- ---- giving
@@ -250,7 +250,7 @@ module _ (mac : List ℕ → List ℕ → List ℕ) (eight : (key ws : List ℕ)
 
         -- nothing was written: the module is as it was
         quiet-walk : (u : State) → answer mac key n cs g .station ≡ W.as-station n i u → answer mac key n cs g .after ≡ mm → u .question ≡ Q → u .stage ≡ t .stage
-            → (u .closed ≡ false → (t .closed ≡ false) × ((ok : Statement → Bool) → every ok (state-of (W.as-station n i u) .held) ≡ true → every ok (state-of t .held) ≡ true))
+            → (u .closed ≡ false → (t .closed ≡ false) × ((u .jump ≡ t .jump) × ((ok : Statement → Bool) → every ok (state-of (W.as-station n i u) .held) ≡ true → every ok (state-of t .held) ≡ true)))
             → Walk mac eight key n low top (g ∷ cs) i
         unfolding W.as-station
         quiet-walk u is m asked stage op =
@@ -259,13 +259,13 @@ module _ (mac : List ℕ → List ℕ → List ℕ) (eight : (key ws : List ℕ)
             given-walk (W.as-station n i u) is asked
             (record {
               reached = subst (λ (z : Station). Reached mac key n i z) is reached-then;
-              told = λ s a b. subst (λ (z : ℕ). Said mac key n (g ∷ cs) i z s any) (sym asked) (U .told s (subst (λ (z : Stage). s ≤ stage-step z) stage a) b);
+              told = λ c j s a b. subst (λ (z : ℕ). Said mac key n (g ∷ cs) i z s any) (sym asked) (U .told (op c .0) (sym (op c .1 .0) ∙ j) s (subst (λ (z : Stage). s ≤ stage-step z) stage a) b);
               latest = λ a. let L = U .latest (op a .0) in
                   record {
                     words = L .words;
                     spoke = subst (λ (z : ℕ). Spoke mac key n (g ∷ cs) i z (stage-step (u .stage)) (L .words)) (sym asked)
                         (subst (λ (z : Stage). Spoke mac key n (g ∷ cs) i Q (stage-step z) (L .words)) (sym stage) (L .spoke));
-                    held = λ ok all. L .held ok (op a .1 ok all);
+                    held = λ ok all. L .held ok (op a .1 .1 ok all);
                   };
               has-coded = U .has-coded;
               behind = omega (arith, asked, U .behind);
@@ -273,44 +273,22 @@ module _ (mac : List ℕ → List ℕ → List ℕ) (eight : (key ws : List ℕ)
             })
             (λ k line ne f. up-later mac eight key n low top g cs i (line .present) me (w .up k line f))
 
-        -- a bundle of the next step was written
-        module _ (k : ℕ) (A : Accepted mac mm t ws coin out) (size : length (after mac mm t ws coin out .held) ≡ quorum n) (more : closes last-round (t .stage) ≡ false)
-            (ab : above (last-for mm Q) Q (step (sent-statement mac mm t ws coin out)) ≡ true) (wk : wrote k ≡ true) where
-          abbrev X : Next
-          X = follows n (t .stage) (after mac mm t ws coin out) coin
+        known : Line n (reads (log mac key n cs)) i t (p .line .took)
+        known = subst (λ (z : Station). Line n (reads (log mac key n cs)) i z (p .line .took)) (p .now) (I .lines i o (p .line) lo hi h (p .is))
 
-          abbrev S2 : Statement
-          S2 = sent-statement mac mm t ws coin out
-
+        -- a bundle of a later step was written, and the station is in that step: its step has ended, or it has jumped
+        module _ (k : ℕ) (S2 : Statement) (C : List Statement) (G : Stage) (d : ℕ) (mine-2 : S2 .station ≡ i) (on-2 : S2 .question ≡ Q) (step-2 : step S2 ≡ stage-step G)
+            (ab : above (last-for mm Q) Q (step S2) ≡ true) (wk : wrote k ≡ true) (proper-2 : Proper n S2) (proper-c : All (Proper n) C) (few-c : length C ≤ most-statements)
+            (coded-c : All (Coded n (reads (log mac key n cs))) C) (sane-2 : Sane n i (began n Q (t .jump) G d S2 C)) (still-open : t .closed ≡ false)
+            (from : t .jump ≡ false → (s : ℕ) → s ≤ stage-step G → (s ≡ 1 → ⊥) → (s ≤ stage-step (t .stage)) ⊎ (s ≡ stage-step G)) where
           abbrev U2 : State
-          U2 = began Q (X .stage) (decision-then mac mm t ws coin out) S2 (X .first)
+          U2 = began n Q (t .jump) G d S2 C
 
           abbrev T2 : Station
           T2 = W.as-station n i U2
 
-          step-2 : step S2 ≡ stage-step (X .stage)
-          unfolding step
-          step-2 = next-step n (t .stage) (after mac mm t ws coin out) coin
-
-          known : Line n (reads (log mac key n cs)) i t (p .line .took)
-          known = subst (λ (z : Station). Line n (reads (log mac key n cs)) i z (p .line .took)) (p .now) (I .lines i o (p .line) lo hi h (p .is))
-
-          proper-2 : Proper n S2
-          proper-2 = sent-proper mac eight mm t ws coin out len A size more
-
-          proper-c : All (Proper n) (X .first ++ X .second)
-          proper-c = let R = next-ready mac eight mm t ws coin out len A size more in all-append (Proper n) (X .first) (X .second) (R .proper) (R .more-proper)
-
-          few-c : length (X .first ++ X .second) ≤ most-statements
-          few-c = backed-few n S2 (X .first ++ X .second) top (sent-backed mac mm t ws coin out A eight len (reached-good mac key n eight i t (up-t .reached) .certain (A .still-open)) size more)
-
-          coded-c : All (Coded n (reads (log mac key n cs))) (X .first ++ X .second)
-          coded-c =
-              let a = parts-coded mac eight mm t ws coin out (log mac key n cs) (p .line .took) known A came in
-              all-append (Coded n (reads (log mac key n cs))) (X .first) (X .second) (a .0) (a .1)
-
           state-2 : state-of T2 ≡ U2
-          state-2 = state-back n i U2 top lo hi (sent-sane mac eight mm t ws coin out len A size more)
+          state-2 = state-back n i U2 top lo hi sane-2
 
           -- the module had the station's question
           same-question : modules mac key n cs i .last .question ≡ Q
@@ -321,10 +299,10 @@ module _ (mac : List ℕ → List ℕ → List ℕ) (eight : (key ws : List ℕ)
               by (later-question x) = absurd (omega (arith, up-t .behind))
               by (later-step x y) = x
 
-          module _ (e : answer mac key n cs g ≡ returned mm t out (sends k S2 (X .first ++ X .second) U2)) where
-            last-2 : last-for (modules mac key n (g ∷ cs) i) Q ≡ pair Q (stage-step (X .stage))
+          module _ (e : answer mac key n cs g ≡ returned mm t out (sends k S2 C U2)) where
+            last-2 : last-for (modules mac key n (g ∷ cs) i) Q ≡ pair Q (stage-step G)
             unfolding returned
-            last-2 = ap (λ (z : Module). last-for z Q) (module-now mac key n g cs ∙ ap (λ (r : Returned). r .after) e) ∙ ap (λ (z : ℕ). pair Q z) step-2
+            last-2 = ap (λ (z : Module). last-for z Q) (module-now mac key n g cs ∙ ap (λ (r : Returned). r .after) e) ∙ (λ z. pair (on-2 z) (step-2 z))
 
             station-2 : answer mac key n cs g .station ≡ T2
             unfolding returned
@@ -344,20 +322,20 @@ module _ (mac : List ℕ → List ℕ → List ℕ) (eight : (key ws : List ℕ)
                 held-coded mac eight key n low top (reads (log mac key n (g ∷ cs))) i T2 (p' .line .took) U2 S2
                 (subst (λ (z : Station). Line n (reads (log mac key n (g ∷ cs))) i z (p' .line .took)) (p' .now ∙ station-2) (J .lines i o (p' .line) lo hi h (p' .is))) refl state-2 refl
 
-            spoke-2 : Spoke mac key n (g ∷ cs) i Q (stage-step (X .stage)) (message (answer mac key n cs g))
+            spoke-2 : Spoke mac key n (g ∷ cs) i Q (stage-step G) (message (answer mac key n cs g))
             spoke-2 =
-                written-spoke mac eight key n low top faulty g cs J mm t out k S2 (X .first ++ X .second) U2 e wk proper-2 proper-c few-c valid-2 coded-2 coded-c i Q (stage-step (X .stage)) refl refl refl step-2
+                written-spoke mac eight key n low top faulty g cs J mm t out k S2 C U2 e wk proper-2 proper-c few-c valid-2 coded-2 coded-c i Q (stage-step G) refl mine-2 on-2 step-2
 
             up-2 : Up mac eight key n low top (g ∷ cs) i T2
             unfolding W.as-station
             up-2 =
                 record {
                   reached = subst (λ (z : Station). Reached mac key n i z) station-2 reached-then;
-                  told = λ s a b. tell s (up-to (next-is n (t .stage) (after mac mm t ws coin out) coin) s a b) b;
+                  told = λ c off s a b. tell off s (from off s a b) b;
                   latest = λ a. record {
                     words = message (answer mac key n cs g);
                     spoke = spoke-2;
-                    held = λ ok all. ap ok (main-written mac eight key n low top faulty g cs J mm t out k S2 (X .first ++ X .second) U2 e wk proper-2 proper-c few-c valid-2 coded-2 coded-c)
+                    held = λ ok all. ap ok (main-written mac eight key n low top faulty g cs J mm t out k S2 C U2 e wk proper-2 proper-c few-c valid-2 coded-2 coded-c)
                         ∙ held-single mac eight key n low top T2 U2 S2 state-2 refl ok all;
                   };
                   has-coded = ap (λ (z : Last). z .coded) last-2;
@@ -365,9 +343,10 @@ module _ (mac : List ℕ → List ℕ → List ℕ) (eight : (key ws : List ℕ)
                   in-time = λ a b. last-2;
                 }
               where
-                tell : (s : ℕ) → (s ≤ stage-step (t .stage)) ⊎ (s ≡ stage-step (X .stage)) → (s ≡ 1 → ⊥) → Said mac key n (g ∷ cs) i Q s any
-                tell s (inl a) b = said-later mac key n g cs i Q s any (up-t .told s a b)
-                tell s (inr a) b = record { words = message (answer mac key n cs g); spoke = subst (λ (z : ℕ). Spoke mac key n (g ∷ cs) i Q z (message (answer mac key n cs g))) (sym a) spoke-2; passes = refl }
+                tell : t .jump ≡ false → (s : ℕ) → (s ≤ stage-step (t .stage)) ⊎ (s ≡ stage-step G) → (s ≡ 1 → ⊥) → Said mac key n (g ∷ cs) i Q s any
+                tell off s (inl a) b = said-later mac key n g cs i Q s any (up-t .told still-open off s a b)
+                tell off s (inr a) b =
+                    record { words = message (answer mac key n cs g); spoke = subst (λ (z : ℕ). Spoke mac key n (g ∷ cs) i Q z (message (answer mac key n cs g))) (sym a) spoke-2; passes = refl }
 
             asked-2 : T2 .identity .question ≡ Q
             unfolding W.as-station
@@ -376,7 +355,45 @@ module _ (mac : List ℕ → List ℕ → List ℕ) (eight : (key ws : List ℕ)
             sent-walk : Walk mac eight key n low top (g ∷ cs) i
             sent-walk =
                 given-walk T2 station-2 asked-2 up-2
-                (λ l line ne f. up-past mac eight key n low top g cs i (line .present) Q (stage-step (X .stage)) last-2 (omega (arith, w .up l line f .behind, same-question)) (apart l line ne f) (w .up l line f))
+                (λ l line ne f. up-past mac eight key n low top g cs i (line .present) Q (stage-step G) last-2 (omega (arith, w .up l line f .behind, same-question)) (apart l line ne f) (w .up l line f))
+
+      -- the step has ended
+      module _ (k : ℕ) (A : Accepted mac mm t ws coin out) (size : length (after mac mm t ws coin out .held) ≡ quorum n) (more : closes last-round (t .stage) ≡ false)
+          (ab : above (last-for mm Q) Q (step (sent-statement mac mm t ws coin out)) ≡ true) (wk : wrote k ≡ true) where
+        abbrev X : Next
+        X = follows n (t .stage) (after mac mm t ws coin out) coin
+
+        abbrev S1 : Statement
+        S1 = sent-statement mac mm t ws coin out
+
+        step-1 : step S1 ≡ stage-step (X .stage)
+        unfolding step
+        step-1 = next-step n (t .stage) (after mac mm t ws coin out) coin
+
+        proper-1 : All (Proper n) (X .first ++ X .second)
+        proper-1 = let R = next-ready mac eight mm t ws coin out len A size more in all-append (Proper n) (X .first) (X .second) (R .proper) (R .more-proper)
+
+        ended-walk : (ung : unrefused (answer mac key n cs g .number) ≡ true)
+            → answer mac key n cs g ≡ returned mm t out (sends k S1 (X .first ++ X .second) (began n Q (t .jump) (X .stage) (decision-then mac mm t ws coin out) S1 (X .first ++ X .second)))
+            → Walk mac eight key n low top (g ∷ cs) i
+        ended-walk ung e =
+            let R = reached-good mac key n eight i t (up-t ung .reached) .certain (A .still-open) in
+            let few = backed-few n S1 (X .first ++ X .second) top (sent-backed mac mm t ws coin out A eight len R size more) in
+            let c = parts-coded mac eight mm t ws coin out (log mac key n cs) (p ung .line .took) (known ung) A came in
+            sent-walk ung k S1 (X .first ++ X .second) (X .stage) (decision-then mac mm t ws coin out) refl refl step-1 ab wk (sent-proper mac eight mm t ws coin out len A size more) proper-1 few
+            (all-append (Coded n (reads (log mac key n cs))) (X .first) (X .second) (c .0) (c .1)) (sent-sane mac eight mm t ws coin out len A size more) (A .still-open)
+            (λ off s a b. up-to (next-is n (t .stage) (after mac mm t ws coin out) coin) s a b) e
+
+      -- the station has jumped
+      jumped-walk : (K : Jumping mac mm t ws coin out) → above (last-for mm Q) Q (step (jump-statement mac mm t ws coin out)) ≡ true
+          → answer mac key n cs g ≡ returned mm t out (sends jumped (jump-statement mac mm t ws coin out) (certificate-of ws)
+          (began n Q (t .jump) (stage-of (main-of ws)) (t .decision) (jump-statement mac mm t ws coin out) (certificate-of ws))) → Walk mac eight key n low top (g ∷ cs) i
+      unfolding returned
+      jumped-walk K ab e =
+          let ung : unrefused (answer mac key n cs g .number) ≡ true = ap (λ (r : Returned). unrefused (r .number)) e in
+          sent-walk ung jumped (jump-statement mac mm t ws coin out) (certificate-of ws) (stage-of (main-of ws)) (t .decision) refl refl (jump-fitting mac eight mm t ws coin out K .in-step) ab refl
+          (jump-proper mac eight mm t ws coin out K) (K .fitting .certificate) (jump-few mac eight mm t ws coin out K) (given-coded mac eight mm t ws coin out (log mac key n cs) (p ung .line .took) (known ung) K came)
+          (jump-sane mac eight mm t ws coin out K len) (K .still-open) (λ off s a b. never (t .jump) off (K .on)) e
 
       kept-walk : (A : Accepted mac mm t ws coin out) → length (after mac mm t ws coin out .held) < quorum n → answer mac key n cs g ≡ returned mm t out (keeps kept (after mac mm t ws coin out))
           → Walk mac eight key n low top (g ∷ cs) i
@@ -385,8 +402,11 @@ module _ (mac : List ℕ → List ℕ → List ℕ) (eight : (key ws : List ℕ)
           quiet-walk (ap (λ (r : Returned). unrefused (r .number)) e) (after mac mm t ws coin out) (ap (λ (r : Returned). r .station) e) (ap (λ (r : Returned). r .after) e) refl refl
           (λ a. (
             a,
-            λ ok all. both (ok (main-of ws)) (every ok (state-of t .held)) (sym (every-insert ok (main-of ws) (state-of t .held))
-                ∙ subst (λ (z : State). every ok (z .held) ≡ true) (state-back n i (after mac mm t ws coin out) top lo hi (kept-sane mac eight mm t ws coin out len A few)) all) .1,
+            (
+              refl,
+              λ ok all. both (ok (main-of ws)) (every ok (state-of t .held)) (sym (every-insert ok (main-of ws) (state-of t .held))
+                  ∙ subst (λ (z : State). every ok (z .held) ≡ true) (state-back n i (after mac mm t ws coin out) top lo hi (kept-sane mac eight mm t ws coin out len A few)) all) .1,
+            ),
           ))
 
       shut-walk : (A : Accepted mac mm t ws coin out) (d : ℕ) → answer mac key n cs g ≡ returned mm t out (keeps closed-now (shut (after mac mm t ws coin out) d)) → Walk mac eight key n low top (g ∷ cs) i
@@ -404,7 +424,8 @@ module _ (mac : List ℕ → List ℕ → List ℕ) (eight : (key ws : List ℕ)
           go _ e (shuts A size c) = shut-walk A (decision-then mac mm t ws coin out) (b-is ∙ ap (returned mm t out) e)
           go _ e (goes-on {k} A size c a z) =
               let wk : wrote k ≡ true = ap wrote z ∙ sent-wrote (ltb (t .decision) none || eqb (decision-then mac mm t ws coin out) none) in
-              sent-walk (ap (λ (r : Returned). unrefused (r .number)) (b-is ∙ ap (returned mm t out) e) ∙ wrote-unrefused k wk) k A size c a wk (b-is ∙ ap (returned mm t out) e)
+              ended-walk k A size c a wk (ap (λ (r : Returned). unrefused (r .number)) (b-is ∙ ap (returned mm t out) e) ∙ wrote-unrefused k wk) (b-is ∙ ap (returned mm t out) e)
+          go _ e (enters K a) = jumped-walk K a (b-is ∙ ap (returned mm t out) e)
 
   -- ---- every list
   -- a coding that is refused leaves the module
@@ -428,15 +449,15 @@ module _ (mac : List ℕ → List ℕ → List ℕ) (eight : (key ws : List ℕ)
       → Walk mac eight key n low top cs i
   unfolding Given Sound lineage act
   walk faulty [] g s i lo hi h = record { up = λ k line e. absurd (let z : _≡_ {A = ℕ} 0 1 = cc in omega arith); unique = λ k o a b e f z. absurd (let z : _≡_ {A = ℕ} 0 1 = cc in omega arith) }
-  walk faulty (call j (opens q v out) ∷ cs) g s i lo hi h = by (eqb i j) refl (walk faulty cs (g .1 .1) (λ x a b c. s x a b c .1) i lo hi h)
+  walk faulty (call j (opens q v setting out) ∷ cs) g s i lo hi h = by (eqb i j) refl (walk faulty cs (g .1 .1) (λ x a b c. s x a b c .1) i lo hi h)
     where
-      by : (b : Bool) → eqb i j ≡ b → Walk mac eight key n low top cs i → Walk mac eight key n low top (call j (opens q v out) ∷ cs) i
+      by : (b : Bool) → eqb i j ≡ b → Walk mac eight key n low top cs i → Walk mac eight key n low top (call j (opens q v setting out) ∷ cs) i
       by true e w =
           let z : i ≡ j = eqb-true i j e in
-          subst (λ (y : ℕ). Walk mac eight key n low top (call y (opens q v out) ∷ cs) i) z
-          (open-walk faulty cs (inv mac eight key n low top faulty cs (g .1 .1) (λ x a b c. s x a b c .1)) i lo hi h w q v out
-          (inv mac eight key n low top faulty (call i (opens q v out) ∷ cs) ((lo, hi), g .1) (subst (λ (y : ℕ). AllSound mac eight key n low top faulty (call y (opens q v out) ∷ cs)) (sym z) s)))
-      by false e w = elsewhere (call j (opens q v out)) cs i (eqb-false i j e) w
+          subst (λ (y : ℕ). Walk mac eight key n low top (call y (opens q v setting out) ∷ cs) i) z
+          (open-walk faulty cs (inv mac eight key n low top faulty cs (g .1 .1) (λ x a b c. s x a b c .1)) i lo hi h w q v setting out
+          (inv mac eight key n low top faulty (call i (opens q v setting out) ∷ cs) ((lo, hi), g .1) (subst (λ (y : ℕ). AllSound mac eight key n low top faulty (call y (opens q v setting out) ∷ cs)) (sym z) s)))
+      by false e w = elsewhere (call j (opens q v setting out)) cs i (eqb-false i j e) w
   walk faulty (call j (gives o t ws coin out) ∷ cs) g s i lo hi h = by (eqb i j) refl (walk faulty cs (g .1 .1) (λ x a b c. s x a b c .1) i lo hi h)
     where
       by : (b : Bool) → eqb i j ≡ b → Walk mac eight key n low top cs i → Walk mac eight key n low top (call j (gives o t ws coin out) ∷ cs) i

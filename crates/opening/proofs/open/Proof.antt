@@ -16,7 +16,7 @@ returns : tie.Need-returns
 returns c =
     let a = c .before .before .before .before .args in
     let k = c .before .before .refusal in
-    refused-answers (a .m) (a .question) (a .proposal) (a .out .now) _ _ (k .ensures) (search needs) (c .none .ensures)
+    refused-answers (a .m) (a .question) (a .proposal) (a .jump) (a .out .now) _ _ (k .ensures) (search needs) (c .none .ensures)
 
 init-requires : tie.Need-init-requires
 init-requires c κs = search needs
@@ -33,7 +33,7 @@ returns-2 c =
     let a = c .before .before .before .before .before .before .before .before .before .before .before .before .args in
     let left = c .before .before .before .before .before .before .before .before .before .if1 .left in
     let zero-found : c .before .before .before .before .before .before .before .before .before .before .refusal .result ≡ 0 = search needs in
-    opens-answers (a .m) (a .question) (a .proposal) (a .out .now) _ _ _ _ _ _ _ _
+    opens-answers (a .m) (a .question) (a .proposal) (a .jump) (a .out .now) _ _ _ _ _ _ _ _
     (c .before .before .before .before .before .before .before .before .before .before .refusal .ensures) zero-found
     (c .before .before .before .before .before .before .before .before .init .ensures) (s .ensures) (λ i. c .before .before .slice-known2 .given i .fits)
 

@@ -16,7 +16,7 @@ first-requires c κs = search needs
 returns : tie.Need-returns
 returns c =
     let a = c .before .before .before .args in
-    refusal-is (a .m) (a .question) (a .proposal) (a .lent) _ _ _ (c .before .before .fits2 .ensures) (c .before .is-above .ensures) (c .first .ensures)
+    refusal-is (a .m) (a .question) (a .proposal) (a .jump) (a .lent) _ _ _ (c .before .before .fits2 .ensures) (c .before .is-above .ensures) (c .first .ensures)
 
 pub refusal-spec : {M : Type 1} → statement M
 refusal-spec = tie.close (tie.spec fits-requires is-above-requires first-requires returns)

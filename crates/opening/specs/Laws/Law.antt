@@ -3,12 +3,11 @@ use Prim.Native.Nat.{ℕ, _≤_}
 use mathlib.Core.List.{List, []}
 use mathlib.Core.Path.{_≡_, refl, sym, ap, _∙_}
 use native.Mathlib.Omega.{arith}
+use lib.Dec.{eqb}
 use lib.ListN.{length}
-use lib.Seq.{take-all}
 use borrow.Author.Tests.{le-leb, ltb-true}
 use Rattle.format.specs.declared.Fields.{Fields}
 use Rattle.format.specs.Numbers.{kind-INIT, D-GET, sent, none, output-words, most-stations}
-use Rattle.format.specs.Group.{quorum}
 use Rattle.format.specs.Statement.{step}
 use Rattle.hmac.specs.Code.{hmac-code, hmac-eight}
 use Rattle.format.specs.Words.{step-of}
@@ -34,27 +33,27 @@ unfolding Rattle.format.specs.Bundle.all-written
 no-certificate n slots group top =
     record { top = top; rising = tt; proper = tt; slotted = tt; more-proper = tt; rest = group; kept = refl; few-kept = omega arith; few = omega arith }
 
-module _ (m : Module) (question proposal : ℕ) (out slots group : List ℕ) where
-  pub opens-answers : (k count : ℕ) (t : Station) (after : Module) (xs : List ℕ) (f : Fields) → k ≡ open-refusal m question proposal (length out) → k ≡ 0
+module _ (m : Module) (question proposal jump : ℕ) (out slots group : List ℕ) where
+  pub opens-answers : (k count : ℕ) (t : Station) (after : Module) (xs : List ℕ) (f : Fields) → k ≡ open-refusal m question proposal jump (length out) → k ≡ 0
       → f ≡ own-fields m kind-INIT proposal D-GET 0
-      → (count ≡ sent-count 0 0 out) × (t ≡ sent-station m question Gathering 2 (sent-bundle m question f slots 0 group 0 out)) × (after ≡ sent-after m question f slots 0 group 0 out)
+      → (count ≡ sent-count 0 0 out) × (t ≡ sent-station m question (eqb jump 1) Gathering 2 (sent-bundle m question f slots 0 group 0 out)) × (after ≡ sent-after m question f slots 0 group 0 out)
       × (xs ≡ sent-lent m question f slots 0 group 0 out)
-      → Below xs → Answers (opening hmac-code m question proposal out) sent count t after xs
+      → Below xs → Answers (opening hmac-code m question proposal jump out) sent count t after xs
   unfolding Rattle.station.specs.Words.set-of step step-of Rattle.laws.specs.Pick.pick
   opens-answers k count t after xs f e z ef s low =
-      let P : Passed m question proposal out = passed m question proposal out (sym e ∙ z) in
+      let P : Passed m question proposal jump out = passed m question proposal jump out (sym e ∙ z) in
       let R : InRange m = in-range m (P .fit) in
-      let r = opens hmac-code m question proposal out (le-leb output-words (length out) (P .room)) (P .fit) (P .bit) (P .later) in
+      let r = opens hmac-code m question proposal jump out (le-leb output-words (length out) (P .room)) (P .fit) (P .bit) (P .setting) (P .later) in
       let p : Proper (m .n) (own-statement m question kind-INIT proposal D-GET 0) = own-proper hmac-code hmac-eight m question kind-INIT proposal D-GET 0 R (init refl refl (ltb-true _ _ (P .bit)) refl) in
       let C = no-certificate (m .n) slots group (R .at-most-31) in
       let x : xs ≡ sent-lent m question (own-fields m kind-INIT proposal D-GET 0) slots 0 group 0 out = rw (← ef) (s .3) in
       let lo : Below (sent-lent m question (own-fields m kind-INIT proposal D-GET 0) slots 0 group 0 out) = rw (← x) low in
       record {
         number-is = ap (λ (y : Returned). y .number) (sym r);
-        count-is = s .0 ∙ count-is m question kind-INIT proposal D-GET 0 Gathering none [] [] slots group C [] [] refl out (P .room) p (P .fit) (P .later) ∙ ap (λ (y : Returned). y .count) (sym r);
+        count-is = s .0 ∙ count-is m question kind-INIT proposal D-GET 0 (eqb jump 1) Gathering none [] [] slots group C [] refl out (P .room) p (P .fit) (P .later) ∙ ap (λ (y : Returned). y .count) (sym r);
         station-is = rw (← ef) (s .1)
-            ∙ station-is m question kind-INIT proposal D-GET 0 Gathering none [] [] slots group C [] [] refl out (P .room) p (P .fit) (P .later) lo (take-all (quorum (m .n)) [] (omega arith))
+            ∙ station-is m question kind-INIT proposal D-GET 0 (eqb jump 1) Gathering none [] [] slots group C [] refl out (P .room) p (P .fit) (P .later) lo
             ∙ ap (λ (y : Returned). y .station) (sym r);
-        after-is = rw (← ef) (s .2) ∙ after-is m question kind-INIT proposal D-GET 0 Gathering none [] [] slots group C [] [] refl out (P .room) p (P .fit) (P .later) ∙ ap (λ (y : Returned). y .after) (sym r);
-        lent-is = x ∙ lent-is m question kind-INIT proposal D-GET 0 Gathering none [] [] slots group C [] [] refl out (P .room) p (P .fit) (P .later) ∙ ap (λ (y : Returned). y .lent) (sym r);
+        after-is = rw (← ef) (s .2) ∙ after-is m question kind-INIT proposal D-GET 0 (eqb jump 1) Gathering none [] [] slots group C [] refl out (P .room) p (P .fit) (P .later) ∙ ap (λ (y : Returned). y .after) (sym r);
+        lent-is = x ∙ lent-is m question kind-INIT proposal D-GET 0 (eqb jump 1) Gathering none [] [] slots group C [] refl out (P .room) p (P .fit) (P .later) ∙ ap (λ (y : Returned). y .lent) (sym r);
       }

@@ -1,13 +1,15 @@
 -- Laws of sending: the count fits the words lent; what the calls answer, put together.
 use Prim.Native.Nat.{ℕ, _+_, _≤_}
-use mathlib.Core.Bool.{Bool, true, false}
+use mathlib.Core.Bool.{Bool, true, false, _&&_}
 use mathlib.Core.List.{List}
 use mathlib.Core.Path.{_≡_, refl, ap, _∙_}
 use native.Mathlib.Omega.{arith}
 use lib.Count.{ones}
+use lib.Dec.{leb}
 use lib.ListN.{length, take, replicate}
-use borrow.Author.Tests.{eq-eqb, ne-eqb}
+use borrow.Author.Tests.{eq-eqb, ne-eqb, leb-true}
 use Rattle.laws.specs.Pick.{pick, here, skip}
+use Rattle.laws.specs.Bools.{both}
 use Rattle.format.specs.declared.Fields.{Fields}
 use Rattle.format.specs.Numbers.{bundle-words, place-of, code-words}
 use Rattle.format.specs.Words.{word-of}
@@ -17,9 +19,9 @@ use Rattle.sealed.specs.Sealed.{Coded, by-coin, coding-plain, coding-coin}
 use Rattle.sealed.specs.Answers.{Answered}
 use Rattle.station.specs.declared.Stage.{Stage}
 use Rattle.station.specs.declared.Station.{Station}
-use Rattle.writer.specs.Written.{writable, lent-after, count-after}
+use Rattle.writer.specs.Written.{writable, lent-after, count-after, copyable, copy-after, copy-count}
 use Rattle.writer.specs.Laws.Writing.{writable-out}
-use Rattle.sending.specs.Sent.{drafted, asked, main-part, with-main, coded-lent, coded-after, sent-count, sent-lent, sent-bundle, sent-station, sent-after}
+use Rattle.sending.specs.Sent.{drafted, asked, main-part, with-main, coded-lent, coded-after, sent-count, sent-lent, sent-bundle, sent-station, sent-after, copy-lent, copy-module, copy-bundle}
 
 -- the word count is never over the words lent
 pub count-fits : (lent set k : ℕ) → count-after lent set k ≤ lent
@@ -40,16 +42,43 @@ main-fits lent set k h = go (writable lent set (ones set) k) refl h
     go false e h = absurd (h refl)
 
 -- what the calls of `send` answer, put together
-pub sent-all : (m : Module) (q : ℕ) (f : Fields) (g : Stage) (d : ℕ) (slots : List ℕ) (set : ℕ) (group : List ℕ) (k : ℕ) (out : List ℕ) (w0 : ℕ) (count : ℕ)
+pub sent-all : (m : Module) (q : ℕ) (f : Fields) (j : Bool) (g : Stage) (d : ℕ) (slots : List ℕ) (set : ℕ) (group : List ℕ) (k : ℕ) (out : List ℕ) (w0 : ℕ) (count : ℕ)
     (t : Station) (after : Module) (xs ys : List ℕ)
     → w0 ≡ word-of f → (count ≡ count-after (length out) set k) × (xs ≡ lent-after w0 q (replicate code-words 0) slots set group k out)
-    → (after ≡ coded-after m f count xs) × (ys ≡ coded-lent m f count xs) → t ≡ sent-station m q g d (take count ys)
-    → (count ≡ sent-count set k out) × (t ≡ sent-station m q g d (sent-bundle m q f slots set group k out)) × (after ≡ sent-after m q f slots set group k out)
+    → (after ≡ coded-after m f count xs) × (ys ≡ coded-lent m f count xs) → t ≡ sent-station m q j g d (take count ys)
+    → (count ≡ sent-count set k out) × (t ≡ sent-station m q j g d (sent-bundle m q f slots set group k out)) × (after ≡ sent-after m q f slots set group k out)
     × (ys ≡ sent-lent m q f slots set group k out)
 unfolding sent-count sent-bundle sent-after sent-lent drafted
-sent-all m q f g d slots set group k out w0 count t after xs ys ew ecx eay et =
+sent-all m q f j g d slots set group k out w0 count t after xs ys ew ecx eay et =
     let x : xs ≡ lent-after (word-of f) q (replicate 8 0) slots set group k out = rw (← ew) (ecx .1) in
     let y : ys ≡ coded-lent m f (count-after (length out) set k) (lent-after (word-of f) q (replicate 8 0) slots set group k out) = rw (← x, ← ecx .0) (eay .1) in
+    (ecx .0, rw (← y, ← ecx .0) et, rw (← x, ← ecx .0) (eay .0), y)
+
+-- the same of `send_copy`
+pub copy-fits : (have lent : ℕ) → copy-count have lent ≤ lent
+unfolding copy-count copyable pick
+copy-fits have lent = go (leb 11 have && leb have lent) refl
+  where
+    go : (b : Bool) → (leb 11 have && leb have lent) ≡ b → pick b have 0 ≤ lent
+    go true e = leb-true have lent (both (leb 11 have) _ e .1)
+    go false e = omega arith
+
+pub copy-main-fits : (have lent : ℕ) → (copy-count have lent ≡ 0 → ⊥) → place-of 1 ≤ lent
+unfolding copy-count copyable pick
+copy-main-fits have lent h = go (leb 11 have && leb have lent) refl h
+  where
+    go : (b : Bool) → (leb 11 have && leb have lent) ≡ b → (pick b have 0 ≡ 0 → ⊥) → place-of 1 ≤ lent
+    go true e h = let a = both (leb 11 have) _ e in omega (arith, leb-true 11 have (a .0), leb-true have lent (a .1))
+    go false e h = absurd (h refl)
+
+pub copied-all : (m : Module) (q : ℕ) (f : Fields) (j : Bool) (g : Stage) (d : ℕ) (ws out : List ℕ) (w0 : ℕ) (count : ℕ) (t : Station) (after : Module) (xs ys : List ℕ)
+    → w0 ≡ word-of f → (count ≡ copy-count (length ws) (length out)) × (xs ≡ copy-after w0 ws out)
+    → (after ≡ coded-after m f count xs) × (ys ≡ coded-lent m f count xs) → t ≡ sent-station m q j g d (take count ys)
+    → (count ≡ copy-count (length ws) (length out)) × (t ≡ sent-station m q j g d (copy-bundle m f ws out)) × (after ≡ copy-module m f ws out) × (ys ≡ copy-lent m f ws out)
+unfolding copy-bundle copy-module copy-lent
+copied-all m q f j g d ws out w0 count t after xs ys ew ecx eay et =
+    let x : xs ≡ copy-after (word-of f) ws out = rw (← ew) (ecx .1) in
+    let y : ys ≡ coded-lent m f (copy-count (length ws) (length out)) (copy-after (word-of f) ws out) = rw (← x, ← ecx .0) (eay .1) in
     (ecx .0, rw (← y, ← ecx .0) et, rw (← x, ← ecx .0) (eay .0), y)
 
 -- the module's answer, by the way that the code takes

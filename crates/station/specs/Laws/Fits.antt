@@ -2,64 +2,70 @@
 use Prim.Native.Nat.{ℕ, _-_, _≤_, _<_}
 use mathlib.Core.Bool.{Bool, true, false, _&&_, _||_}
 use mathlib.Core.List.{List, [], _∷_, _++_}
-use mathlib.Core.Path.{_≡_, refl, subst}
+use mathlib.Core.Path.{_≡_, refl, sym, subst}
 use native.Mathlib.Omega.{arith}
 use lib.Dec.{eqb, ltb}
-use lib.ListN.{length}
-use borrow.Author.Tests.{eqb-false, eq-eqb}
+use lib.ListN.{length, take}
+use borrow.Author.Tests.{eqb-true, eqb-false, eq-eqb}
 use Rattle.laws.specs.Pick.{pick}
-use Rattle.laws.specs.Bools.{never, join, left}
-use Rattle.laws.specs.All.{All}
-use Rattle.format.specs.Numbers.{kind-INIT, none, D-GET, last-round, code-words, least-stations}
+use Rattle.laws.specs.Bools.{never, both, join, left}
+use Rattle.laws.specs.All.{All, all-append}
+use Rattle.format.specs.Numbers.{kind-INIT, kind-P, none, D-GET, R-GET, last-round, code-words, least-stations}
 use Rattle.format.specs.Group.{quorum}
 use Rattle.format.specs.Words.{step-of}
 use Rattle.format.specs.Statement.{Statement, step, statement-code}
 use Rattle.format.specs.Bundle.{main-of, certificate-of}
-use Rattle.format.specs.Laws.Shape.{Shape, init, proposal, formed-in}
+use Rattle.format.specs.Laws.Shape.{Shape, init, proposal, vote, formed-in, formed-out}
+use Rattle.rules.specs.declared.Group.{Group}
 use Rattle.rules.specs.Rules.{Holds, some, none-votes, Backed}
+use Rattle.rules.specs.Copied.{backed-copied}
 use Rattle.modules.specs.declared.Module.{Module}
 use Rattle.modules.specs.Counter.{last-for}
 use Rattle.station.specs.declared.Stage.{Stage}
 use Rattle.station.specs.declared.Stage.the-variants.{Gathering, Proposing, Voting}
 use Rattle.station.specs.declared.Station.{Station}
-use Rattle.station.specs.Machine.{State, Outcome, own, began, shut, round-in, stage-step, supplies-for-value, supplies-for-none, closes, decision-at, decided, vote-value, follows, after-votes, carried, has-value, kept-for-value, kept-for-none, value-group, leading, no-group}
+use Rattle.station.specs.Machine.{State, Outcome, own, began, shut, round-in, stage-step, stage-of, copied-value, supplies-for-value, supplies-for-none, closes, decision-at, decided, vote-value, follows, after-votes, carried, has-value, kept-for-value, kept-for-none, value-group, leading, no-group}
 use Rattle.station.specs.Words as W
 use Rattle.station.specs.Words.{state-of, Lengths}
 use Rattle.station.specs.Fit.{fits}
 use Rattle.station.specs.Calls.{returned, opening, giving, opening-outcome, giving-outcome, no-station}
 use Rattle.format.specs.Laws.ReadBack.{Proper}
 use Rattle.station.specs.Laws.Sane.{Kept, InRounds, FlagOf, Sane, sane-fits}
-use Rattle.station.specs.Laws.Keep.{keep-sane}
+use Rattle.station.specs.Laws.FitSane.{fits-sane}
+use Rattle.station.specs.Laws.Keep.{Fitting, keep-sane, all-take, taken-for-value, taken-for-none, stage-of-rounds, stage-of-flag}
 use Rattle.station.specs.Laws.End.{Full, Given, Ready, inits-ready, inits-backed, votes-ready, votes-backed, proposals-ready, proposals-backed}
-use Rattle.station.specs.Laws.Views.{InRange, Accepted, after, decision-then, sent-statement, Gives, refuses, holds-on, shuts, goes-on, gives-view, sane-before, full-after, init-statement, Opens, no-opening, begins, opens-view}
+use Rattle.station.specs.Laws.Views.{InRange, Accepted, Jumping, jump-statement, after, decision-then, sent-statement, Gives, refuses, holds-on, shuts, goes-on, enters, gives-view, sane-before, full-after, init-statement, Opens, no-opening, begins, opens-view}
 use Rattle.station.specs.Returns.{unrefused}
 
 -- ---- a station that has just sent
-module _ (n number question d : ℕ) (g : Stage) (s : Statement) (c : List Statement) (big : least-stations ≤ n) (p : Proper n s) (mine : s .station ≡ number)
+module _ (n number question d : ℕ) (jump : Bool) (g : Stage) (s : Statement) (c : List Statement) (big : least-stations ≤ n) (p : Proper n s) (mine : s .station ≡ number)
     (low : 1 ≤ s .station) (asked : s .question ≡ question) (steps : step s ≡ stage-step g) (r : InRounds g) (f : FlagOf g s) (e : d ≤ none)
     (cp : All (Proper n) c) (ca : All (λ s. s .question ≡ question) c)
-    (one : supplies-for-value g s ≡ true → Holds (value-group n g (s .value)) c)
-    (two : supplies-for-none g s ≡ true → Holds (none-votes n (round-in g - 1)) c) where
+    (one : supplies-for-value g s ≡ true → Holds (value-group n g (s .value)) (take (quorum n) c))
+    (two : supplies-for-none g s ≡ true → Holds (none-votes n (round-in g - 1)) (take (quorum n) c)) where
   nothing : Kept n question no-group []
   nothing = record { as-asked = record { size = refl; rising = tt; each = tt }; proper = tt; alike = tt }
 
-  for-value-kept : Kept n question (kept-for-value n g (s ∷ [])) (pick (supplies-for-value g s) c [])
+  kept-front : (h : Group) → Holds h (take (quorum n) c) → Kept n question h (take (quorum n) c)
+  kept-front h a = record { as-asked = a; proper = all-take (Proper n) (quorum n) c cp; alike = all-take (λ s. s .question ≡ question) (quorum n) c ca }
+
+  for-value-kept : Kept n question (kept-for-value n g (s ∷ [])) (pick (supplies-for-value g s) (take (quorum n) c) [])
   unfolding kept-for-value some leading pick
   for-value-kept = go (supplies-for-value g s) refl
     where
-      go : (b : Bool) → supplies-for-value g s ≡ b → Kept n question (pick (b || false) (value-group n g (pick b (s .value) 2)) no-group) (pick b c [])
-      go true x = record { as-asked = one x; proper = cp; alike = ca }
+      go : (b : Bool) → supplies-for-value g s ≡ b → Kept n question (pick (b || false) (value-group n g (pick b (s .value) 2)) no-group) (pick b (take (quorum n) c) [])
+      go true x = kept-front (value-group n g (s .value)) (one x)
       go false x = nothing
 
-  for-none-kept : Kept n question (kept-for-none n g (s ∷ [])) (pick (supplies-for-none g s) c [])
+  for-none-kept : Kept n question (kept-for-none n g (s ∷ [])) (pick (supplies-for-none g s) (take (quorum n) c) [])
   unfolding kept-for-none some pick
   for-none-kept = go (supplies-for-none g s) refl
     where
-      go : (b : Bool) → supplies-for-none g s ≡ b → Kept n question (pick (b || false) (none-votes n (round-in g - 1)) no-group) (pick b c [])
-      go true x = record { as-asked = two x; proper = cp; alike = ca }
+      go : (b : Bool) → supplies-for-none g s ≡ b → Kept n question (pick (b || false) (none-votes n (round-in g - 1)) no-group) (pick b (take (quorum n) c) [])
+      go true x = kept-front (none-votes n (round-in g - 1)) (two x)
       go false x = nothing
 
-  pub began-sane : Sane n number (began question g d s c)
+  pub began-sane : Sane n number (began n question jump g d s c)
   unfolding some
   began-sane =
       record {
@@ -142,11 +148,11 @@ module _ (mac : List ℕ → List ℕ → List ℕ) (eight : (key ws : List ℕ)
         eight = eight (m .key) _;
       }
 
-  pub init-sane : (m : Module) (question proposal : ℕ) → InRange m → proposal < 2
-      → Sane (m .n) (m .station) (began question Gathering none (init-statement mac m question proposal []) [])
+  pub init-sane : (m : Module) (question proposal : ℕ) (jump : Bool) → InRange m → proposal < 2
+      → Sane (m .n) (m .station) (began (m .n) question jump Gathering none (init-statement mac m question proposal []) [])
   unfolding step
-  init-sane m question p r v =
-      began-sane (m .n) (m .station) question none Gathering (init-statement mac m question p []) [] (r .at-least-2)
+  init-sane m question p jump r v =
+      began-sane (m .n) (m .station) question none jump Gathering (init-statement mac m question p []) [] (r .at-least-2)
       (own-proper m question kind-INIT p D-GET 0 r (init refl refl v refl)) refl (r .low) refl refl tt tt (omega arith) tt tt
       (λ e. never false refl e) (λ e. never false refl e)
 
@@ -174,21 +180,87 @@ module _ (mac : List ℕ → List ℕ → List ℕ) (eight : (key ws : List ℕ)
         (next-ready size c .shape (sent-statement mac m t ws coin out) refl refl refl refl)
 
     pub sent-sane : length (k .held) ≡ quorum (m .n) → closes last-round (t .stage) ≡ false
-        → Sane (m .n) (m .station) (began (t .identity .question) (follows (m .n) (t .stage) k coin .stage) (decision-then mac m t ws coin out)
-        (sent-statement mac m t ws coin out) (follows (m .n) (t .stage) k coin .first))
+        → Sane (m .n) (m .station) (began (m .n) (t .identity .question) (t .jump) (follows (m .n) (t .stage) k coin .stage) (decision-then mac m t ws coin out)
+        (sent-statement mac m t ws coin out) (follows (m .n) (t .stage) k coin .first ++ follows (m .n) (t .stage) k coin .second))
     unfolding step
-    sent-sane size c =
+    sent-sane size c-on =
         let x = follows (m .n) (t .stage) k coin in
-        let R = next-ready size c in
-        began-sane (m .n) (m .station) (t .identity .question) (decision-then mac m t ws coin out) (x .stage) (sent-statement mac m t ws coin out) (x .first)
-        (A .range .at-least-2) (sent-proper size c) refl (A .range .low) refl (λ i. step-of (R .kind i) (R .round i)) (R .rounds) (R .flag (sent-statement mac m t ws coin out) refl)
-        (decision-low (t .stage) (t .decision) (k .held) (decision-before (m .n) (m .station) t (sane-before mac m t ws coin out L A))) (R .proper) (R .alike)
-        (R .for-value (sent-statement mac m t ws coin out) refl refl) (R .for-none (sent-statement mac m t ws coin out) refl refl)
+        let R = next-ready size c-on in
+        let c = x .first ++ x .second in
+        began-sane (m .n) (m .station) (t .identity .question) (decision-then mac m t ws coin out) (t .jump) (x .stage) (sent-statement mac m t ws coin out) c
+        (A .range .at-least-2) (sent-proper size c-on) refl (A .range .low) refl (λ i. step-of (R .kind i) (R .round i)) (R .rounds) (R .flag (sent-statement mac m t ws coin out) refl)
+        (decision-low (t .stage) (t .decision) (k .held) (decision-before (m .n) (m .station) t (sane-before mac m t ws coin out L A)))
+        (all-append (Proper (m .n)) (x .first) (x .second) (R .proper) (R .more-proper))
+        (all-append (λ s. s .question ≡ t .identity .question) (x .first) (x .second) (R .alike) (R .more-alike))
+        (λ e. subst (λ (l : List Statement). Holds (value-group (m .n) (x .stage) (x .value)) l) (sym (R .front)) (R .for-value (sent-statement mac m t ws coin out) refl refl e))
+        (λ e. subst (λ (l : List Statement). Holds (none-votes (m .n) (round-in (x .stage) - 1)) l) (sym (R .front)) (R .for-none (sent-statement mac m t ws coin out) refl refl e))
 
     pub kept-sane : length (k .held) < quorum (m .n) → Sane (m .n) (m .station) k
     kept-sane few = keep-sane (m .n) (m .station) (state-of t) (main-of ws) (certificate-of ws) (sane-before mac m t ws coin out L A) (A .fitting) (A .new) few
 
-  -- each station that is returned is one of these three
+  -- ---- a jump
+  module _ (m : Module) (t : Station) (ws : List ℕ) (coin : ℕ) (out : List ℕ) (J : Jumping mac m t ws coin out) where
+    abbrev u : Statement
+    u = jump-statement mac m t ws coin out
+
+    given-shape : Shape (main-of ws)
+    given-shape = formed-out (m .n) (main-of ws) (J .fitting .proper .formed) .shape
+
+    up : 0 < step (main-of ws)
+    up = omega (arith, J .ahead)
+
+    -- the value is the given one, but for an R-GET proposal, where it is the coin
+    pub copied-else : (main-of ws .kind ≡ kind-P → main-of ws .flag ≡ R-GET → ⊥) → u .value ≡ main-of ws .value
+    unfolding pick
+    copied-else other = go (eqb (main-of ws .kind) kind-P && eqb (main-of ws .flag) R-GET) refl
+      where
+        go : (b : Bool) → (eqb (main-of ws .kind) kind-P && eqb (main-of ws .flag) R-GET) ≡ b → pick b coin (main-of ws .value) ≡ main-of ws .value
+        go true e = let a = both (eqb (main-of ws .kind) kind-P) _ e in absurd (other (eqb-true _ _ (a .0)) (eqb-true _ _ (a .1)))
+        go false e = refl
+
+    copied-low : (v : ℕ) → main-of ws .value < v → 2 ≤ v → u .value < v
+    unfolding pick
+    copied-low v low two = go (eqb (main-of ws .kind) kind-P && eqb (main-of ws .flag) R-GET)
+      where
+        go : (b : Bool) → pick b coin (main-of ws .value) < v
+        go true = omega (arith, J .coin-bit)
+        go false = low
+
+    pub jump-proper : Proper (m .n) u
+    jump-proper = own-proper m (t .identity .question) (main-of ws .kind) (copied-value (main-of ws) coin) (main-of ws .flag) (main-of ws .round) (J .range) (shaped given-shape)
+      where
+        shaped : Shape (main-of ws) → Shape u
+        shaped (init a b c d) = init a b (copied-low 2 c (omega arith)) d
+        shaped (proposal a b c d e) = proposal a b c (copied-low 2 d (omega arith)) e
+        shaped (vote a b c d e) = vote a b c (let z : u .value < 3 = copied-low 3 (omega (arith, d)) (omega arith) in omega arith) e
+
+    -- "no rule looks at the main statement's station or code": the own statement fits where the given one does
+    pub jump-fitting : Fitting (m .n) (state-of t .question) (stage-of (main-of ws)) u (certificate-of ws)
+    unfolding state-of step
+    jump-fitting =
+        record {
+          proper = jump-proper;
+          certificate = J .fitting .certificate;
+          asked = refl;
+          alike = J .fitting .alike;
+          in-step = J .fitting .in-step;
+          backed = backed-copied (m .n) (main-of ws) u refl refl refl copied-else (certificate-of ws) (J .fitting .backed);
+        }
+
+    pub jump-rounds : InRounds (stage-of (main-of ws))
+    jump-rounds = stage-of-rounds (main-of ws) given-shape up
+
+    pub jump-sane : Lengths t → Sane (m .n) (m .station) (began (m .n) (t .identity .question) (t .jump) (stage-of (main-of ws)) (t .decision) u (certificate-of ws))
+    unfolding state-of
+    jump-sane L =
+        began-sane (m .n) (m .station) (t .identity .question) (t .decision) (t .jump) (stage-of (main-of ws)) u (certificate-of ws) (J .range .at-least-2) jump-proper refl (J .range .low) refl
+        (jump-fitting .in-step) jump-rounds (stage-of-flag (main-of ws) u refl)
+        (decision-before (m .n) (m .station) t (fits-sane (m .n) (m .station) t (J .range .at-most-31) (J .range .low) (J .range .high) L (J .fit) (J .still-open)))
+        (J .fitting .certificate) (J .fitting .alike)
+        (taken-for-value (m .n) (state-of t .question) (stage-of (main-of ws)) u (certificate-of ws) jump-fitting jump-rounds)
+        (taken-for-none (m .n) (state-of t .question) (stage-of (main-of ws)) u (certificate-of ws) jump-fitting jump-rounds)
+
+  -- each station that is returned is one of these four
   shut-fits : (n number : ℕ) (t : State) → t .closed ≡ true → fits n number (W.as-station n number t) ≡ true
   unfolding fits W.as-station
   shut-fits n number t e = join (eqb n n && eqb number number) _ (join (eqb n n) _ (eq-eqb n n refl) (eq-eqb number number refl)) (rw e)
@@ -205,14 +277,16 @@ module _ (mac : List ℕ → List ℕ → List ℕ) (eight : (key ws : List ℕ)
       go _ (shuts A size c) u =
           shut-fits (m .n) (m .station) (shut (after mac m t ws coin out) (decision-then mac m t ws coin out)) refl
       go _ (goes-on A size c above k) u = sane-fits (m .n) (m .station) _ (A .range .at-most-31) (A .range .low) (A .range .high) (sent-sane m t ws coin out L A size c)
+      go _ (enters J above) u = sane-fits (m .n) (m .station) _ (J .range .at-most-31) (J .range .low) (J .range .high) (jump-sane m t ws coin out J L)
 
-  pub opening-fits : (m : Module) (question v : ℕ) (out : List ℕ) → unrefused (opening mac m question v out .number) ≡ true
-      → fits (m .n) (m .station) (opening mac m question v out .station) ≡ true
+  pub opening-fits : (m : Module) (question v jump : ℕ) (out : List ℕ) → unrefused (opening mac m question v jump out .number) ≡ true
+      → fits (m .n) (m .station) (opening mac m question v jump out .station) ≡ true
   unfolding opening returned
-  opening-fits m question v out = go (opening-outcome mac m question v out) (opens-view mac m question v out)
+  opening-fits m question v jump out = go (opening-outcome mac m question v jump out) (opens-view mac m question v jump out)
     where
-      go : (o : Outcome) → Opens mac m question v out o → unrefused (returned m no-station out o .number) ≡ true
+      go : (o : Outcome) → Opens mac m question v jump out o → unrefused (returned m no-station out o .number) ≡ true
           → fits (m .n) (m .station) (returned m no-station out o .station) ≡ true
       go _ (no-opening e) u = never _ e u
       go _ (begins room r p a) u =
-          sane-fits (m .n) (m .station) (began question Gathering none (init-statement mac m question v out) []) (r .at-most-31) (r .low) (r .high) (init-sane m question v r p)
+          sane-fits (m .n) (m .station) (began (m .n) question (eqb jump 1) Gathering none (init-statement mac m question v out) []) (r .at-most-31) (r .low) (r .high)
+          (init-sane m question v (eqb jump 1) r p)

@@ -23,7 +23,7 @@ use Rattle.rules.specs.Backed.{d-get-first, d-get-later}
 use Rattle.rules.specs.Rules.{Rising, Holds, some, inits, proposals, none-votes, d-get-group, Backed, rule-1, rule-2, rule-3, rule-4, rule-5, rule-6, rule-7}
 use Rattle.station.specs.declared.Stage.{Stage}
 use Rattle.station.specs.declared.Stage.the-variants.{Gathering, Proposing, Voting}
-use Rattle.station.specs.Machine.{State, kind-in, round-in, stage-step, held-of, supplies-for-value, supplies-for-none, takes, insert, keeping, kept-for-value, kept-for-none, value-group, leading, no-group}
+use Rattle.station.specs.Machine.{State, kind-in, round-in, stage-step, stage-of, proposing, voting, held-of, supplies-for-value, supplies-for-none, takes, insert, keeping, kept-for-value, kept-for-none, value-group, leading, no-group}
 use Rattle.format.specs.Laws.ReadBack.{Proper}
 use Rattle.station.specs.Laws.Insert.{insert-all, insert-rising, some-insert, leading-new, leading-other, leading-old, lower-some}
 use Rattle.station.specs.Laws.Sane.{Kept, InRounds, FlagOf, Sane}
@@ -61,6 +61,27 @@ same-step m (Proposing p x) (vote k l r v f) i e = absurd (omega (arith, steps-V
 same-step m (Voting p) (init k r v f) i e = absurd (omega (arith, steps-0 (m .kind) (m .round) k, steps-V kind-V (p .0) refl))
 same-step m (Voting p) (proposal k l r v f) i e = absurd (omega (arith, steps-P (m .kind) (m .round) k, steps-V kind-V (p .0) refl))
 same-step m (Voting p) (vote k l r v f) i e = (k, omega (arith, steps-V (m .kind) (m .round) k, steps-V kind-V (p .0) refl))
+
+-- ---- the stage that a statement of a later step belongs to
+pub stage-of-step : (m : Statement) → Shape m → 0 < step m → step m ≡ stage-step (stage-of m)
+unfolding step pick
+stage-of-step m (init k r v f) up = absurd (omega (arith, steps-0 (m .kind) (m .round) k))
+stage-of-step m (proposal k l r v f) up = rw (eq-eqb (m .kind) kind-P k) (steps-P (m .kind) (m .round) k ∙ sym (steps-P kind-P (m .round) refl))
+stage-of-step m (vote k l r v f) up = rw (ne-eqb (m .kind) kind-P (λ z. omega arith)) (steps-V (m .kind) (m .round) k ∙ sym (steps-V kind-V (m .round) refl))
+
+pub stage-of-rounds : (m : Statement) → Shape m → 0 < step m → InRounds (stage-of m)
+unfolding step pick
+stage-of-rounds m (init k r v f) up = absurd (omega (arith, steps-0 (m .kind) (m .round) k))
+stage-of-rounds m (proposal k l r v f) up = rw (eq-eqb (m .kind) kind-P k) (l, r)
+stage-of-rounds m (vote k l r v f) up = rw (ne-eqb (m .kind) kind-P (λ z. omega arith)) (l, r)
+
+pub stage-of-flag : (m s : Statement) → s .flag ≡ m .flag → FlagOf (stage-of m) s
+unfolding pick
+stage-of-flag m s e = go (eqb (m .kind) kind-P)
+  where
+    go : (b : Bool) → FlagOf (pick b (proposing (m .round) (m .flag)) (voting (m .round))) s
+    go true = sym e
+    go false = tt
 
 -- ---- the groups that a bundle supplies
 whole : (g : Group) (c : List Statement) (k : ℕ) → g .size ≤ k → Holds g c → Holds g (take k c)
@@ -111,7 +132,7 @@ module _ (n question : ℕ) (g : Stage) (m : Statement) (c : List Statement) (F 
   first-or-given r e (inl x) = inl (e ∙ eqb-true r 1 x)
   first-or-given r e (inr x) = inr (eqb-true (m .flag) D-GET x)
 
-  taken-for-value : supplies-for-value g m ≡ true → Holds (value-group n g (m .value)) (take (quorum n) c)
+  pub taken-for-value : supplies-for-value g m ≡ true → Holds (value-group n g (m .value)) (take (quorum n) c)
   taken-for-value e = go g e is-so
     where
       go : (g : Stage) → supplies-for-value g m ≡ true → (m .kind ≡ kind-in g) × (m .round ≡ round-in g) → Holds (value-group n g (m .value)) (take (quorum n) c)
@@ -119,7 +140,7 @@ module _ (n question : ℕ) (g : Stage) (m : Statement) (c : List Statement) (F 
       go (Proposing p x) e k = rw (← k .1) (proposal-group n m c (k .0) (first-or-given (p .0) (k .1) (either (eqb (p .0) 1) _ e)) (F .backed))
       go (Voting p) e k = rw (← k .1) (vote-group n m c (k .0) (ltb-true _ _ e) (F .backed))
 
-  taken-for-none : supplies-for-none g m ≡ true → Holds (none-votes n (round-in g - 1)) (take (quorum n) c)
+  pub taken-for-none : supplies-for-none g m ≡ true → Holds (none-votes n (round-in g - 1)) (take (quorum n) c)
   taken-for-none e = go g e is-so
     where
       go : (g : Stage) → supplies-for-none g m ≡ true → (m .kind ≡ kind-in g) × (m .round ≡ round-in g) → Holds (none-votes n (round-in g - 1)) (take (quorum n) c)

@@ -277,4 +277,4 @@ module _ (n number : ℕ) (t : State) (top : n ≤ most-stations) (lo : 1 ≤ nu
       = ap (statements (group-words (t .for-value)) 0) (sym (S .for-value .as-asked .size)) ∙ statements-back n (t .for-value) (replicate (160 - length (t .for-value) * 10) 0) top (S .for-value .proper) in
       let two : statements (group-words (t .for-none)) 0 (kept-for-none n (t .stage) (t .held) .size) ≡ t .for-none
       = ap (statements (group-words (t .for-none)) 0) (sym (S .for-none .as-asked .size)) ∙ statements-back n (t .for-none) (replicate (160 - length (t .for-none) * 10) 0) top (S .for-none .proper) in
-      rw h (λ i. record { question = t .question; stage = t .stage; closed = t .closed; decision = t .decision; held = t .held; for-value = one i; for-none = two i })
+      rw h (λ i. record { question = t .question; stage = t .stage; closed = t .closed; jump = t .jump; decision = t .decision; held = t .held; for-value = one i; for-none = two i })

@@ -8,10 +8,10 @@ use lib.Dec.{eqb, ltb, leb}
 use lib.ListN.{length}
 use borrow.Author.Tests.{eqb-true, eqb-false, ltb-true, ltb-false, leb-true, not-true, not-false}
 use Rattle.laws.specs.Pick.{pick}
-use Rattle.laws.specs.Bools.{both}
+use Rattle.laws.specs.Bools.{never, both}
 use Rattle.laws.specs.Refusals.{Test, test, first-failed, all-passed, failed-one, passed-until}
 use Rattle.laws.specs.All.{All, all-map, all-two}
-use Rattle.format.specs.Numbers.{kind-INIT, none, D-GET, kept, sent, sent-decided, closed-now, output-words, conflicting, not-above, last-round, least-stations, most-stations}
+use Rattle.format.specs.Numbers.{kind-INIT, none, D-GET, kept, sent, sent-decided, closed-now, jumped, output-words, conflicting, not-above, last-round, least-stations, most-stations}
 use Rattle.format.specs.Group.{size-fits, quorum}
 use Rattle.format.specs.Statement.{Statement, statements, well-formed, verifies, step, statement-code}
 use Rattle.format.specs.Bundle.{count-in, main-of, certificate-of}
@@ -25,9 +25,10 @@ use Rattle.certificate.specs.Valid.{Bundle}
 use Rattle.certificate.specs.Exact.{bundle-out, every-out}
 use Rattle.modules.specs.declared.Module.{Module}
 use Rattle.modules.specs.Counter.{above, module-fits, last-for}
+use Rattle.station.specs.declared.Stage.{Stage}
 use Rattle.station.specs.declared.Stage.the-variants.{Gathering}
 use Rattle.station.specs.declared.Station.{Station}
-use Rattle.station.specs.Machine.{State, Outcome, refused, keeps, sends, Next, own, began, opened, keeping, closes, decision-at, shut, follows, moved, ended, taken, held-of, conflict, place-tests, stage-step}
+use Rattle.station.specs.Machine.{State, Outcome, refused, keeps, sends, Next, own, began, opened, stage-of, jumps, copied-value, entered, answered, keeping, closes, decision-at, shut, follows, moved, ended, taken, held-of, conflict, place-tests, stage-step}
 use Rattle.station.specs.Words.{state-of, Lengths}
 use Rattle.station.specs.Fit.{fits}
 use Rattle.station.specs.Returns.{unrefused}
@@ -36,8 +37,17 @@ use Rattle.format.specs.Laws.ReadBack.{Proper}
 use Rattle.station.specs.Laws.Insert.{insert-length}
 use Rattle.station.specs.Laws.Sane.{Sane}
 use Rattle.station.specs.Laws.FitSane.{fits-sane, eights}
-use Rattle.station.specs.Laws.Keep.{Fitting}
+use Rattle.station.specs.Laws.Keep.{Fitting, stage-of-step}
 use Rattle.station.specs.Laws.End.{Full, full-grown}
+
+-- where the first of two is false, the second is what both come to
+second-of : (a b : Bool) → a ≡ false → (a || b) ≡ true → b ≡ true
+second-of true b e h = never true e refl
+second-of false b e h = h
+
+neither : (a b : Bool) → (a || b) ≡ false → (a ≡ false) × (b ≡ false)
+neither true b h = never true h refl
+neither false b h = (refl, h)
 
 -- a module in range
 pub record InRange (m : Module) : Type 0 where
@@ -69,6 +79,24 @@ module _ (mac : List ℕ → List ℕ → List ℕ) where
       pub new : held-of (main-of ws .station) (state-of t .held) ≡ false
       pub calm : conflict (state-of t .stage) (main-of ws ∷ state-of t .held) ≡ false
 
+    -- all tests but 12 have passed, and the bundle makes the station jump: it fits the stage that its main statement belongs to
+    pub record Jumping : Type 0 where
+      pub room : output-words ≤ length out
+      pub range : InRange m
+      pub coin-bit : coin < 2
+      pub fit : fits (m .n) (m .station) t ≡ true
+      pub still-open : t .closed ≡ false
+      pub bundle : Bundle (m .n) ws
+      pub codes : All (λ s. verifies (mac (m .key)) s ≡ true) (statements ws 1 (suc (count-in ws)))
+      pub fitting : Fitting (m .n) (state-of t .question) (stage-of (main-of ws)) (main-of ws) (certificate-of ws)
+      pub on : t .jump ≡ true
+      pub ahead : stage-step (t .stage) < step (main-of ws)
+
+    -- the statement that a jump writes
+    abbrev pub jump-statement : Statement
+    jump-statement =
+        own (statement-code (mac (m .key))) (m .station) (t .identity .question) (main-of ws .kind) (copied-value (main-of ws) coin) (main-of ws .flag) (main-of ws .round)
+
     abbrev pub after : State
     after = keeping (m .n) (state-of t) (main-of ws) (certificate-of ws)
 
@@ -90,7 +118,11 @@ module _ (mac : List ℕ → List ℕ → List ℕ) where
           → above (last-for m (t .identity .question)) (t .identity .question) (step sent-statement) ≡ true
           → k ≡ pick (ltb (t .decision) none || eqb decision-then none) sent sent-decided
           → Gives (sends k sent-statement (follows (m .n) (t .stage) after coin .first ++ follows (m .n) (t .stage) after coin .second)
-          (began (t .identity .question) (follows (m .n) (t .stage) after coin .stage) decision-then sent-statement (follows (m .n) (t .stage) after coin .first)))
+          (began (m .n) (t .identity .question) (t .jump) (follows (m .n) (t .stage) after coin .stage) decision-then sent-statement
+          (follows (m .n) (t .stage) after coin .first ++ follows (m .n) (t .stage) after coin .second)))
+      enters : Jumping → above (last-for m (t .identity .question)) (t .identity .question) (step jump-statement) ≡ true
+          → Gives (sends jumped jump-statement (certificate-of ws)
+          (began (m .n) (t .identity .question) (t .jump) (stage-of (main-of ws)) (t .decision) jump-statement (certificate-of ws)))
 
     module _ (L : Lengths t) where
       state-question : state-of t .question ≡ t .identity .question
@@ -114,9 +146,35 @@ module _ (mac : List ℕ → List ℕ → List ℕ) where
       ten-tests =
           station-tests m t coin out ++ (bundle-tests (mac (m .key)) (m .n) (Only (t .identity .question)) ws ++ place-tests (state-of t) (main-of ws))
 
-      pub nearly : All (λ x. x .ok ≡ true) ten-tests → Nearly
+      propers : Bundle (m .n) ws → All (Proper (m .n)) (statements ws 1 (suc (count-in ws)))
+      propers B =
+          all-map (λ s p. record { formed = p .0; eight = p .1 }) (statements ws 1 (suc (count-in ws)))
+          (all-two (λ s. well-formed (m .n) s ≡ true) (λ s. length (s .code) ≡ 8) (statements ws 1 (suc (count-in ws)))
+          (all-well (m .n) ws 1 (suc (count-in ws)) (B .fields)) (eights ws (suc (count-in ws)) 1 (omega (arith, B .size))))
+
+      parts : Bundle (m .n) ws → Proper (m .n) (main-of ws) × All (Proper (m .n)) (certificate-of ws)
       unfolding statements
-      nearly p =
+      parts B = propers B
+
+      -- a bundle of the question that a rule backs, in the stage of its step
+      fitted : Bundle (m .n) ws → one-question (main-of ws) (certificate-of ws) ≡ true → main-of ws .question ≡ t .identity .question
+          → rule (m .n) (main-of ws) (certificate-of ws) ≡ true → (g : Stage) → step (main-of ws) ≡ stage-step g
+          → Fitting (m .n) (state-of t .question) g (main-of ws) (certificate-of ws)
+      fitted B q e u g there =
+          let p = parts B in
+          let e' : main-of ws .question ≡ state-of t .question = e ∙ sym state-question in
+          record {
+            proper = p .0;
+            certificate = p .1;
+            asked = e';
+            alike = all-map (λ s z. eqb-true _ _ z ∙ e') (certificate-of ws) (every-out (λ s. eqb (s .question) (main-of ws .question)) (certificate-of ws) q);
+            in-step = there;
+            backed = rule-backed (m .n) (main-of ws) (certificate-of ws) (formed-out (m .n) (main-of ws) (p .0 .formed) .shape) u;
+          }
+
+      pub nearly : jumps (state-of t) (main-of ws) ≡ false → All (λ x. x .ok ≡ true) ten-tests → Nearly
+      unfolding statements
+      nearly stays p =
           let a = both (module-fits m && ltb coin 2) _ (p .1 .0) in
           let b = both (module-fits m) _ (a .0) in
           let r = in-range m (b .0) in
@@ -131,40 +189,19 @@ module _ (mac : List ℕ → List ℕ → List ℕ) where
             still-open = open-still;
             bundle = B;
             codes = every-out (verifies (mac (m .key))) (statements ws 1 (suc (count-in ws))) (p .1 .1 .1 .1 .1 .0);
-            fitting = fitted B (q .0) (eqb-true _ _ (q .1)) (p .1 .1 .1 .1 .1 .1 .0) (leb-true _ _ (p .1 .1 .1 .1 .1 .1 .1 .0)) (leb-true _ _ (p .1 .1 .1 .1 .1 .1 .1 .1 .0));
-            new = not-true _ (p .1 .1 .1 .1 .1 .1 .1 .1 .1 .0);
+            fitting = fitted B (q .0) (eqb-true _ _ (q .1)) (p .1 .1 .1 .1 .1 .1 .0) (state-of t .stage)
+                (let lo : stage-step (state-of t .stage) ≤ step (main-of ws) = leb-true _ _ (p .1 .1 .1 .1 .1 .1 .1 .0) in
+                let hi : step (main-of ws) ≤ stage-step (state-of t .stage) = leb-true _ _ (second-of (jumps (state-of t) (main-of ws)) _ stays (p .1 .1 .1 .1 .1 .1 .1 .1 .0)) in
+                omega arith);
+            new = not-true _ (second-of (jumps (state-of t) (main-of ws)) _ stays (p .1 .1 .1 .1 .1 .1 .1 .1 .1 .0));
           }
-        where
-          propers : Bundle (m .n) ws → All (Proper (m .n)) (statements ws 1 (suc (count-in ws)))
-          propers B =
-              all-map (λ s p. record { formed = p .0; eight = p .1 }) (statements ws 1 (suc (count-in ws)))
-              (all-two (λ s. well-formed (m .n) s ≡ true) (λ s. length (s .code) ≡ 8) (statements ws 1 (suc (count-in ws)))
-              (all-well (m .n) ws 1 (suc (count-in ws)) (B .fields)) (eights ws (suc (count-in ws)) 1 (omega (arith, B .size))))
 
-          parts : Bundle (m .n) ws → Proper (m .n) (main-of ws) × All (Proper (m .n)) (certificate-of ws)
-          parts B = propers B
-
-          fitted : Bundle (m .n) ws → one-question (main-of ws) (certificate-of ws) ≡ true → main-of ws .question ≡ t .identity .question
-              → rule (m .n) (main-of ws) (certificate-of ws) ≡ true → stage-step (state-of t .stage) ≤ step (main-of ws) → step (main-of ws) ≤ stage-step (state-of t .stage)
-              → Fitting (m .n) (state-of t .question) (state-of t .stage) (main-of ws) (certificate-of ws)
-          fitted B q e u lo hi =
-              let p = parts B in
-              let e' : main-of ws .question ≡ state-of t .question = e ∙ sym state-question in
-              record {
-                proper = p .0;
-                certificate = p .1;
-                asked = e';
-                alike = all-map (λ s z. eqb-true _ _ z ∙ e') (certificate-of ws) (every-out (λ s. eqb (s .question) (main-of ws .question)) (certificate-of ws) q);
-                in-step = omega arith;
-                backed = rule-backed (m .n) (main-of ws) (certificate-of ws) (formed-out (m .n) (main-of ws) (p .0 .formed) .shape) u;
-              }
-
-      pub accepted : first-failed (give-tests mac m t ws coin out) ≡ 0 → Accepted
-      accepted h =
+      pub accepted : jumps (state-of t) (main-of ws) ≡ false → first-failed (give-tests mac m t ws coin out) ≡ 0 → Accepted
+      accepted stays h =
           let p = all-passed (give-tests mac m t ws coin out)
           (omega arith, (omega arith, (omega arith, (omega arith, (omega arith, (omega arith, (omega arith, (omega arith, (omega arith, (omega arith, (omega arith, tt))))))))))) h in
           let c = p .1 .1 .1 .1 .1 .1 .1 .1 .1 in
-          let N = nearly (p .0, (p .1 .0, (p .1 .1 .0, (p .1 .1 .1 .0, (p .1 .1 .1 .1 .0, (p .1 .1 .1 .1 .1 .0, (p .1 .1 .1 .1 .1 .1 .0, (p .1 .1 .1 .1 .1 .1 .1 .0, (p .1 .1 .1 .1 .1 .1 .1 .1 .0, (c .0, tt)))))))))) in
+          let N = nearly stays (p .0, (p .1 .0, (p .1 .1 .0, (p .1 .1 .1 .0, (p .1 .1 .1 .1 .0, (p .1 .1 .1 .1 .1 .0, (p .1 .1 .1 .1 .1 .1 .0, (p .1 .1 .1 .1 .1 .1 .1 .0, (p .1 .1 .1 .1 .1 .1 .1 .1 .0, (c .0, tt)))))))))) in
           record {
             room = N .room;
             range = N .range;
@@ -175,8 +212,37 @@ module _ (mac : List ℕ → List ℕ → List ℕ) where
             codes = N .codes;
             fitting = N .fitting;
             new = N .new;
-            calm = not-true _ (c .1 .0);
+            calm = not-true _ (second-of (jumps (state-of t) (main-of ws)) _ stays (c .1 .0));
           }
+
+      jumping-by : (t .jump && ltb (stage-step (t .stage)) (step (main-of ws))) ≡ true → All (λ x. x .ok ≡ true) (give-tests mac m t ws coin out) → Jumping
+      unfolding statements
+      jumping-by both-so p =
+          let a = both (module-fits m && ltb coin 2) _ (p .1 .0) in
+          let b = both (module-fits m) _ (a .0) in
+          let B = bundle-out (m .n) ws (p .1 .1 .1 .0) in
+          let q = both (one-question (main-of ws) (certificate-of ws)) _ (p .1 .1 .1 .1 .0) in
+          let j = both (t .jump) _ both-so in
+          let up : stage-step (t .stage) < step (main-of ws) = ltb-true _ _ (j .1) in
+          record {
+            room = leb-true output-words (length out) (p .0);
+            range = in-range m (b .0);
+            coin-bit = ltb-true coin 2 (b .1);
+            fit = a .1;
+            still-open = not-true (t .closed) (p .1 .1 .0);
+            bundle = B;
+            codes = every-out (verifies (mac (m .key))) (statements ws 1 (suc (count-in ws))) (p .1 .1 .1 .1 .1 .0);
+            fitting = fitted B (q .0) (eqb-true _ _ (q .1)) (p .1 .1 .1 .1 .1 .1 .0) (stage-of (main-of ws))
+                (stage-of-step (main-of ws) (formed-out (m .n) (main-of ws) (parts B .0 .formed) .shape) (omega arith));
+            on = j .0;
+            ahead = up;
+          }
+
+      pub jumping : jumps (state-of t) (main-of ws) ≡ true → first-failed (give-tests mac m t ws coin out) ≡ 0 → Jumping
+      unfolding state-of
+      jumping e h =
+          jumping-by e (all-passed (give-tests mac m t ws coin out)
+          (omega arith, (omega arith, (omega arith, (omega arith, (omega arith, (omega arith, (omega arith, (omega arith, (omega arith, (omega arith, (omega arith, tt))))))))))) h)
 
       -- the station as a state, sane; with the bundle, and q statements
       pub sane-before : Accepted → Sane (m .n) (m .station) (state-of t)
@@ -197,7 +263,8 @@ module _ (mac : List ℕ → List ℕ → List ℕ) where
               → Gives (pick a
               (sends (pick (ltb (t .decision) none || eqb decision-then none) sent sent-decided) sent-statement
               (follows (m .n) (t .stage) after coin .first ++ follows (m .n) (t .stage) after coin .second)
-              (began (t .identity .question) (follows (m .n) (t .stage) after coin .stage) decision-then sent-statement (follows (m .n) (t .stage) after coin .first)))
+              (began (m .n) (t .identity .question) (t .jump) (follows (m .n) (t .stage) after coin .stage) decision-then sent-statement
+              (follows (m .n) (t .stage) after coin .first ++ follows (m .n) (t .stage) after coin .second)))
               (refused not-above))
           sent-on c true e = goes-on A size c e refl
           sent-on c false e = refuses refl
@@ -218,14 +285,37 @@ module _ (mac : List ℕ → List ℕ → List ℕ) where
           go true e = holds-on A (ltb-true _ _ e)
           go false e = ended-view A (omega (arith, ltb-false (length (after .held)) (quorum (m .n)) e, few-after A))
 
+      entered-view : Jumping
+          → Gives (entered (statement-code (mac (m .key))) last-round (m .n) (m .station) (last-for m (t .identity .question)) (state-of t) (main-of ws) (certificate-of ws) coin)
+      unfolding pick state-of
+      entered-view J = go (above (last-for m (t .identity .question)) (t .identity .question) (step jump-statement)) refl
+        where
+          go : (a : Bool) → above (last-for m (t .identity .question)) (t .identity .question) (step jump-statement) ≡ a
+              → Gives (pick a (sends jumped jump-statement (certificate-of ws)
+              (began (m .n) (t .identity .question) (t .jump) (stage-of (main-of ws)) (t .decision) jump-statement (certificate-of ws))) (refused not-above))
+          go true e = enters J e
+          go false e = refuses refl
+
+      -- what passed the tests makes the station jump, or is taken
+      answered-view : first-failed (give-tests mac m t ws coin out) ≡ 0
+          → Gives (answered (statement-code (mac (m .key))) last-round (m .n) (m .station) (last-for m (t .identity .question)) (state-of t) (main-of ws) (certificate-of ws) coin)
+      unfolding pick
+      answered-view h = go (jumps (state-of t) (main-of ws)) refl
+        where
+          go : (b : Bool) → jumps (state-of t) (main-of ws) ≡ b
+              → Gives (pick b (entered (statement-code (mac (m .key))) last-round (m .n) (m .station) (last-for m (t .identity .question)) (state-of t) (main-of ws) (certificate-of ws) coin)
+              (taken (statement-code (mac (m .key))) last-round (m .n) (m .station) (last-for m (t .identity .question)) (state-of t) (main-of ws) (certificate-of ws) coin))
+          go true e = entered-view (jumping e h)
+          go false e = taken-view (accepted e h)
+
       pub gives-view : Gives (giving-outcome mac m t ws coin out)
       unfolding pick
       gives-view = go (eqb (first-failed (give-tests mac m t ws coin out)) 0) refl
         where
           go : (b : Bool) → eqb (first-failed (give-tests mac m t ws coin out)) 0 ≡ b
-              → Gives (pick b (taken (statement-code (mac (m .key))) last-round (m .n) (m .station) (last-for m (t .identity .question)) (state-of t) (main-of ws) (certificate-of ws) coin)
+              → Gives (pick b (answered (statement-code (mac (m .key))) last-round (m .n) (m .station) (last-for m (t .identity .question)) (state-of t) (main-of ws) (certificate-of ws) coin)
               (refused (first-failed (give-tests mac m t ws coin out))))
-          go true e = taken-view (accepted (eqb-true _ _ e))
+          go true e = answered-view (eqb-true _ _ e)
           go false e =
               refuses (failed-one (λ k. unrefused k ≡ false) (give-tests mac m t ws coin out)
               (refl, (refl, (refl, (refl, (refl, (refl, (refl, (refl, (refl, (refl, (refl, tt))))))))))) (eqb-false _ _ e))
@@ -235,34 +325,39 @@ module _ (mac : List ℕ → List ℕ → List ℕ) where
     abbrev pub init-statement : Statement
     init-statement = own (statement-code (mac (m .key))) (m .station) question kind-INIT proposal D-GET 0
 
+  module _ (m : Module) (question proposal jump : ℕ) (out : List ℕ) where
+    abbrev s : Statement
+    s = init-statement m question proposal out
+
     pub data Opens : Outcome → Type 0 where
       no-opening : {k : ℕ} → unrefused k ≡ false → Opens (refused k)
-      begins : output-words ≤ length out → InRange m → proposal < 2 → above (last-for m question) question (step init-statement) ≡ true
-          → Opens (sends sent init-statement ([] ++ []) (began question Gathering none init-statement []))
+      begins : output-words ≤ length out → InRange m → proposal < 2 → above (last-for m question) question (step s) ≡ true
+          → Opens (sends sent s [] (began (m .n) question (eqb jump 1) Gathering none s []))
 
-    pub opens-view : Opens (opening-outcome mac m question proposal out)
+    pub opens-view : Opens (opening-outcome mac m question proposal jump out)
     unfolding pick
-    opens-view = go (eqb (first-failed (open-tests mac m proposal out)) 0) refl
+    opens-view = go (eqb (first-failed (open-tests mac m proposal jump out)) 0) refl
       where
-        begun : (a : Bool) → above (last-for m question) question (step init-statement) ≡ a → output-words ≤ length out → InRange m → proposal < 2
-            → Opens (pick a (sends sent init-statement ([] ++ []) (began question Gathering none init-statement [])) (refused not-above))
+        begun : (a : Bool) → above (last-for m question) question (step s) ≡ a → output-words ≤ length out → InRange m → proposal < 2
+            → Opens (pick a (sends sent s [] (began (m .n) question (eqb jump 1) Gathering none s [])) (refused not-above))
         begun true e x y z = begins x y z e
         begun false e x y z = no-opening refl
 
-        go : (b : Bool) → eqb (first-failed (open-tests mac m proposal out)) 0 ≡ b
-            → Opens (pick b (opened (statement-code (mac (m .key))) last-round (m .n) (m .station) (last-for m question) question proposal) (refused (first-failed (open-tests mac m proposal out))))
+        go : (b : Bool) → eqb (first-failed (open-tests mac m proposal jump out)) 0 ≡ b
+            → Opens (pick b (opened (statement-code (mac (m .key))) last-round (m .n) (m .station) (last-for m question) question proposal (eqb jump 1))
+            (refused (first-failed (open-tests mac m proposal jump out))))
         go true e =
-            let p = all-passed (open-tests mac m proposal out) (omega arith, (omega arith, tt)) (eqb-true _ _ e) in
-            let a = both (module-fits m) _ (p .1 .0) in
-            begun (above (last-for m question) question (step init-statement)) refl (leb-true output-words (length out) (p .0)) (in-range m (a .0)) (ltb-true proposal 2 (a .1))
-        go false e = no-opening (failed-one (λ k. unrefused k ≡ false) (open-tests mac m proposal out) (refl, (refl, tt)) (eqb-false _ _ e))
+            let p = all-passed (open-tests mac m proposal jump out) (omega arith, (omega arith, tt)) (eqb-true _ _ e) in
+            let a = both (module-fits m) _ (both (module-fits m && ltb proposal 2) _ (p .1 .0) .0) in
+            begun (above (last-for m question) question (step s)) refl (leb-true output-words (length out) (p .0)) (in-range m (a .0)) (ltb-true proposal 2 (a .1))
+        go false e = no-opening (failed-one (λ k. unrefused k ≡ false) (open-tests mac m proposal jump out) (refl, (refl, tt)) (eqb-false _ _ e))
 
--- what is taken is answered 0, 22, 20, 21 or 12
-pub taken-number : (mac : List ℕ → List ℕ → List ℕ) (m : Module) (t : Station) (ws : List ℕ) (coin : ℕ) (out : List ℕ) (P : ℕ → Type 0)
-    → P kept → P closed-now → P sent → P sent-decided → P not-above
-    → P (returned m t out (taken (statement-code (mac (m .key))) last-round (m .n) (m .station) (last-for m (t .identity .question)) (state-of t) (main-of ws) (certificate-of ws) coin) .number)
+-- what passes the tests is answered 0, 22, 20, 21, 23 or 12
+pub answered-number : (mac : List ℕ → List ℕ → List ℕ) (m : Module) (t : Station) (ws : List ℕ) (coin : ℕ) (out : List ℕ) (P : ℕ → Type 0)
+    → P kept → P closed-now → P sent → P sent-decided → P jumped → P not-above
+    → P (returned m t out (answered (statement-code (mac (m .key))) last-round (m .n) (m .station) (last-for m (t .identity .question)) (state-of t) (main-of ws) (certificate-of ws) coin) .number)
 unfolding returned pick taken ended
-taken-number mac m t ws coin out P p0 p22 p20 p21 p12 = by (ltb (length (after mac m t ws coin out .held)) (quorum (m .n)))
+answered-number mac m t ws coin out P p0 p22 p20 p21 p23 p12 = first (jumps (state-of t) (main-of ws))
   where
     x : Next
     x = follows (m .n) (state-of t .stage) (after mac m t ws coin out) coin
@@ -273,7 +368,8 @@ taken-number mac m t ws coin out P p0 p22 p20 p21 p12 = by (ltb (length (after m
     d : ℕ
     d = decision-at (state-of t .stage) (state-of t .decision) (after mac m t ws coin out .held)
 
-    sent-by : (a b : Bool) → P (returned m t out (pick a (sends (pick b sent sent-decided) s (x .first ++ x .second) (began (state-of t .question) (x .stage) d s (x .first))) (refused not-above)) .number)
+    sent-by : (a b : Bool) → P (returned m t out (pick a (sends (pick b sent sent-decided) s (x .first ++ x .second)
+        (began (m .n) (state-of t .question) (state-of t .jump) (x .stage) d s (x .first ++ x .second))) (refused not-above)) .number)
     sent-by true true = p20
     sent-by true false = p21
     sent-by false b = p12
@@ -287,6 +383,20 @@ taken-number mac m t ws coin out P p0 p22 p20 p21 p12 = by (ltb (length (after m
     by true = p0
     by false = ended-by (closes last-round (state-of t .stage))
 
+    u : Statement
+    u = own (statement-code (mac (m .key))) (m .station) (state-of t .question) (main-of ws .kind) (copied-value (main-of ws) coin) (main-of ws .flag) (main-of ws .round)
+
+    entered-by : (a : Bool) → P (returned m t out (pick a (sends jumped u (certificate-of ws)
+        (began (m .n) (state-of t .question) (state-of t .jump) (stage-of (main-of ws)) (state-of t .decision) u (certificate-of ws))) (refused not-above)) .number)
+    entered-by true = p23
+    entered-by false = p12
+
+    first : (j : Bool) → P (returned m t out (pick j
+        (entered (statement-code (mac (m .key))) last-round (m .n) (m .station) (last-for m (t .identity .question)) (state-of t) (main-of ws) (certificate-of ws) coin)
+        (taken (statement-code (mac (m .key))) last-round (m .n) (m .station) (last-for m (t .identity .question)) (state-of t) (main-of ws) (certificate-of ws) coin)) .number)
+    first true = entered-by (above (last-for m (t .identity .question)) (u .question) (step u))
+    first false = by (ltb (length (after mac m t ws coin out .held)) (quorum (m .n)))
+
 pub record Conflicts (mac : List ℕ → List ℕ → List ℕ) (m : Module) (t : Station) (ws : List ℕ) (coin : ℕ) (out : List ℕ) (L : Lengths t) : Type 0 where
   pub near : Nearly mac m t ws coin out L
   pub clash : conflict (state-of t .stage) (main-of ws ∷ state-of t .held) ≡ true
@@ -298,13 +408,14 @@ conflicts mac m t ws coin out L e = go (eqb (first-failed (give-tests mac m t ws
   where
     from-tests : first-failed (give-tests mac m t ws coin out) ≡ conflicting → Conflicts mac m t ws coin out L
     from-tests h =
-        let p = passed-until (ten-tests mac m t ws coin out L) (not (conflict (state-of t .stage) (main-of ws ∷ state-of t .held))) conflicting (omega arith)
+        let p = passed-until (ten-tests mac m t ws coin out L) (jumps (state-of t) (main-of ws) || not (conflict (state-of t .stage) (main-of ws ∷ state-of t .held))) conflicting (omega arith)
         ((λ z. omega arith), ((λ z. omega arith), ((λ z. omega arith), ((λ z. omega arith), ((λ z. omega arith), ((λ z. omega arith), ((λ z. omega arith), ((λ z. omega arith), ((λ z. omega arith), ((λ z. omega arith), tt)))))))))) h in
-        record { near = nearly mac m t ws coin out L (p .0); clash = not-false _ (p .1) }
+        let f = neither (jumps (state-of t) (main-of ws)) _ (p .1) in
+        record { near = nearly mac m t ws coin out L (f .0) (p .0); clash = not-false _ (f .1) }
 
     go : (b : Bool) → eqb (first-failed (give-tests mac m t ws coin out)) 0 ≡ b
-        → returned m t out (pick b (taken (statement-code (mac (m .key))) last-round (m .n) (m .station) (last-for m (t .identity .question)) (state-of t) (main-of ws) (certificate-of ws) coin)
+        → returned m t out (pick b (answered (statement-code (mac (m .key))) last-round (m .n) (m .station) (last-for m (t .identity .question)) (state-of t) (main-of ws) (certificate-of ws) coin)
         (refused (first-failed (give-tests mac m t ws coin out)))) .number ≡ conflicting → Conflicts mac m t ws coin out L
     go true q z =
-        absurd (taken-number mac m t ws coin out (λ k. k ≡ conflicting → ⊥) (λ e. omega arith) (λ e. omega arith) (λ e. omega arith) (λ e. omega arith) (λ e. omega arith) z)
+        absurd (answered-number mac m t ws coin out (λ k. k ≡ conflicting → ⊥) (λ e. omega arith) (λ e. omega arith) (λ e. omega arith) (λ e. omega arith) (λ e. omega arith) (λ e. omega arith) z)
     go false q z = from-tests z

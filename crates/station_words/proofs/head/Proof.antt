@@ -16,13 +16,13 @@ array-read-t12 c = search needs
 array-read-t15 : tie.Need-array-read-t15
 array-read-t15 c = search needs
 
-closed-word-requires : tie.Need-closed-word-requires
-closed-word-requires c κs = search needs
+truth-word-requires : tie.Need-truth-word-requires
+truth-word-requires c κs = search needs
 
 returns : tie.Need-returns
 returns c =
     let a = c .before .before .before .before .args in
-    head-is (a .t) _ _ (c .before .before .stage-words .ensures) (c .closed-word .ensures)
+    head-is (a .t) _ _ (c .before .before .stage-words .ensures) (c .truth-word .ensures)
 
 pub head-spec : {M : Type 1} → statement M
 head-spec =
@@ -32,5 +32,5 @@ head-spec =
     array-read-t9
     array-read-t12
     array-read-t15
-    closed-word-requires
+    truth-word-requires
     returns)

@@ -1,4 +1,4 @@
--- The length is tested first; the words of the stage and the closed word, as the definition does.
+-- The length is tested first; the words of the stage, the closed word and the jump word, as the definition does.
 use Rattle.station_words.specs.Laws.Code.{not-long, long}
 use borrow.Author.Needs.{needs}
 use Rattle.station_words.proofs.is_station.Statement.{statement}
@@ -9,6 +9,9 @@ returns c = not-long (c .before .before .args .ws .now) (c .if1 .taken)
 
 shared-slice-read-closed : tie.Need-shared-slice-read-closed
 shared-slice-read-closed c = search needs
+
+shared-slice-read-jump : tie.Need-shared-slice-read-jump
+shared-slice-read-jump c = search needs
 
 shared-slice-read-is-stage : tie.Need-shared-slice-read-is-stage
 shared-slice-read-is-stage c = search needs
@@ -35,7 +38,7 @@ is-stage-requires : tie.Need-is-stage-requires
 is-stage-requires c κs = search needs
 
 returns-2 : tie.Need-returns-2
-returns-2 c = long _ _ (c .before .before .before .before .before .if1 .left) (c .is-stage .ensures)
+returns-2 c = long _ _ (c .before .before .before .before .before .before .if1 .left) (c .is-stage .ensures)
 
 pub is-station-spec : {M : Type 1} → statement M
 is-station-spec =
@@ -43,6 +46,7 @@ is-station-spec =
     (tie.spec
     returns
     shared-slice-read-closed
+    shared-slice-read-jump
     shared-slice-read-is-stage
     add-is-stage
     mul-is-stage

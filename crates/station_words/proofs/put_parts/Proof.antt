@@ -1,5 +1,5 @@
--- Four parts, each put behind the one before: the law `put-four`.
-use Rattle.station_words.specs.Laws.Put.{put-four}
+-- Five parts, each put behind the one before: the law `put-five`.
+use Rattle.station_words.specs.Laws.Put.{put-five}
 use borrow.Author.Needs.{needs}
 use Rattle.station_words.proofs.put_parts.Statement.{statement}
 use Rattle.station_words.proofs.put_parts.Tie as tie
@@ -16,18 +16,22 @@ put-requires-3 c κs = search needs
 put-requires-4 : tie.Need-put-requires-4
 put-requires-4 c κs = search needs
 
+put-requires-5 : tie.Need-put-requires-5
+put-requires-5 c κs = search needs
+
 same-length : tie.Need-same-length
 same-length c = search needs
 
 returns : tie.Need-returns
 returns c =
-    let d4 = c .before .before in
+    let d5 = c .before .before in
+    let d4 = d5 .before .before .before .before in
     let d3 = d4 .before .before .before .before in
     let d2 = d3 .before .before .before .before in
     let d1 = d2 .before .before .before .before in
-    put-four _ _ _ _ _ _ _ _ _ (d1 .before .before .before .before .before .before .before .pre .0) (d1 .put .ensures) (d2 .put2 .ensures) (d3 .put3 .ensures) (d4 .put4 .ensures)
+    put-five _ _ _ _ _ _ _ _ _ _ _ (d1 .before .before .before .before .before .before .before .before .pre .0) (d1 .put .ensures) (d2 .put2 .ensures) (d3 .put3 .ensures) (d4 .put4 .ensures) (d5 .put5 .ensures)
 
 pub put-parts-spec : {M : Type 1} → statement M
 put-parts-spec =
     tie.close
-    (tie.spec put-requires put-requires-2 put-requires-3 put-requires-4 same-length returns)
+    (tie.spec put-requires put-requires-2 put-requires-3 put-requires-4 put-requires-5 same-length returns)

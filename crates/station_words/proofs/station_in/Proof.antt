@@ -55,10 +55,13 @@ shared-slice-read-t24 c = search needs
 shared-slice-read-t27 : tie.Need-shared-slice-read-t27
 shared-slice-read-t27 c = search needs
 
+shared-slice-read-t30 : tie.Need-shared-slice-read-t30
+shared-slice-read-t30 c = search needs
+
 returns : tie.Need-returns
 unfolding station-in
 returns c =
-    let s = c .before .before in
+    let s = c .before .before .before in
     let g = s .before .before .before .before in
     rw (s .stage-in .ensures, g .before .before .slots-in .ensures, g .before .group-in .ensures, g .group-in2 .ensures)
 
@@ -83,4 +86,5 @@ station-in-spec =
     stage-in-requires
     shared-slice-read-t24
     shared-slice-read-t27
+    shared-slice-read-t30
     returns)

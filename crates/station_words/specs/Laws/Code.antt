@@ -16,7 +16,7 @@ use Rattle.station.specs.declared.Stage.the-variants.{Gathering, Proposing, Vot
 use Rattle.station.specs.declared.Station.{Station}
 use Rattle.format.specs.Bundle.{over}
 use Rattle.station.specs.Calls.{no-station}
-use Rattle.station_words.specs.Words.{station-words, slots-at, stage-at, closed-at, stage-words, closed-word, settings-of, sets-of, statements-of, words-of, is-stage, is-station, part, station-in, flag-fits, refusal, reading, writing, Writing, Wrote}
+use Rattle.station_words.specs.Words.{station-words, slots-at, stage-at, closed-at, jump-at, stage-words, truth-word, settings-of, sets-of, statements-of, words-of, is-stage, is-station, part, station-in, flag-fits, refusal, reading, writing, Writing, Wrote}
 use Rattle.station_words.specs.Laws.Put.{put-at, put-whole}
 use Rattle.station_words.specs.Laws.Back.{head-length}
 
@@ -26,7 +26,7 @@ unfolding is-station
 not-long ws h = rw (ne-eqb (length ws) station-words h)
 
 pub long : (ws : List ℕ) (b : Bool) → length ws ≡ station-words → b ≡ is-stage (getD ws stage-at 0) (getD ws (stage-at + 1) 0) (getD ws (stage-at + 2) 0)
-    → (b && leb (getD ws closed-at 0) 1) ≡ is-station ws
+    → (b && leb (getD ws closed-at 0) 1 && leb (getD ws jump-at 0) 1) ≡ is-station ws
 unfolding is-station
 long ws b e b-is = rw (eq-eqb (length ws) station-words e, b-is)
 
@@ -66,30 +66,32 @@ three Gathering c d h = refl
 three (Proposing r f) c d h = refl
 three (Voting r) c d h = refl
 
-pub head-is : (t : Station) (g : List ℕ) (c : ℕ) → g ≡ stage-words (t .stage) → c ≡ closed-word (t .closed)
+pub head-is : (t : Station) (g : List ℕ) (c : ℕ) → g ≡ stage-words (t .stage) → c ≡ truth-word (t .closed)
     → t .identity .n ∷ t .identity .station ∷ t .identity .question ∷ getD g 0 0 ∷ getD g 1 0 ∷ getD g 2 0 ∷ c ∷ t .decision ∷ t .held .heard ∷ []
     ≡ settings-of t ++ sets-of t
 unfolding settings-of sets-of
 head-is t g c g-is c-is =
     rw (g-is, c-is)
-    (ap (λ (x : List ℕ). t .identity .n ∷ t .identity .station ∷ t .identity .question ∷ x) (three (t .stage) (closed-word (t .closed)) (t .decision) (t .held .heard)))
+    (ap (λ (x : List ℕ). t .identity .n ∷ t .identity .station ∷ t .identity .question ∷ x) (three (t .stage) (truth-word (t .closed)) (t .decision) (t .held .heard)))
 
 -- ---- the words, part by part
 pub head-words : (t : Station) → length (settings-of t ++ sets-of t) ≡ slots-at
 unfolding settings-of sets-of
 head-words t = head-length (t .identity .n) (t .identity .station) (t .identity .question) (t .stage) (t .closed) (t .decision) (t .held .heard)
 
-pub words-put : (t : Station) (out words xs : List ℕ) → words ≡ settings-of t ++ sets-of t
-    → xs ≡ over (words ++ t .held .slots ++ t .groups .value ++ t .groups .none) out → xs ≡ over (words-of t) out
+pub words-put : (t : Station) (out words jump xs : List ℕ) → words ≡ settings-of t ++ sets-of t → jump ≡ truth-word (t .jump) ∷ []
+    → xs ≡ over (words ++ t .held .slots ++ t .groups .value ++ t .groups .none ++ jump) out → xs ≡ over (words-of t) out
 unfolding words-of statements-of
-words-put t out words xs e xs-are =
+words-put t out words jump xs e je xs-are =
     let a = settings-of t ++ sets-of t in
     let b = t .held .slots in
     let c = t .groups .value in
     let d = t .groups .none in
     let w : a ++ b ++ c ++ d ≡ a ++ (b ++ c ++ d)
     = ap (λ (x : List ℕ). x ++ d) (append-assoc a b c) ∙ append-assoc a (b ++ c) d in
-    xs-are ∙ ap (λ (x : List ℕ). over (x ++ b ++ c ++ d) out) e ∙ ap (λ (x : List ℕ). over x out) w
+    xs-are
+    ∙ (λ i. over (e i ++ b ++ c ++ d ++ je i) out)
+    ∙ ap (λ (x : List ℕ). over (x ++ (truth-word (t .jump) ∷ [])) out) w
 
 -- ---- the calls
 pub read-none : (ws : List ℕ) (b : Bool) (t : Station) → b ≡ is-station ws → not b ≡ true → t ≡ no-station → record { number = malformed; station = t } ≡ reading ws

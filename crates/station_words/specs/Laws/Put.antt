@@ -8,7 +8,7 @@ use native.Mathlib.Omega.{arith}
 use lib.ListN.{length, drop, getD, set, length-append}
 use lib.Seq.{paste, paste-zero, paste-suc, take-length, take-at, drop-at, drop-drop, drop-length}
 use Rattle.format.specs.Bundle.{over}
-use Rattle.station_words.specs.Words.{slots-at, value-at, none-at}
+use Rattle.station_words.specs.Words.{slots-at, value-at, none-at, jump-at}
 use Rattle.station.specs.Words.{slots-words, kept-words}
 
 unfoldable pub put-at : List ℕ → ℕ → List ℕ → List ℕ
@@ -48,20 +48,23 @@ put-behind p ws out at e =
 pub put-whole : (ws out : List ℕ) → length ws ≡ length out → put-at out 0 ws ≡ ws
 put-whole ws out e = put-first ws out ∙ rw (e, drop-length out) (append-nil ws)
 
--- four parts, each behind the one before
-pub record Parts (a b c d : List ℕ) : Type 0 where
+-- five parts, each behind the one before
+pub record Parts (a b c d e : List ℕ) : Type 0 where
   pub head : length a ≡ slots-at
   pub slots : length b ≡ slots-words
   pub value : length c ≡ kept-words
   pub none : length d ≡ kept-words
+  pub jump : length e ≡ 1
 
-pub put-four : (a b c d out w x y z : List ℕ) → Parts a b c d → w ≡ put-at out 0 a → x ≡ put-at w slots-at b → y ≡ put-at x value-at c → z ≡ put-at y none-at d
-    → z ≡ over (a ++ b ++ c ++ d) out
-put-four a b c d out w x y z P ew ex ey ez =
+pub put-five : (a b c d e out v w x y z : List ℕ) → Parts a b c d e → v ≡ put-at out 0 a → w ≡ put-at v slots-at b → x ≡ put-at w value-at c → y ≡ put-at x none-at d
+    → z ≡ put-at y jump-at e → z ≡ over (a ++ b ++ c ++ d ++ e) out
+put-five a b c d e out v w x y z P ev ew ex ey ez =
     let la : length a ≡ slots-at = P .head in
     let lb : length (a ++ b) ≡ value-at = length-append a b ∙ omega (arith, P .head, P .slots) in
     let lc : length (a ++ b ++ c) ≡ none-at = length-append (a ++ b) c ∙ omega (arith, lb, P .value) in
-    let hw : w ≡ over a out = ew ∙ put-first a out in
-    let hx : x ≡ over (a ++ b) out = ex ∙ ap (λ (l : List ℕ). put-at l slots-at b) hw ∙ put-behind a b out slots-at la in
-    let hy : y ≡ over (a ++ b ++ c) out = ey ∙ ap (λ (l : List ℕ). put-at l value-at c) hx ∙ put-behind (a ++ b) c out value-at lb in
-    ez ∙ ap (λ (l : List ℕ). put-at l none-at d) hy ∙ put-behind (a ++ b ++ c) d out none-at lc
+    let ld : length (a ++ b ++ c ++ d) ≡ jump-at = length-append (a ++ b ++ c) d ∙ omega (arith, lc, P .none) in
+    let hv : v ≡ over a out = ev ∙ put-first a out in
+    let hw : w ≡ over (a ++ b) out = ew ∙ ap (λ (l : List ℕ). put-at l slots-at b) hv ∙ put-behind a b out slots-at la in
+    let hx : x ≡ over (a ++ b ++ c) out = ex ∙ ap (λ (l : List ℕ). put-at l value-at c) hw ∙ put-behind (a ++ b) c out value-at lb in
+    let hy : y ≡ over (a ++ b ++ c ++ d) out = ey ∙ ap (λ (l : List ℕ). put-at l none-at d) hx ∙ put-behind (a ++ b ++ c) d out none-at lc in
+    ez ∙ ap (λ (l : List ℕ). put-at l jump-at e) hy ∙ put-behind (a ++ b ++ c ++ d) e out jump-at ld

@@ -19,7 +19,7 @@ use Rattle.station.specs.Calls.{Returned, no-station, opening, giving}
 use Rattle.station.specs.Answers.{Answers}
 use Rattle.world.specs.declared.Bundle.{Bundle}
 use Rattle.world.specs.declared.World.{World}
-use Rattle.world.specs.Valley.{most-n, most-bundles, no-bundle, group-of, at-number, module-at, station-at, bundle-at, the-question, the-output, opens, after, shown-step, shown-decision, is-open, gives}
+use Rattle.world.specs.Valley.{most-n, most-bundles, no-bundle, group-of, at-number, module-at, station-at, bundle-at, the-question, jump-off, the-output, opens, after, shown-step, shown-decision, is-open, gives}
 use Rattle.world.specs.Group.{shorter}
 
 pub answered : (x : Returned) (number count : ℕ) (t : Station) (m : Module) (lent : List ℕ) → Answers x number count t m lent
@@ -29,9 +29,9 @@ answered x number count t m lent h =
 
 -- ---- the calls
 pub opens-are : (w : World) (s v : ℕ) (m : Module) (x : Returned) → m ≡ at-number (w .modules) s no-module
-    → x ≡ opening hmac-code m the-question v the-output → x ≡ opens w s v
+    → x ≡ opening hmac-code m the-question v jump-off the-output → x ≡ opens w s v
 unfolding module-at
-opens-are w s v m x m-is x-is = x-is ∙ ap (λ (y : Module). opening hmac-code y the-question v the-output) m-is
+opens-are w s v m x m-is x-is = x-is ∙ ap (λ (y : Module). opening hmac-code y the-question v jump-off the-output) m-is
 
 pub gives-are : (w : World) (s k coin : ℕ) (m : Module) (t : Station) (b : Bundle) (x : Returned) → m ≡ at-number (w .modules) s no-module
     → t ≡ at-number (w .stations) s no-station → b ≡ at-number (w .bundles) k no-bundle

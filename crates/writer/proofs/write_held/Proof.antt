@@ -30,26 +30,26 @@ loop-holds c =
 in-set-requires : tie.Need-in-set-requires Inv-loop μ-loop
 in-set-requires c κs = search needs
 
-mul-write-slot : tie.Need-mul-write-slot Inv-loop μ-loop
-mul-write-slot c = search needs
+mul-copy-words : tie.Need-mul-copy-words Inv-loop μ-loop
+mul-copy-words c = search needs
 
-sub-write-slot : tie.Need-sub-write-slot Inv-loop μ-loop
-sub-write-slot c = search needs
+sub-copy-words : tie.Need-sub-copy-words Inv-loop μ-loop
+sub-copy-words c = search needs
 
-part-write-slot-start : tie.Need-part-write-slot-start Inv-loop μ-loop
-part-write-slot-start c = search needs
+part-copy-words-start : tie.Need-part-copy-words-start Inv-loop μ-loop
+part-copy-words-start c = search needs
 
-part-write-slot-end : tie.Need-part-write-slot-end Inv-loop μ-loop
-part-write-slot-end c = search needs
+part-copy-words-end : tie.Need-part-copy-words-end Inv-loop μ-loop
+part-copy-words-end c = search needs
 
-mul-write-slot-2 : tie.Need-mul-write-slot-2 Inv-loop μ-loop
-mul-write-slot-2 c = search needs
+mul-copy-words-2 : tie.Need-mul-copy-words-2 Inv-loop μ-loop
+mul-copy-words-2 c = search needs
 
-cast-write-slot : tie.Need-cast-write-slot Inv-loop μ-loop
-cast-write-slot c = search needs
+cast-copy-words : tie.Need-cast-copy-words Inv-loop μ-loop
+cast-copy-words c = search needs
 
-write-slot-requires : tie.Need-write-slot-requires Inv-loop μ-loop
-write-slot-requires c κs = search needs
+copy-words-requires : tie.Need-copy-words-requires Inv-loop μ-loop
+copy-words-requires c κs = search needs
 
 add-at : tie.Need-add-at Inv-loop μ-loop
 add-at c = search needs
@@ -72,11 +72,11 @@ loop-again c =
     let n : v .at + 10 ≡ length (held-words (a .set) l 0 (v .i + 1)) = held-longer (a .set) l (v .i) (v .at) e (v .inv .2) in
     let room : length (held-words (a .set) l 0 (v .i + 1)) ≤ length (a .out .now) = omega (arith, n) in
     let o : c .if1 .out ≡ laid (held-words (a .set) l 0 (v .i + 1)) (a .out .now) =
-    w .5
-    ∙ put-behind (held-words (a .set) l 0 (v .i)) (part 10 (v .i * 10) l) (a .out .now) (v .out) (w .2 .last .0) (v .at) (length (v .out) - v .at)
-    (v .inv .4) (sym (v .inv .2)) (omega arith) refl (w .2 .ensures)
+    w .6
+    ∙ put-behind (held-words (a .set) l 0 (v .i)) (part 10 (v .i * 10) l) (a .out .now) (v .out) (w .3 .last .0) (v .at) (length (v .out) - v .at)
+    (v .inv .4) (sym (v .inv .2)) (omega arith) refl (w .3 .ensures)
     ∙ ap (λ (x : List ℕ). laid x (a .out .now)) (sym h) in
-    (omega arith, omega arith, w .6 ∙ n, ap length o ∙ length-laid (held-words (a .set) l 0 (v .i + 1)) (a .out .now) room, o))
+    (omega arith, omega arith, w .7 ∙ n, ap length o ∙ length-laid (held-words (a .set) l 0 (v .i + 1)) (a .out .now) room, o))
     (λ w.
     let e : bit (a .set) (v .i) ≡ false = via (c .before .in-set .result) _ false (c .before .in-set .ensures) (w .0 .left) in
     let h : held-words (a .set) l 0 (v .i + 1) ≡ held-words (a .set) l 0 (v .i) = held-out-turn (a .set) l (v .i) e in
@@ -100,13 +100,13 @@ write-held-spec =
     μ-loop
     loop-holds
     in-set-requires
-    mul-write-slot
-    sub-write-slot
-    part-write-slot-start
-    part-write-slot-end
-    cast-write-slot
-    mul-write-slot-2
-    write-slot-requires
+    mul-copy-words
+    sub-copy-words
+    part-copy-words-start
+    part-copy-words-end
+    cast-copy-words
+    mul-copy-words-2
+    copy-words-requires
     add-at
     add-i
     loop-less

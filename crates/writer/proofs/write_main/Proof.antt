@@ -11,13 +11,13 @@ use Rattle.writer.proofs.write_main.Statement.{statement}
 use Rattle.writer.proofs.write_main.Tie as tie
 
 -- the lent words behind the call
-done : (d : tie.After-write-code) →
-    let a = d .before .before .before .args in
+done : (d : tie.After-copy-words) →
+    let a = d .before .before .before .before .args in
     let xs = set (set (set (a .out .now) 0 (3 * 2 ^ 30 + a .count)) 1 (a .w0)) 2 (a .question) in
-    putMid 3 (length xs - 3) xs (d .write-code .last .0) ≡ laid (main-words (a .count) (a .w0) (a .question) (a .code .now)) (a .out .now)
+    putMid 3 (length xs - 3) xs (d .copy-words .last .0) ≡ laid (main-words (a .count) (a .w0) (a .question) (a .code .now)) (a .out .now)
 done d =
-    let a = d .before .before .before .args in
-    main-done (a .count) (a .w0) (a .question) (a .code .now) (a .out .now) (d .write-code .last .0) _ (search needs) refl (d .write-code .ensures)
+    let a = d .before .before .before .before .args in
+    main-done (a .count) (a .w0) (a .question) (a .code .now) (a .out .now) (d .copy-words .last .0) _ (search needs) refl (d .copy-words .ensures)
 
 add-out : tie.Need-add-out
 add-out c = search needs
@@ -31,21 +31,21 @@ slice-write-out-2 c = simp length-set (omega arith)
 slice-write-out-3 : tie.Need-slice-write-out-3
 slice-write-out-3 c = simp length-set (omega arith)
 
-sub-write-code : tie.Need-sub-write-code
-sub-write-code c = simp length-set (omega arith)
+sub-copy-words : tie.Need-sub-copy-words
+sub-copy-words c = simp length-set (omega arith)
 
-part-write-code-start : tie.Need-part-write-code-start
-part-write-code-start c = simp length-set (omega arith)
+part-copy-words-start : tie.Need-part-copy-words-start
+part-copy-words-start c = simp length-set (omega arith)
 
-part-write-code-end : tie.Need-part-write-code-end
-part-write-code-end c = search needs
+part-copy-words-end : tie.Need-part-copy-words-end
+part-copy-words-end c = search needs
 
-write-code-requires : tie.Need-write-code-requires
-write-code-requires c κs = simp (length-take, length-drop, length-set) (omega arith)
+copy-words-requires : tie.Need-copy-words-requires
+copy-words-requires c κs = simp (length-take, length-drop, length-set) (omega arith)
 
 same-length : tie.Need-same-length
 same-length c =
-    let a = c .before .before .before .before .before .args in
+    let a = c .before .before .before .before .before .before .args in
     ap length (done (c .before .before)) ∙ length-laid (main-words (a .count) (a .w0) (a .question) (a .code .now)) (a .out .now)
     (omega (arith, length-main (a .count) (a .w0) (a .question) (a .code .now)))
 
@@ -60,9 +60,9 @@ write-main-spec =
     slice-write-out
     slice-write-out-2
     slice-write-out-3
-    sub-write-code
-    part-write-code-start
-    part-write-code-end
-    write-code-requires
+    sub-copy-words
+    part-copy-words-start
+    part-copy-words-end
+    copy-words-requires
     same-length
     returns)

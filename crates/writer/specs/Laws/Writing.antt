@@ -5,12 +5,12 @@ use mathlib.Core.Bool.{Bool, true, false, not, _&&_}
 use mathlib.Core.List.{List, [], _∷_, _++_, append-assoc, append-nil}
 use lib.Count.{ones, ones-cat, ones-ones}
 use lib.Dec.{ltb, leb}
-use lib.ListN.{length, take, drop, set, getD, length-append, length-drop, drop-of-length-le}
+use lib.ListN.{length, take, drop, set, getD, length-append, length-drop, length-set, drop-of-length-le}
 use lib.Pow.{pow-pos, mod-pow-add}
-use lib.Seq.{drop-drop, drop-cons, set-at, append-snoc, take-at, drop-at, take-all}
+use lib.Seq.{drop-drop, drop-cons, set-at, append-snoc, take-at, drop-at, take-all, take-length, take-suc}
 use borrow.Rule.Slice.PartMut.{putMid}
 use borrow.Author.Tests.{eqb-true, eqb-false, ltb-true, leb-true}
-use native.Mathlib.Nat.{mod-lt, mod-eq-of-lt, add-zero}
+use native.Mathlib.Nat.{mod-lt, mod-eq-of-lt, add-zero, zero-add}
 use native.Mathlib.Numerals.{add-one, one-add}
 use native.Mathlib.Omega.{arith}
 use Rattle.laws.specs.Pick.{pick, here, skip}
@@ -20,7 +20,7 @@ use Rattle.format.specs.Group.{quorum}
 use Rattle.format.specs.Bundle.{head-mark, mark-bit}
 use Rattle.format.specs.Numbers.{bundle-words, code-words, most-statements, output-words, place-of, statement-words}
 use Rattle.station.specs.Words.{sites}
-use Rattle.writer.specs.Written.{laid, part, held-words, main-words, words-of, writable, lent-after, count-after}
+use Rattle.writer.specs.Written.{laid, part, held-words, main-words, words-of, writable, lent-after, count-after, with-word, copyable, copy-after, copy-count}
 
 -- ---- words over the front
 pub laid-none : (out : List ℕ) → out ≡ laid [] out
@@ -68,6 +68,15 @@ part-begin at l out = refl
 pub part-turn : (i at : ℕ) (l out : List ℕ) → i < length out → set (laid (part i at l) out) i (getD l (at + i) 0) ≡ laid (part (i + 1) at l) out
 unfolding part
 part-turn i at l out h = rw (add-one i) (laid-snoc (part i at l) (getD l (at + i) 0) out i (length-part i at l) h)
+
+-- a whole list
+part-front : (l : List ℕ) (k : ℕ) → k ≤ length l → part k 0 l ≡ take k l
+unfolding part
+part-front l zero h = refl
+part-front l (suc k) h = ap (λ (x : List ℕ). x ++ (getD l (0 + k) 0 ∷ [])) (part-front l k (omega arith)) ∙ rw (zero-add k) (sym (take-suc l k 0 (omega arith)))
+
+part-all : (l : List ℕ) → part (length l) 0 l ≡ l
+part-all l = part-front l (length l) (omega arith) ∙ take-length l
 
 -- ---- the slots of a set
 module _ (h : ℕ) (slots : List ℕ) where
@@ -202,3 +211,24 @@ module _ (w0 question : ℕ) (code slots : List ℕ) (h : ℕ) (group : List ℕ
   is-written e =
       let f : writable (length out) h (ones h) k ≡ true = rw n at e in
       (ap (λ (x : ℕ). bundle-words (x + k)) n ∙ here _ _ _ f, here _ _ _ f)
+
+-- ---- a given bundle, copied
+set-front : (ws r : List ℕ) (i w : ℕ) → i < length ws → set (ws ++ r) i w ≡ set ws i w ++ r
+set-front [] r i w h = absurd (omega arith)
+set-front (x ∷ ws) r zero w h = refl
+set-front (x ∷ ws) r (suc i) w h = ap (λ (l : List ℕ). x ∷ l) (set-front ws r i w (omega arith))
+
+pub copied : (w0 : ℕ) (ws out xs : List ℕ) → (leb (place-of 1) (length ws) && leb (length ws) (length out)) ≡ true → xs ≡ laid (part (length ws) 0 ws) out
+    → (length ws ≡ copy-count (length ws) (length out)) × (set xs 1 w0 ≡ copy-after w0 ws out)
+unfolding copy-count copy-after copyable pick laid with-word
+copied w0 ws out xs fit e =
+    let long : 11 ≤ length ws = leb-true 11 (length ws) (both (leb 11 (length ws)) _ fit .0) in
+    let all : xs ≡ ws ++ drop (length ws) out = e ∙ ap (λ (l : List ℕ). l ++ drop (length l) out) (part-all ws) in
+    let put : set xs 1 w0 ≡ set ws 1 w0 ++ drop (length (set ws 1 w0)) out
+    = ap (λ (l : List ℕ). set l 1 w0) all ∙ set-front ws (drop (length ws) out) 1 w0 (omega arith) ∙ ap (λ (k : ℕ). set ws 1 w0 ++ drop k out) (sym (length-set ws 1 w0)) in
+    (rw fit, rw fit put)
+
+pub not-copied : (w0 : ℕ) (ws out : List ℕ) → (leb (place-of 1) (length ws) && leb (length ws) (length out)) ≡ false
+    → (0 ≡ copy-count (length ws) (length out)) × (out ≡ copy-after w0 ws out)
+unfolding copy-count copy-after copyable pick
+not-copied w0 ws out fit = (rw fit, rw fit)

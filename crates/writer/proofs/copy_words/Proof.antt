@@ -1,4 +1,4 @@
--- Ten words are written, word by word: in each turn the front holds one word more of the slot.
+-- The words are copied one by one: in each turn the front holds one word more of them.
 use Prim.Native.Nat.{_-_, _≤_, _<_}
 use mathlib.Core.Path.{_≡_, refl, _∙_}
 use native.Mathlib.Omega.{arith}
@@ -6,17 +6,17 @@ use lib.ListN.{length, length-set}
 use Rattle.writer.specs.Written.{laid, part}
 use Rattle.writer.specs.Laws.Writing.{part-begin, part-turn}
 use borrow.Author.Needs.{needs}
-use Rattle.writer.proofs.write_slot.Statement.{statement}
-use Rattle.writer.proofs.write_slot.Tie as tie
+use Rattle.writer.proofs.copy_words.Statement.{statement}
+use Rattle.writer.proofs.copy_words.Tie as tie
 
 abbrev Inv-loop : tie.InvT-loop
-Inv-loop out₀ slots at i₀ out i = (i ≤ 10) × (length out ≡ length out₀) × (out ≡ laid (part i at slots) out₀)
+Inv-loop out₀ ws at n i₀ out i = (i ≤ n) × (length out ≡ length out₀) × (out ≡ laid (part i at ws) out₀)
 
 abbrev μ-loop : tie.MeasureT-loop
-μ-loop out₀ slots at i₀ out i = 10 - i
+μ-loop out₀ ws at n i₀ out i = n - i
 
 loop-holds : tie.Need-loop-holds Inv-loop μ-loop
-loop-holds c = (search needs, refl, part-begin (c .args .at) (c .args .slots .now) (c .args .out .now))
+loop-holds c = (search needs, refl, part-begin (c .args .at) (c .args .ws .now) (c .args .out .now))
 
 add-out : tie.Need-add-out Inv-loop μ-loop
 add-out c = search needs
@@ -24,8 +24,8 @@ add-out c = search needs
 mul-out : tie.Need-mul-out Inv-loop μ-loop
 mul-out c = search needs
 
-element-copy-out-out : tie.Need-element-copy-out-out Inv-loop μ-loop
-element-copy-out-out c = search needs
+shared-slice-read-out : tie.Need-shared-slice-read-out Inv-loop μ-loop
+shared-slice-read-out c = search needs
 
 mul-out-2 : tie.Need-mul-out-2 Inv-loop μ-loop
 mul-out-2 c = search needs
@@ -44,7 +44,7 @@ loop-again c =
     let v = c .before .before .loop in
     let a = c .before .before .before .args in
     let l : v .i < length (a .out .now) = omega arith in
-    (search needs, simp length-set (omega arith), rw (v .inv .2) (part-turn (v .i) (a .at) (a .slots .now) (a .out .now) l))
+    (search needs, simp length-set (omega arith), rw (v .inv .2) (part-turn (v .i) (a .at) (a .ws .now) (a .out .now) l))
 
 same-length : tie.Need-same-length Inv-loop μ-loop
 same-length c = search needs
@@ -52,11 +52,11 @@ same-length c = search needs
 returns : tie.Need-returns Inv-loop μ-loop
 returns c =
     let v = c .before .loop in
-    let e : v .i ≡ 10 = omega arith in
+    let e : v .i ≡ c .before .before .args .n = omega arith in
     v .inv .2 ∙ rw e
 
-pub write-slot-spec : {M : Type 1} → statement M
-write-slot-spec =
+pub copy-words-spec : {M : Type 1} → statement M
+copy-words-spec =
     tie.close
     (tie.spec
     Inv-loop
@@ -64,7 +64,7 @@ write-slot-spec =
     loop-holds
     add-out
     mul-out
-    element-copy-out-out
+    shared-slice-read-out
     mul-out-2
     slice-write-out
     add-i

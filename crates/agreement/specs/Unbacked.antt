@@ -1,0 +1,128 @@
+-- "a jumper can copy a faulty first-round none vote and a coin then bring an unproposed value, as a tested run at n 3 shows" (Job 3 of document 02): a list of
+-- calls within the premises of demand 3, computed from the definitions. Sites 1 and 2 are sound, have jump on and propose 1, site 3 is faulty and codes no INIT,
+-- and 0 is decided, which no site proposed. So the backing is not to be had without its premise. The code is the toy one of Example. The crate lone_jumper has
+-- a second list, in which one jumper is enough.
+use Prim.Native.Nat.{ℕ, _+_, _*_, _^_, _≤_}
+use mathlib.Core.Bool.{Bool, true, false}
+use mathlib.Core.List.{List, [], _∷_, _++_}
+use mathlib.Core.Path.{_≡_, refl, ap}
+use native.Mathlib.Omega.{arith}
+use lib.ListN.{take, drop}
+use Rattle.laws.specs.Count.{count}
+use Rattle.format.specs.Numbers.{kind-P, kind-V, none, D-GET}
+use Rattle.format.specs.Group.{backing}
+use Rattle.agreement.specs.Demand.{opens, codes, Call, call, member, proposed, log, Sound, FewFaulty, Given, Decides, Claim}
+use Rattle.agreement.specs.Theorem.{claim}
+use Rattle.agreement.specs.Computed.{computes, numbers, given, given-out, few, others-out, few-out, decides, decides-out}
+use Rattle.agreement.specs.Example.{toy, out, give, bundle, lent, of-3}
+
+-- a none vote of round 1 of station 3, over a proposal of station 1 with 1 and one of its own with 0
+abbrev pub poison : List ℕ → List ℕ → List ℕ → List ℕ
+poison vote of-1 of-itself = (3 * 2 ^ 30 + 2) ∷ (vote ++ (take 10 (drop 1 of-1) ++ of-itself))
+
+-- ---- the list
+-- 20, 20: sites 1 and 2 open on question 1 with 1 and jump on
+abbrev pub both-2 : List Call
+both-2 = call 2 (opens 1 1 1 out) ∷ call 1 (opens 1 1 1 out) ∷ []
+
+-- 20: site 1 is given site 2's INIT, and sends P 1
+abbrev pub both-3 : List Call
+both-3 = give 1 (bundle both-2) 0 both-2
+
+-- 0, 0: site 3 has its module code a P of round 1 with 0, which no INIT backs, and a V none of round 1
+abbrev pub both-4 : List Call
+both-4 = call 3 (codes (of-3 kind-P 0 D-GET 1)) ∷ both-3
+
+abbrev pub both-5 : List Call
+both-5 = call 3 (codes (of-3 kind-V none D-GET 1)) ∷ both-4
+
+abbrev pub both-poison : List ℕ
+both-poison = poison (lent both-5) (bundle both-3) (lent both-4)
+
+-- 23: site 2 jumps from its INIT onto that vote
+abbrev pub both-6 : List Call
+both-6 = give 2 both-poison 0 both-5
+
+-- 20: it is given it again; both votes are none, and the coin is 0: P 0 of round 2, R-GET
+abbrev pub both-7 : List Call
+both-7 = give 2 both-poison 0 both-6
+
+-- 23: site 1 jumps onto that proposal, with the coin 0; 20: it is given it again, and sends V 0
+abbrev pub both-9 : List Call
+both-9 = give 1 (bundle both-7) 0 (give 1 (bundle both-7) 0 both-7)
+
+-- 23: site 2 jumps onto that vote; 21: it is given it again, and decides 0
+abbrev pub both-jump : List Call
+both-jump = give 2 (bundle both-9) 0 (give 2 (bundle both-9) 0 both-9)
+
+-- ---- what is computed of a list, all at once: site i decides 0 on question 1 in round r
+pub record Facts : Type 0 where
+  pub numbers : List ℕ
+  pub given : Bool
+  pub few : Bool
+  pub decided : Bool
+  pub proposed : ℕ
+
+abbrev pub facts : List Call → ℕ → ℕ → Facts
+facts cs i r =
+    record {
+      numbers = numbers toy [] 3 cs;
+      given = given toy [] 3 cs;
+      few = few toy [] 3 (3 ∷ []) cs;
+      decided = decides toy [] 3 cs i 0 1 0 r;
+      proposed = count (proposed (log toy [] 3 cs) 1 0) 3;
+    }
+
+abbrev pub both-answers : List ℕ
+both-answers = 21 ∷ 23 ∷ 20 ∷ 23 ∷ 20 ∷ 23 ∷ 0 ∷ 0 ∷ 20 ∷ 20 ∷ 20 ∷ []
+
+both-computed : facts both-jump 2 2 ≡ record { numbers = both-answers; given = true; few = true; decided = true; proposed = 0 }
+unfolding computes
+both-computed = refl
+
+-- ---- all of it: a list within the premises, for which the claim therefore holds, and in which site i decides what no site proposed
+pub record Unbacked (cs : List Call) (answers : List ℕ) (i : ℕ) : Type 1 where
+  pub answered : numbers toy [] 3 cs ≡ answers
+  pub within : Given toy [] 3 cs
+  pub few : FewFaulty toy [] 3 cs
+  pub sound-1 : Sound toy [] 3 1 cs
+  pub sound-2 : Sound toy [] 3 2 cs
+  pub decided : Decides toy [] 3 cs i 0 1 0
+  pub unproposed : count (proposed (log toy [] 3 cs) 1 0) 3 ≡ 0
+  pub claimed : Claim toy [] 3 cs
+
+module _ (cs : List Call) (answers : List ℕ) (i r : ℕ) (computed : facts cs i r ≡ record { numbers = answers; given = true; few = true; decided = true; proposed = 0 }) where
+  within : Given toy [] 3 cs
+  within = given-out toy [] 3 cs (ap (λ (f : Facts). f .given) computed)
+
+  few-faulty : FewFaulty toy [] 3 cs
+  few-faulty = few-out toy [] 3 (3 ∷ []) cs (ap (λ (f : Facts). f .few) computed)
+
+  others : (x : ℕ) → 1 ≤ x → x ≤ 3 → member x (3 ∷ []) ≡ false → Sound toy [] 3 x cs
+  others = others-out toy [] 3 (3 ∷ []) cs (ap (λ (f : Facts). f .few) computed)
+
+  pub unbacked : Unbacked cs answers i
+  unfolding decides-out
+  unbacked =
+      record {
+        answered = ap (λ (f : Facts). f .numbers) computed;
+        within = within;
+        few = few-faulty;
+        sound-1 = others 1 (omega arith) (omega arith) refl;
+        sound-2 = others 2 (omega arith) (omega arith) refl;
+        decided = decides-out toy [] 3 cs i 0 1 0 r (omega arith) (ap (λ (f : Facts). f .decided) computed);
+        unproposed = ap (λ (f : Facts). f .proposed) computed;
+        claimed = claim toy (λ key ws. refl) [] 3 (omega arith) (omega arith) cs within few-faulty;
+      }
+
+pub both-unbacked : Unbacked both-jump both-answers 2
+both-unbacked = unbacked both-jump both-answers 2 2 both-computed
+
+-- ---- so no theorem says that a decided value has its backing, where sound sites may jump
+pub enough-0 : (x : ℕ) → x ≡ 0 → backing 3 0 ≤ x → ⊥
+unfolding backing Rattle.laws.specs.Pick.pick
+enough-0 x z e = omega arith
+
+pub backing-needs-its-premise :
+    ((i k v : ℕ) → Sound toy [] 3 i both-jump → Decides toy [] 3 both-jump i k 1 v → backing 3 v ≤ count (proposed (log toy [] 3 both-jump) 1 v) 3) → ⊥
+backing-needs-its-premise f = let w = both-unbacked in enough-0 _ (w .unproposed) (f 2 0 0 (w .sound-2) (w .decided))

@@ -1,0 +1,172 @@
+-- The setting jump (Job 3 of document 02), in two laws of the one definition of giving: "8 is given only with jump off", and a bundle whose step is not above
+-- the station's has one outcome, whatever the setting.
+use Prim.Native.Nat.{ℕ, _≤_, _<_}
+use mathlib.Core.Bool.{Bool, true, false, _||_}
+use mathlib.Core.List.{List, _++_}
+use mathlib.Core.Path.{_≡_, refl, sym, ap, _∙_}
+use native.Mathlib.Omega.{arith}
+use lib.Dec.{eqb, ltb}
+use lib.ListN.{length}
+use borrow.Author.Tests.{le-leb, lt-leb, le-ltb}
+use Rattle.laws.specs.Pick.{pick}
+use Rattle.laws.specs.Bools.{never}
+use Rattle.laws.specs.Refusals.{Test, first-failed, passed-front}
+use Rattle.laws.specs.All.{All}
+use Rattle.format.specs.Numbers.{none, kept, sent, sent-decided, closed-now, not-above, too-early, last-round}
+use Rattle.format.specs.Group.{quorum}
+use Rattle.format.specs.Statement.{Statement, step, statement-code}
+use Rattle.format.specs.Bundle.{main-of, certificate-of}
+use Rattle.rules.specs.declared.Which.the-variants.{Only}
+use Rattle.certificate.specs.Check.{bundle-tests}
+use Rattle.modules.specs.declared.Last.{Last}
+use Rattle.modules.specs.declared.Module.{Module}
+use Rattle.modules.specs.Counter.{above, last-for}
+use Rattle.station.specs.declared.Stage.{Stage}
+use Rattle.station.specs.declared.Stage.the-variants.{Gathering, Proposing, Voting}
+use Rattle.station.specs.declared.Station.{Station}
+use Rattle.station.specs.Machine.{State, Outcome, refused, keeps, sends, Next, own, began, shut, stage-step, closes, decision-at, follows, keeping, insert, moved, ended, taken, answered, step-tests}
+use Rattle.station.specs.Words.{state-of, as-station, Lengths}
+use Rattle.station.specs.Fit.{fits}
+use Rattle.station.specs.Calls.{Returned, returned, station-tests, give-tests, giving, giving-outcome}
+use Rattle.station.specs.Demand.{as-given}
+use Rattle.station.specs.Laws.Views.{Gives, refuses, holds-on, shuts, goes-on, enters, gives-view}
+
+-- ---- with jump off a later step is 8, where the tests before pass
+pub off-is-8 : (mac : List ℕ → List ℕ → List ℕ) (m : Module) (t : Station) (ws : List ℕ) (coin : ℕ) (out : List ℕ) → t .jump ≡ false
+    → All (λ x. x .ok ≡ true) (station-tests m t coin out) → All (λ x. x .ok ≡ true) (bundle-tests (mac (m .key)) (m .n) (Only (t .identity .question)) ws)
+    → stage-step (t .stage) < step (main-of ws) → giving mac m t ws coin out ≡ as-given too-early m t out
+unfolding giving returned state-of first-failed pick
+off-is-8 mac m t ws coin out off ready valid up =
+    ap (λ (k : ℕ). returned m t out (pick (eqb k 0) whole (refused k)))
+    (passed-front (station-tests m t coin out) (bundle ++ step-tests (state-of t) (main-of ws)) ready ∙ passed-front bundle (step-tests (state-of t) (main-of ws)) valid ∙ eight)
+  where
+    bundle : List Test
+    bundle = bundle-tests (mac (m .key)) (m .n) (Only (t .identity .question)) ws
+
+    whole : Outcome
+    whole = answered (statement-code (mac (m .key))) last-round (m .n) (m .station) (last-for m (t .identity .question)) (state-of t) (main-of ws) (certificate-of ws) coin
+
+    eight : first-failed (step-tests (state-of t) (main-of ws)) ≡ too-early
+    eight = rw (off, le-leb (stage-step (t .stage)) (step (main-of ws)) (omega arith), lt-leb (step (main-of ws)) (stage-step (t .stage)) up)
+
+-- ---- the setting alone
+abbrev pub set-jump : Bool → Station → Station
+set-jump b t =
+    record { identity = t .identity; stage = t .stage; closed = t .closed; jump = b; decision = t .decision; held = t .held; groups = t .groups }
+
+-- all that a call returns but for the station's setting
+abbrev pub but-setting : Returned → Returned
+but-setting r = record { number = r .number; count = r .count; station = set-jump false (r .station); after = r .after; lent = r .lent }
+
+abbrev with-jump : Bool → State → State
+with-jump b t =
+    record {
+      question = t .question;
+      stage = t .stage;
+      closed = t .closed;
+      jump = b;
+      decision = t .decision;
+      held = t .held;
+      for-value = t .for-value;
+      for-none = t .for-none;
+    }
+
+abbrev but-jump : Outcome → Outcome
+but-jump (refused k) = refused k
+but-jump (keeps k u) = keeps k (with-jump false u)
+but-jump (sends k s c u) = sends k s c (with-jump false u)
+
+-- what follows a step does not look at it
+follows-same : (n : ℕ) (g : Stage) (t : State) (coin : ℕ) → follows n g (with-jump true t) coin ≡ follows n g (with-jump false t) coin
+unfolding follows
+follows-same n Gathering t coin = refl
+follows-same n (Proposing r f) t coin = refl
+follows-same n (Voting r) t coin = refl
+
+module _ (code : Statement → List ℕ) (top n number : ℕ) (last : Last) where
+  moved-same : (t : State) (x : Next) (d : ℕ) → but-jump (moved code top n number last (with-jump true t) x d) ≡ but-jump (moved code top n number last (with-jump false t) x d)
+  unfolding pick
+  moved-same t x d = go (above last (s .question) (step s))
+    where
+      s : Statement
+      s = own code number (t .question) (x .kind) (x .value) (x .flag) (x .round)
+
+      u : Bool → State
+      u b = began n (t .question) b (x .stage) d s (x .first ++ x .second)
+
+      k : ℕ
+      k = pick (ltb (t .decision) none || eqb d none) sent sent-decided
+
+      go : (a : Bool) → but-jump (pick a (sends k s (x .first ++ x .second) (u true)) (refused not-above)) ≡ but-jump (pick a (sends k s (x .first ++ x .second) (u false)) (refused not-above))
+      go true = refl
+      go false = refl
+
+  ended-same : (t : State) (coin : ℕ) → but-jump (ended code top n number last (with-jump true t) coin) ≡ but-jump (ended code top n number last (with-jump false t) coin)
+  unfolding ended pick
+  ended-same t coin = go (closes top (t .stage))
+    where
+      d : ℕ
+      d = decision-at (t .stage) (t .decision) (t .held)
+
+      go : (c : Bool) → but-jump (pick c (keeps closed-now (shut (with-jump true t) d)) (moved code top n number last (with-jump true t) (follows n (t .stage) (with-jump true t) coin) d))
+          ≡ but-jump (pick c (keeps closed-now (shut (with-jump false t) d)) (moved code top n number last (with-jump false t) (follows n (t .stage) (with-jump false t) coin) d))
+      go true = refl
+      go false =
+          moved-same t (follows n (t .stage) (with-jump true t) coin) d
+          ∙ ap (λ (x : Next). but-jump (moved code top n number last (with-jump false t) x d)) (follows-same n (t .stage) t coin)
+
+  taken-same : (t : State) (m : Statement) (c : List Statement) (coin : ℕ)
+      → but-jump (taken code top n number last (with-jump true t) m c coin) ≡ but-jump (taken code top n number last (with-jump false t) m c coin)
+  unfolding taken pick
+  taken-same t m c coin = go (ltb (length (insert m (t .held))) (quorum n))
+    where
+      k : State
+      k = keeping n t m c
+
+      go : (b : Bool) → but-jump (pick b (keeps kept (with-jump true k)) (ended code top n number last (with-jump true k) coin))
+          ≡ but-jump (pick b (keeps kept (with-jump false k)) (ended code top n number last (with-jump false k) coin))
+      go true = refl
+      go false = ended-same k coin
+
+returned-same : (m : Module) (t : Station) (out : List ℕ) (b : Bool) (o : Outcome) → but-setting (returned m (set-jump b t) out o) ≡ but-setting (returned m (set-jump false t) out (but-jump o))
+unfolding returned as-station
+returned-same m t out b (refused k) = refl
+returned-same m t out b (keeps k u) = refl
+returned-same m t out b (sends k s c u) = refl
+
+-- ---- two stations alike but for the setting get the same outcome but for the setting, where the bundle's step is not above theirs
+module _ (mac : List ℕ → List ℕ → List ℕ) (m : Module) (t : Station) (ws : List ℕ) (coin : ℕ) (out : List ℕ) (here : step (main-of ws) ≤ stage-step (t .stage)) where
+  outcome-same : but-jump (giving-outcome mac m (set-jump true t) ws coin out) ≡ but-jump (giving-outcome mac m (set-jump false t) ws coin out)
+  unfolding fits state-of pick
+  outcome-same = rw (le-ltb (stage-step (t .stage)) (step (main-of ws)) here) (go (eqb (first-failed (give-tests mac m (set-jump false t) ws coin out)) 0))
+    where
+      k : ℕ
+      k = first-failed (give-tests mac m (set-jump false t) ws coin out)
+
+      whole : Bool → Outcome
+      whole b = taken (statement-code (mac (m .key))) last-round (m .n) (m .station) (last-for m (t .identity .question)) (with-jump b (state-of t)) (main-of ws) (certificate-of ws) coin
+
+      go : (b : Bool) → but-jump (pick b (whole true) (refused k)) ≡ but-jump (pick b (whole false) (refused k))
+      go true = taken-same (statement-code (mac (m .key))) last-round (m .n) (m .station) (last-for m (t .identity .question)) (state-of t) (main-of ws) (certificate-of ws) coin
+      go false = refl
+
+  pub same-but-setting : but-setting (giving mac m (set-jump true t) ws coin out) ≡ but-setting (giving mac m (set-jump false t) ws coin out)
+  unfolding giving
+  same-but-setting =
+      returned-same m t out true (giving-outcome mac m (set-jump true t) ws coin out)
+      ∙ ap (λ (o : Outcome). but-setting (returned m (set-jump false t) out o)) outcome-same
+      ∙ sym (returned-same m t out false (giving-outcome mac m (set-jump false t) ws coin out))
+
+-- ---- a giving leaves question and setting, but for closing, which clears the setting
+pub setting-kept : (mac : List ℕ → List ℕ → List ℕ) (m : Module) (t : Station) (ws : List ℕ) (coin : ℕ) (out : List ℕ) → Lengths t
+    → (giving mac m t ws coin out .station .identity .question ≡ t .identity .question) × (giving mac m t ws coin out .station .jump ≡ true → t .jump ≡ true)
+unfolding giving returned as-station state-of
+setting-kept mac m t ws coin out L = go (giving-outcome mac m t ws coin out) (gives-view mac m t ws coin out L)
+  where
+    go : (o : Outcome) → Gives mac m t ws coin out o
+        → (returned m t out o .station .identity .question ≡ t .identity .question) × (returned m t out o .station .jump ≡ true → t .jump ≡ true)
+    go _ (refuses e) = (refl, λ j. j)
+    go _ (holds-on A few) = (refl, λ j. j)
+    go _ (shuts A size c) = (refl, λ j. never false refl j)
+    go _ (goes-on A size c later k) = (refl, λ j. j)
+    go _ (enters J later) = (refl, λ j. j)
