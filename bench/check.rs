@@ -1,14 +1,15 @@
 //! Times the proved validity check beside the second implementation's, on valid bundles at n 31.
 //!   check         prints the table
 //!   check ours    runs the proved check alone, for a profiler
-//!   check times   prints the proved check's times alone, for bench/compare
+//!   check times   prints the proved check's times alone, at n 4, 7 and 31 and for refused bundles too,
+//!                 for bench/compare
 
 use std::hint::black_box;
 
-use second::check::{check, is_backed};
+use second::check::{check, is_backed, judge};
 use second::group::{size_in_range, STATEMENT_WORDS};
 use second::hmac::{bytes_of, Key};
-use second::samples::{both_values, bundle, inits, none_votes, proposals, v, D, KEY, R};
+use second::samples::{both_values, bundle, inits, none_votes, proposals, v, D, KEY, QUESTION, R};
 use second::sha256::{compress, BLOCK_BYTES};
 use second::words::{Bundle, Statement, NONE};
 
@@ -25,6 +26,8 @@ fn pairs(case: &Case) -> usize {
 #[link(name = "check_exports", kind = "static")]
 extern "C" {
     fn check_exports_check(key: *const u8, n: u32, ws: *const u32, count: usize) -> u32;
+    fn check_exports_judge(key: *const u8, n: u32, asked: u32, ws: *const u32, count: usize)
+        -> u32;
     fn check_exports_compress(state: *mut u32, block: *const u32);
 }
 
@@ -114,21 +117,21 @@ struct Case {
     words: Vec<u32>,
 }
 
-fn cases() -> Vec<Case> {
+fn cases(n: u32) -> Vec<Case> {
     let second_group = bundle(
         v(1, 3, 1),
         &[
-            proposals(N, 3, 1, &[D, R], true),
-            proposals(N, 2, 1, &[D, R], false),
+            proposals(n, 3, 1, &[D, R], true),
+            proposals(n, 2, 1, &[D, R], false),
         ],
     );
     let none = bundle(
         v(1, 3, NONE),
-        &[both_values(N, 3, &[R], true), none_votes(N, 2, false)],
+        &[both_values(n, 3, &[R], true), none_votes(n, 2, false)],
     );
     let first = bundle(
         v(1, 1, 0),
-        &[proposals(N, 1, 0, &[D], true), inits(N, 0, false)],
+        &[proposals(n, 1, 0, &[D], true), inits(n, 0, false)],
     );
     vec![
         Case {
@@ -144,6 +147,67 @@ fn cases() -> Vec<Case> {
             words: none.words(),
         },
     ]
+}
+
+/// A bundle as a station judges it that is on a question, with the number that it answers.
+struct Given {
+    name: &'static str,
+    asked: u32,
+    words: Vec<u32>,
+    answer: u32,
+}
+
+/// By rule 7: valid, and refused by each number in the main statement, in the first of the certificate
+/// and in its last.
+fn givens(n: u32) -> Vec<Given> {
+    let valid = cases(n).remove(2).words;
+    let last = valid.len() - STATEMENT_WORDS;
+    let given = |name, answer, changes: &[(usize, u32)]| {
+        let mut words = valid.clone();
+        for (place, bits) in changes {
+            words[*place] ^= bits;
+        }
+        Given {
+            name,
+            asked: QUESTION,
+            words,
+            answer,
+        }
+    };
+    let mut all = vec![
+        given("valid", 0, &[]),
+        given("3 in the main statement", 3, &[(1, 1 << 24)]),
+        given("3 in the first of the certificate", 3, &[(11, 1 << 24)]),
+        given("3 in the last", 3, &[(last, 1 << 24)]),
+        given("4 in the first of the certificate", 4, &[(12, 1)]),
+        given("4 in the last", 4, &[(last + 1, 1)]),
+        given("5 in the main statement", 5, &[(3, 1)]),
+        given("5 in the first of the certificate", 5, &[(13, 1)]),
+        given("5 in the last", 5, &[(last + 2, 1)]),
+    ];
+    all.push(Given {
+        name: "4 by the main statement",
+        asked: QUESTION + 1,
+        words: valid,
+        answer: 4,
+    });
+    let six = bundle(
+        v(1, 3, NONE),
+        &[both_values(n, 3, &[R], true), none_votes(n, 1, false)],
+    );
+    all.push(Given {
+        name: "6 in the second group",
+        asked: QUESTION,
+        words: six.words(),
+        answer: 6,
+    });
+    all
+}
+
+fn ours_given(key: &[u8], n: u32, given: &Given) -> u32 {
+    assert_eq!(key.len(), 32);
+    let words = &given.words;
+    unsafe { check_exports_judge(key.as_ptr(), n, given.asked, words.as_ptr(), words.len()) }
 }
 
 /// Nanoseconds for a call.
@@ -184,18 +248,37 @@ fn our_compressions(pairs: usize, first: &[u32; 16], second: &mut [u32; 16]) {
 }
 
 /// The proved check alone, each case by its best round.
-fn our_times(key: &[u8], cases: &[Case]) {
-    for case in cases {
-        let time = || timed(|| assert_eq!(ours(black_box(key), black_box(&case.words)), 0));
-        let best = (0..ROUNDS).map(|_| time()).fold(f64::INFINITY, f64::min);
-        let statements = case.words.len() / STATEMENT_WORDS;
-        println!("check, {}\t{statements} statements\t{best:.0}", case.name);
+fn our_times(key: &[u8]) {
+    for n in [4, 7, 31] {
+        for case in cases(n) {
+            let call = || {
+                let words = black_box(&case.words);
+                let key = black_box(key);
+                unsafe { check_exports_check(key.as_ptr(), n, words.as_ptr(), words.len()) }
+            };
+            print_best(n, case.name, &case.words, || assert_eq!(call(), 0));
+        }
+        for given in givens(n) {
+            let judged = judge(&KEY, n, Some(given.asked), &given.words);
+            assert_eq!(judged.err().unwrap_or(0), given.answer, "{}", given.name);
+            let call = || ours_given(black_box(key), n, black_box(&given));
+            print_best(n, given.name, &given.words, || {
+                assert_eq!(call(), given.answer)
+            });
+        }
     }
+}
+
+fn print_best(n: u32, name: &str, words: &[u32], mut call: impl FnMut()) {
+    let times = (0..ROUNDS).map(|_| timed(&mut call));
+    let best = times.fold(f64::INFINITY, f64::min);
+    let statements = words.len() / STATEMENT_WORDS;
+    println!("check, n {n}, {name}\t{statements} statements\t{best:.0}");
 }
 
 fn main() {
     let key = bytes_of(&KEY);
-    let cases = cases();
+    let cases = cases(N);
     match std::env::args().nth(1).as_deref() {
         Some("ours") => {
             for case in cases.iter().cycle().take(200_000) {
@@ -203,7 +286,7 @@ fn main() {
             }
             return;
         }
-        Some("times") => return our_times(&key, &cases),
+        Some("times") => return our_times(&key),
         _ => {}
     }
     for case in &cases {

@@ -1,8 +1,9 @@
 //! Scripts of calls: each call with each number that it can return, the marked cases, the edges,
 //! the order of the tests, and random lists; all with jump off. Stations that jump follow behind them
-//! (`jump_cases.rs`). Where 01 fixes a number it is stated here by hand.
+//! (`jump_cases.rs`), and bundles with several faults (`fault_cases.rs`). Where 01 fixes a number it is stated here by hand.
 
 use crate::author::Author;
+use crate::fault_cases::fault_cases;
 use crate::fit_cases::fit_cases;
 use crate::group::{backing, quorum, BUNDLE_WORDS, LAST_ROUND, MOST_CERTIFICATE, STATEMENT_WORDS};
 use crate::jump_cases::jump_cases;
@@ -19,7 +20,7 @@ use crate::world::Jumps;
 
 /// Registers: what a call takes, what it is made from, and the lent output.
 pub const USED: usize = 0;
-const BASE: usize = 1;
+pub const BASE: usize = 1;
 pub const OUTPUT: usize = 2;
 /// What lent words hold before a call.
 pub const BACKGROUND: u32 = 0xa5;
@@ -1201,5 +1202,6 @@ pub fn calls(author: Author) -> Author {
     calls.without_kept_inits();
     calls.random_lists();
     jump_cases(&mut calls);
+    fault_cases(&mut calls);
     calls.author
 }

@@ -28,6 +28,7 @@ pub mod world;
 pub mod author;
 pub mod bundle_cases;
 pub mod call_cases;
+pub mod fault_cases;
 pub mod fit_cases;
 pub mod generate;
 pub mod group_simulation;

@@ -1,4 +1,3 @@
-pub mod Parts
-pub mod Codes
-pub mod Groups
+pub mod Read
+pub mod Calls
 pub mod Answers

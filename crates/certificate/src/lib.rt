@@ -1,105 +1,40 @@
-// A certificate held against the rules, and the validity check (document 01, "Validity"). The contracts cite specs/.
-use format::CERTIFICATE_AT;
-use format::CODE_WORDS;
+// The validity check (document 01, "Validity") in one walk over the certificate: each statement is read once, in order, and what is found is carried to the
+// next. The contracts cite specs/.
 use format::COUNTS;
 use format::Fields;
-use format::HEAD_MARK;
-use format::HEAD_ZEROS;
-use format::MARK;
-use format::MOST_STATEMENTS;
-use format::NONE;
 use format::STATEMENT_WORDS;
-use format::V;
 use hmac::Prepared;
-use rules::Group;
 use rules::Which;
+use walk::Findings;
+use walk::Taken;
 ghost use mathlib.Core.Path.{_≡_};
-ghost use mathlib.Core.Bool.{_&&_};
-ghost use Prim.Native.Nat.{ℕ, _+_, _-_, _*_, _≤_, _<_};
-ghost use lib.ListN.{length, getD, take, drop};
-ghost use Rattle.format.specs.Numbers.{code-words, covered-words, most-statements, place-of, statement-words};
-ghost use Rattle.hmac.specs.Hmac.{code-from};
-ghost use Rattle.format.specs.Words.{fields-of, spare-of};
-ghost use Rattle.format.specs.Statement.{statement, statements, same-words, verifies};
-ghost use Rattle.hmac.specs.Code.{hmac-code};
-ghost use Rattle.format.specs.Bundle.{laid-out, all-formed, main-of};
-ghost use Rattle.rules.specs.Rules.{which, some, holds, rest-holds, spread as Spread, groups-hold, rule};
+ghost use mathlib.Core.Bool.{true, _||_};
+ghost use mathlib.Core.List.{List};
+ghost use Prim.Native.Nat.{ℕ, _+_, _-_, _%_, _≤_};
+ghost use lib.ListN.{length};
 ghost use Rattle.laws.specs.Least.{least};
-ghost use Rattle.certificate.specs.Check.{all-verify, question-fits, judged, checked};
+ghost use Rattle.hmac.specs.Hmac.{code-from};
+ghost use Rattle.hmac.specs.Code.{hmac-code};
+ghost use Rattle.format.specs.Numbers.{most-statements, place-of, statement-words};
+ghost use Rattle.format.specs.Group.{size-fits};
+ghost use Rattle.format.specs.Statement.{words-at};
+ghost use Rattle.format.specs.Bundle.{count-in, laid-out};
+ghost use Rattle.rules.specs.declared.Group.{Group};
+ghost use Rattle.walk.specs.Walk.{walked, through as Through};
+ghost use Rattle.certificate.specs.Check.{judged, checked};
 
-// The most statements that a head counts.
-const MOST: u32 = MOST_STATEMENTS as u32;
-
-// Whether the `have` statements from word `at` on are the group.
-fn group_holds(ws: &[u32], at: usize, have: usize, g: Group) -> bool
-    requires { ⌜ (have ≤ most-statements) × (at + have * statement-words ≤ length (now ws)) ⌝ }
-    ensures { λ r. ⌜ r ≡ holds g (statements (now (ws .entry)) at have) ⌝ }
+// The statement at word `at`, read into a struct: what is looked at of it is looked at there.
+fn take_up(ws: &[u32], at: usize) -> Taken
+    requires { ⌜ at + statement-words ≤ length (now ws) ⌝ }
+    ensures { λ r. ⌜ r .words ≡ words-at (now (ws .entry)) at ⌝ }
 {
-    if have as u64 != g.size as u64 {
-        return false;
-    }
+    let mut words = [0u32; STATEMENT_WORDS];
     let mut i: usize = 0;
-    let mut last: u32 = 0;
-    while i < have {
-        let f = format::read_fields(ws[at + i * STATEMENT_WORDS]);
-        let station = f.station;
-        if !(rules::is_wanted(g, f) & (last < station)) {
-            return false;
-        }
-        last = station;
+    while i < STATEMENT_WORDS {
+        words[i] = ws[at + i];
         i += 1;
     }
-    true
-}
-
-// Whether one of the `have` statements from word `at` on has such a value and such a flag.
-fn some_with(ws: &[u32], at: usize, have: usize, value: Which, flag: Which) -> bool
-    requires { ⌜ (have ≤ most-statements) × (at + have * statement-words ≤ length (now ws)) ⌝ }
-    ensures { λ r. ⌜ r ≡ some (λ s. which value (s .value) && which flag (s .flag)) (statements (now (ws .entry)) at have) ⌝ }
-{
-    let mut i: usize = 0;
-    while i < have {
-        let f = format::read_fields(ws[at + i * STATEMENT_WORDS]);
-        if rules::allows(value, f.value) & rules::allows(flag, f.flag) {
-            return true;
-        }
-        i += 1;
-    }
-    false
-}
-
-// Whether the first `have` statements of the certificate are spread over both values, where the main statement m is a V with none.
-fn spread(ws: &[u32], m: Fields, have: usize) -> bool
-    requires { ⌜ (have ≤ most-statements) × (place-of 1 + have * statement-words ≤ length (now ws)) × (m ≡ fields-of (getD (now ws) (place-of 0) 0)) ⌝ }
-    ensures { λ r. ⌜ r ≡ Spread (main-of (now (ws .entry))) (statements (now (ws .entry)) (place-of 1) have) ⌝ }
-{
-    let zero = some_with(ws, CERTIFICATE_AT, have, Which::Only(0), Which::Any);
-    let one = some_with(ws, CERTIFICATE_AT, have, Which::Only(1), Which::Any);
-    !((m.kind == V) & (m.value == NONE)) | (zero & one)
-}
-
-// Whether the `rest` statements behind the first `have` of the certificate are the second group, or none where m has no second group.
-fn rest_holds(ws: &[u32], n: u32, m: Fields, have: usize, rest: usize) -> bool
-    requires { ⌜ (have + rest ≤ most-statements) × (place-of 1 + (have + rest) * statement-words ≤ length (now ws)) × (m ≡ fields-of (getD (now ws) (place-of 0) 0)) ⌝ }
-    ensures { λ r. ⌜ r ≡ rest-holds n (main-of (now (ws .entry))) (statements (now (ws .entry)) (place-of 1) have) (statements (now (ws .entry)) (place-of 1 + have * statement-words) rest) ⌝ }
-{
-    let r = m.round;
-    let dget = some_with(
-        ws,
-        CERTIFICATE_AT,
-        have,
-        Which::Any,
-        Which::Only(format::D_GET),
-    );
-    if rules::has_second(m.kind, m.value, r, dget) {
-        return group_holds(
-            ws,
-            CERTIFICATE_AT + have * STATEMENT_WORDS,
-            rest,
-            rules::second_group(n, m.value, r),
-        );
-    }
-    rest == 0
+    Taken { words: words }
 }
 
 // The smaller of two numbers.
@@ -109,123 +44,106 @@ pub fn smaller(a: usize, b: usize) -> usize
     if a < b { a } else { b }
 }
 
-// Whether the certificate is the first group g with what the rules ask of it, and behind it the second group.
-fn groups_hold(ws: &[u32], n: u32, m: Fields, g: Group, count: usize) -> bool
-    requires { ⌜ (count ≤ most-statements) × (place-of 1 + count * statement-words ≤ length (now ws)) × (m ≡ fields-of (getD (now ws) (place-of 0) 0)) ⌝ }
-    ensures { λ r. ⌜ r ≡ groups-hold n (main-of (now (ws .entry))) g (statements (now (ws .entry)) (place-of 1) count) ⌝ }
+// The statements up to the `end` behind a fault of 4 or 5: no code is computed and no group looked at any more, only fields and questions.
+fn glance(n: u32, question: u32, ws: &[u32], end: u32, from: Findings) -> Findings
+    requires { ⌜ ((from .other || from .wrong) ≡ true) × (from .place ≤ end) × (end ≤ most-statements + 1) × (place-of end ≤ length (now ws)) ⌝ }
+    ensures { λ r. ⌜ ((code : List ℕ → List ℕ) (g : Group) → r ≡ walked code n g question (now (ws .entry)) from (end - from .place)) ⌝ }
 {
-    let have = smaller(g.size as usize, count);
-    let first = group_holds(ws, CERTIFICATE_AT, have, g);
-    let both = spread(ws, m, have);
-    let rest = rest_holds(ws, n, m, have, count - have);
-    first & both & rest
+    let mut f = from;
+    while !f.malformed & (f.place < end) {
+        let at = 1 + f.place as usize * STATEMENT_WORDS;
+        let s = format::read_fields(ws[at]);
+        let good = format::well_formed(s, n);
+        let next = Findings {
+            place: f.place + 1,
+            last: s.station,
+            malformed: !good,
+            other: f.other | (ws[at + 1] != question),
+            wrong: f.wrong,
+            unbacked: f.unbacked,
+            dget: f.dget,
+            zero: f.zero,
+            one: f.one,
+        };
+        f = next;
+    }
+    f
 }
 
-// Whether the certificate of `count` statements is as the rules ask.
-fn rule_holds(ws: &[u32], n: u32, count: usize) -> bool
-    requires { ⌜ (count ≤ most-statements) × (place-of 1 + count * statement-words ≤ length (now ws)) ⌝ }
-    ensures { λ r. ⌜ r ≡ rule n (main-of (now (ws .entry))) (statements (now (ws .entry)) (place-of 1) count) ⌝ }
+// The walk over the certificate of `count` statements: the first group, or as much of it as there is, and then the rest. A part ends behind its last statement
+// or behind a malformed one.
+fn through(
+    key: Prepared,
+    n: u32,
+    m: Fields,
+    question: u32,
+    ws: &[u32],
+    count: u32,
+    from: Findings,
+) -> Findings
+    requires { ⌜ (from .place ≡ 1) × (count ≤ most-statements) × (place-of (1 + count) ≤ length (now ws)) ⌝ }
+    ensures { λ r. ⌜ r ≡ Through (code-from key) n m question (now (ws .entry)) count from ⌝ }
 {
-    let m = format::read_fields(ws[1]);
     let r = m.round;
-    if m.kind == format::INIT {
-        return count == 0;
-    }
-    if rules::early_toss(m.kind, m.flag, r) {
-        return false;
-    }
-    groups_hold(ws, n, m, rules::first_group(n, m), count)
-}
-
-// Whether the words are laid out as a bundle.
-fn layout(ws: &[u32]) -> bool
-    ensures { λ r. ⌜ r ≡ laid-out (now (ws .entry)) ⌝ }
-{
-    if ws.len() == 0 {
-        return false;
-    }
-    let h = ws[0];
-    let count = (h % COUNTS) as usize;
-    (h / MARK == HEAD_MARK)
-        & (h / COUNTS % HEAD_ZEROS == 0)
-        & (h % COUNTS <= MOST)
-        & (ws.len() == 1 + STATEMENT_WORDS * (1 + count))
-}
-
-// Whether each of the first k statements, the main statement among them, has its fields in place.
-fn all_well_formed(ws: &[u32], n: u32, k: usize) -> bool
-    requires { ⌜ place-of k ≤ length (now ws) ⌝ }
-    ensures { λ r. ⌜ r ≡ all-formed n (now (ws .entry)) (place-of 0) k ⌝ }
-{
-    let mut i: usize = 0;
-    while i < k {
-        let f = format::read_fields(ws[1 + i * STATEMENT_WORDS]);
-        if !format::well_formed(f, n) {
-            return false;
+    let one = rules::first_group(n, m);
+    let two = rules::second_group(n, m.value, r);
+    let size = walk::first_size(m, one);
+    let have = smaller(size as usize, count as usize) as u32;
+    let mut f = from;
+    let mut g = one;
+    let mut end = 1 + have;
+    let mut first = true;
+    while first | (!f.malformed & (f.place < end)) {
+        if !f.malformed & (f.place < end) {
+            if f.other | f.wrong {
+                let rest = glance(n, question, ws, end, f);
+                f = rest;
+            } else {
+                let t = take_up(ws, 1 + f.place as usize * STATEMENT_WORDS);
+                let next = walk::turn(key, n, g, question, f, t, f.place + 1);
+                f = next;
+            }
+        } else {
+            let border = walk::between(m, have == size, count - have, two, f);
+            f = border;
+            g = two;
+            end = 1 + count;
+            first = false;
         }
-        i += 1;
     }
-    true
+    f
 }
 
-// Whether the certificate's statements are of the main statement's question, and that is the one asked for.
-fn question_fits(ws: &[u32], count: usize, asked: Which) -> bool
-    requires { ⌜ place-of 1 + count * statement-words ≤ length (now ws) ⌝ }
-    ensures { λ r. ⌜ r ≡ question-fits asked (main-of (now (ws .entry))) (statements (now (ws .entry)) (place-of 1) count) ⌝ }
+// The key's states, where a code is to be computed: not for a main statement that is malformed or of another question than the one asked for.
+fn states_for(key: [u8; 32], needed: bool) -> Prepared
+    ensures { λ r. ⌜ (needed ≡ true → code-from r ≡ hmac-code key) ⌝ }
 {
-    let question = ws[2];
-    let mut i: usize = 0;
-    while i < count {
-        if ws[CERTIFICATE_AT + i * STATEMENT_WORDS + 1] != question {
-            return false;
-        }
-        i += 1;
+    if !needed {
+        return Prepared {
+            inner: [0; 8],
+            outer: [0; 8],
+        };
     }
-    rules::allows(asked, question)
-}
-
-// Whether the statement at word `at` has this code. All eight words are compared before the answer, so that its time says nothing of where
-// a forged code differs.
-fn code_matches(ws: &[u32], at: usize, code: [u32; CODE_WORDS]) -> bool
-    requires { ⌜ at + statement-words ≤ length (now ws) ⌝ }
-    ensures { λ r. ⌜ r ≡ same-words (take code-words (drop (at + covered-words) (now (ws .entry)))) code ⌝ }
-{
-    let mut same = true;
-    let mut i: usize = 0;
-    while i < CODE_WORDS {
-        same = same & (ws[at + 2 + i] == code[i]);
-        i += 1;
-    }
-    same
-}
-
-// Whether the code of the statement at word `at` verifies under a prepared key. Bits 26..24 of its word 0 are zero, so the words read are
-// those that the code covers.
-fn verifies_at(key: Prepared, ws: &[u32], at: usize) -> bool
-    requires { ⌜ (at + statement-words ≤ length (now ws)) × (spare-of (getD (now ws) at 0) ≡ 0) ⌝ }
-    ensures { λ r. ⌜ r ≡ verifies (code-from key) (statement (now (ws .entry)) at) ⌝ }
-{
-    let end = at + 2;
-    let code = codes::code_words(key, &ws[at..end]);
-    let words = code.words;
-    code_matches(ws, at, words)
-}
-
-// Whether the codes of the first k statements verify under the group's key, which is prepared once for all of them.
-fn all_codes_verify(key: [u8; 32], ws: &[u32], k: usize) -> bool
-    requires { ⌜ (place-of k ≤ length (now ws)) × ((i : ℕ) → i < k → spare-of (getD (now ws) (place-of i) 0) ≡ 0) ⌝ }
-    ensures { λ r. ⌜ r ≡ all-verify (hmac-code key) (statements (now (ws .entry)) (place-of 0) k) ⌝ }
-{
     let keyed = hmac::prepare(&key);
-    let states = keyed.key;
-    let mut i: usize = 0;
-    while i < k {
-        if !verifies_at(states, ws, 1 + i * STATEMENT_WORDS) {
-            return false;
-        }
-        i += 1;
+    keyed.key
+}
+
+// The answer for words that are laid out as a bundle with `count` certificate statements, in a group of a fitting size.
+fn walk(key: [u8; 32], n: u32, asked: Which, ws: &[u32], count: u32) -> u32
+    requires { ⌜ (size-fits n ≡ true) × (laid-out (now ws) ≡ true) × (count ≡ count-in (now ws)) ⌝ }
+    ensures { λ r. ⌜ r ≡ judged key n asked (now (ws .entry)) ⌝ }
+{
+    let t = take_up(ws, 1);
+    let words = t.words;
+    let m = format::read_fields(words[0]);
+    let good = format::well_formed(m, n);
+    let fits = rules::allows(asked, words[1]);
+    let states = states_for(key, good & fits);
+    let f = walk::start(states, n, asked, t);
+    if f.other | f.wrong {
+        return walk::answer(glance(n, words[1], ws, 1 + count, f));
     }
-    true
+    walk::answer(through(states, n, m, words[1], ws, count, f))
 }
 
 // The answer for the words given, under the group's key and n, where the question is to be one or may be any.
@@ -235,23 +153,11 @@ pub fn judge(key: [u8; 32], n: u32, asked: Which, ws: &[u32]) -> u32
     if !format::size_fits(n) {
         return format::OUT_OF_RANGE;
     }
-    if !layout(ws) {
+    let h = format::word_at(ws, 0);
+    if !walk::laid_out(h, ws.len()) {
         return format::MALFORMED;
     }
-    let count = (ws[0] % COUNTS) as usize;
-    if !all_well_formed(ws, n, count + 1) {
-        return format::MALFORMED;
-    }
-    if !question_fits(ws, count, asked) {
-        return format::OTHER_QUESTION;
-    }
-    if !all_codes_verify(key, ws, count + 1) {
-        return format::WRONG_CODE;
-    }
-    if !rule_holds(ws, n, count) {
-        return format::NO_CERTIFICATE;
-    }
-    format::VALID
+    walk(key, n, asked, ws, h % COUNTS)
 }
 
 // The validity check: valid or not, whatever the question.

@@ -1,4 +1,5 @@
 pub mod Word0
-pub mod Layout
 pub mod Shape
+pub mod Layout
+pub mod Parts
 pub mod ReadBack

@@ -7,10 +7,9 @@ use native.Mathlib.Omega.{arith}
 use native.Mathlib.Numerals.{add-one}
 use lib.Count.{ones}
 use lib.Dec.{ltb}
-use Rattle.laws.specs.Pick.{pick}
+use Rattle.laws.specs.Pick.{pick, and-pick}
 use Rattle.laws.specs.Sets.{bit}
 use Rattle.format.specs.Group.{quorum}
-use Rattle.certificate.specs.Laws.Parts.{and-pick}
 use Rattle.format.specs.Numbers.{statement-words}
 use Rattle.station.specs.Words.{sites}
 use Rattle.station.specs.Fit.{zeros, slot-fits, slots-fit}

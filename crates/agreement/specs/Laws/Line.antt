@@ -2,7 +2,7 @@
 use mathlib.Core.Path.{_≡_, refl, sym, _∙_, ap, subst}
 use mathlib.Core.Bool.{Bool, true, false, _&&_, _||_}
 use mathlib.Core.List.{List, [], _∷_, _++_, List·Memᴰ·head, List·Memᴰ·tail}
-use Prim.Native.Nat.{ℕ, zero, suc, _+_, _-_, _*_, _^_, _≤_, _<_}
+use Prim.Native.Nat.{ℕ, zero, suc, _+_, _-_, _*_, _≤_, _<_}
 use native.Mathlib.Omega.{arith}
 use lib.Dec.{eqb}
 use lib.ListN.{length, getD, take, drop}
@@ -15,9 +15,8 @@ use Rattle.format.specs.Group.{quorum}
 use Rattle.format.specs.Words.{fields-of, formed, station-of}
 use Rattle.format.specs.Statement.{Statement, statement, statements, covered-at, covered, same-words, verifies, well-formed}
 use Rattle.format.specs.Bundle.{all-formed}
-use Rattle.format.specs.Laws.Layout.{covered-read, formed-well, same-out}
-use Rattle.format.specs.Laws.Shape.{formed-out, small}
-use Rattle.certificate.specs.Laws.Codes.{two-words}
+use Rattle.format.specs.Laws.Layout.{covered-formed, same-out, two-words}
+use Rattle.format.specs.Laws.Shape.{formed-out}
 use Rattle.station.specs.declared.Station.{Station}
 use Rattle.station.specs.Machine.{State}
 use Rattle.station.specs.Words as W
@@ -67,17 +66,13 @@ in-reads (e ∷ l) i w q h = go (eqb (e .at) i && same-words (e .words) (w ∷ q
         further true h = List·Memᴰ·tail h
         further false h = h
 
--- word 0 of a well-formed statement is a word
-low-word : (n : ℕ) (ws : List ℕ) (at : ℕ) → well-formed n (statement ws at) ≡ true → getD ws at 0 < 2 ^ 32
-low-word n ws at f = let k = small (statement ws at) (formed-out n (statement ws at) f .shape) .kind in omega arith
-
 gap : (at : ℕ) → at + 2 - at ≡ 2
 gap at = omega arith
 
 -- the words that the code of the statement at a place covers stand there
 pub covered-there : (n : ℕ) (ws : List ℕ) (at : ℕ) → at + 2 ≤ length ws → formed n (fields-of (getD ws at 0)) ≡ true → covered (statement ws at) ≡ covered-at ws at
 covered-there n ws at room f =
-    covered-read n ws at (low-word n ws at (formed-well n ws at f)) f ∙ sym (ap (λ (z : ℕ). take z (drop at ws)) (sym (gap at)) ∙ two-words ws at room)
+    covered-formed n ws at f ∙ sym (ap (λ (z : ℕ). take z (drop at ws)) (sym (gap at)) ∙ two-words ws at room)
 
 module _ (mac : List ℕ → List ℕ → List ℕ) (key : List ℕ) (n : ℕ) (l : List Entry) (ws : List ℕ) (came : CodesCame mac key n l ws) where
   -- the code of the statement at a place came from the module of its station
@@ -86,7 +81,7 @@ module _ (mac : List ℕ → List ℕ → List ℕ) (key : List ℕ) (n : ℕ) (
       → logged l (station-of (getD ws (place-of k) 0)) (getD ws (place-of k) 0 ∷ getD ws (place-of k + 1) 0 ∷ []) ≡ true
   unfolding verifies
   one-logged k room f w v =
-      let c : covered (statement ws (1 + k * 10)) ≡ getD ws (1 + k * 10) 0 ∷ getD ws (1 + k * 10 + 1) 0 ∷ [] = covered-read n ws (1 + k * 10) (low-word n ws (1 + k * 10) w) f in
+      let c : covered (statement ws (1 + k * 10)) ≡ getD ws (1 + k * 10) 0 ∷ getD ws (1 + k * 10 + 1) 0 ∷ [] = covered-formed n ws (1 + k * 10) f in
       let two : covered-at ws (1 + k * 10) ≡ getD ws (1 + k * 10) 0 ∷ getD ws (1 + k * 10 + 1) 0 ∷ [] = ap (λ (z : ℕ). take z (drop (1 + k * 10) ws)) (sym (gap (1 + k * 10))) ∙ two-words ws (1 + k * 10) (omega arith) in
       rw two at (came k room (rw (two, ← c) v))
 

@@ -7,8 +7,7 @@ use native.Mathlib.Omega.{arith}
 use native.Mathlib.Numerals.{add-one}
 use lib.Dec.{eqb}
 use lib.ListN.{getD}
-use Rattle.laws.specs.Pick.{pick}
-use Rattle.certificate.specs.Laws.Parts.{and-pick}
+use Rattle.laws.specs.Pick.{pick, and-pick}
 use Rattle.station.specs.Fit.{zeros}
 
 module _ (ws : List ℕ) where

@@ -19,7 +19,7 @@ use Rattle.format.specs.Statement.{Statement, statement, statements, word-0, wr
 use Rattle.format.specs.Bundle.{count-in, main-of, certificate-of, all-formed, all-written, bundle-of}
 use Rattle.format.specs.Laws.Layout.{covered-read}
 use Rattle.certificate.specs.Valid.{Bundle}
-use Rattle.certificate.specs.Laws.Parts.{parts-length}
+use Rattle.format.specs.Laws.Parts.{parts-length}
 use Rattle.station.specs.Words.{held-in, set-of, slot-of, slots-of, group-words, sites, kept-words, slots-words}
 use Rattle.station.specs.Fit.{zeros, slot-fits, slots-fit}
 use Rattle.held.specs.Laws.Lowest.{Own, set-held}

@@ -17,7 +17,7 @@ use Rattle.format.specs.Numbers.{place-of, statement-words}
 use Rattle.format.specs.Words.{fields-of, formed}
 use Rattle.format.specs.Statement.{Statement, statements, written}
 use Rattle.format.specs.Bundle.{all-formed, all-written}
-use Rattle.certificate.specs.Laws.Parts.{parts-take, parts-length}
+use Rattle.format.specs.Laws.Parts.{parts-take, parts-length}
 use Rattle.laws.specs.Least.{least, least-fits}
 use Rattle.rules.specs.Rules.{Rising, some}
 use Rattle.station.specs.Machine.{insert, held-of, those, takes}

@@ -7,7 +7,7 @@ use lib.Dec.{eqb}
 use lib.ListN.{getD}
 use Rattle.laws.specs.Pick.{pick, here, skip, not-t, not-f}
 use Rattle.format.specs.Statement.{statements}
-use Rattle.certificate.specs.Laws.Parts.{every-end}
+use Rattle.kept_fitness.specs.Laws.Turns.{every-end}
 use Rattle.kept_fitness.specs.Laws.Groups.{rest, asked, asked-start, asked-next}
 use borrow.Author.Needs.{needs}
 use Rattle.kept_fitness.proofs.all_of_question.Statement.{statement}

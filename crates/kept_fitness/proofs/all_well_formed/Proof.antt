@@ -5,7 +5,7 @@ use mathlib.Core.Path.{_≡_, refl, sym, _∙_}
 use Rattle.laws.specs.Pick.{pick, here, skip, via-not}
 use Rattle.format.specs.Words.{formed}
 use Rattle.format.specs.Bundle.{all-formed}
-use Rattle.certificate.specs.Laws.Parts.{formed-end}
+use Rattle.kept_fitness.specs.Laws.Turns.{formed-end}
 use Rattle.kept_fitness.specs.Laws.Groups.{formed-first, formed-next}
 use borrow.Author.Needs.{needs}
 use Rattle.kept_fitness.proofs.all_well_formed.Statement.{statement}

@@ -6,7 +6,7 @@ use lib.Dec.{ltb}
 use Rattle.laws.specs.Pick.{pick, here, skip}
 use Rattle.format.specs.Statement.{statements}
 use Rattle.rules.specs.Rules.{wanted, in-order, holds}
-use Rattle.certificate.specs.Laws.Parts.{order-end}
+use Rattle.kept_fitness.specs.Laws.Turns.{order-end}
 use Rattle.kept_fitness.specs.Laws.Groups.{rest, order-start, order-next}
 use borrow.Author.Needs.{needs}
 use Rattle.kept_fitness.proofs.in_order.Statement.{statement}

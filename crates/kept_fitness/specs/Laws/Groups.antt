@@ -15,7 +15,7 @@ use Rattle.format.specs.Bundle.{all-formed}
 use Rattle.rules.specs.declared.Group.{Group}
 use Rattle.rules.specs.Rules.{wanted, in-order, holds}
 use Rattle.certificate.specs.Check.{every}
-use Rattle.certificate.specs.Laws.Parts.{parts-start, order-turn, holds-start, every-turn, formed-start, formed-turn}
+use Rattle.kept_fitness.specs.Laws.Turns.{parts-start, order-turn, holds-start, every-turn, formed-start, formed-turn}
 
 module _ (ws : List ℕ) (size : ℕ) where
   abbrev pub rest : ℕ → List Statement

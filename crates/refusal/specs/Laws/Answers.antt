@@ -22,7 +22,7 @@ use Rattle.format.specs.Bundle.{laid-out, all-formed, count-in, main-of, certif
 use Rattle.rules.specs.declared.Which.the-variants.{Only}
 use Rattle.rules.specs.Rules.{rule}
 use Rattle.certificate.specs.Check.{question-fits, all-verify, check-by, judged}
-use Rattle.certificate.specs.Laws.Parts.{sizes}
+use Rattle.format.specs.Laws.Parts.{sizes}
 use Rattle.modules.specs.declared.Module.{Module}
 use Rattle.modules.specs.Counter.{module-fits}
 use Rattle.station.specs.declared.Station.{Station}

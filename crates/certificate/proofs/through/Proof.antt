@@ -1,0 +1,277 @@
+-- The invariant: what is to come, in the part that is walked and behind it, is the whole. A turn is one unfolding of the definition; at the border the second part begins.
+use Prim.Native.Nat.{ℕ, _+_, _-_, _*_, _≤_, _<_}
+use mathlib.Core.Bool.{true, false, not, _&&_}
+use mathlib.Core.Path.{_≡_, refl, sym, ap, _∙_}
+use native.Mathlib.Omega.{arith}
+use lib.Dec.{ltb}
+use lib.ListN.{length}
+use borrow.Author.Tests.{ltb-true, not-true}
+use Rattle.laws.specs.Pick.{pick}
+use Rattle.laws.specs.Bools.{both, never}
+use Rattle.laws.specs.Least.{least-fits}
+use Rattle.hmac.specs.Hmac.{code-from}
+use Rattle.walk.specs.Walk.{walked, through}
+use Rattle.walk.specs.Laws.Turns.{left-false, right-false}
+use Rattle.certificate.specs.Laws.Calls.{group-turn, part-end, part-passed, finished, through-start, through-end, border-turn, left-true}
+use borrow.Author.Needs.{needs}
+use Rattle.certificate.proofs.through.Statement.{statement}
+use Rattle.certificate.proofs.through.Tie as tie
+
+abbrev Inv-loop : tie.InvT-loop
+Inv-loop key n m question ws count two size have f₀ g₀ end₀ first₀ f g end first =
+    (f .place ≤ end)
+    × (end ≤ 1 + count)
+    × (count ≤ 32)
+    × (1 + (1 + count) * 10 ≤ length ws)
+    × (have ≤ count)
+    × (first ≡ true → end ≡ 1 + have)
+    × (through (code-from key) n m question ws count f₀ ≡ finished (code-from key) n m question ws count size have two first (walked (code-from key) n g question ws f (end - f .place)))
+
+abbrev μ-loop : tie.MeasureT-loop
+μ-loop key n m question ws count two size have f₀ g₀ end₀ first₀ f g end first = pick first 64 0 + (end - f .place)
+
+-- the first part is a part of the certificate
+small : (c : tie.After-smaller Inv-loop μ-loop) → c .smaller .result ≤ c .before .before .before .before .before .before .args .count
+small c = rw (c .smaller .ensures) (least-fits (c .before .first-size .result) (c .before .before .before .before .before .before .args .count))
+
+first-group-requires : tie.Need-first-group-requires Inv-loop μ-loop
+first-group-requires c κs = search needs
+
+second-group-requires : tie.Need-second-group-requires Inv-loop μ-loop
+second-group-requires c κs = search needs
+
+first-size-requires : tie.Need-first-size-requires Inv-loop μ-loop
+first-size-requires c κs = search needs
+
+cast-smaller : tie.Need-cast-smaller Inv-loop μ-loop
+cast-smaller c = search needs
+
+smaller-requires : tie.Need-smaller-requires Inv-loop μ-loop
+smaller-requires c κs = search needs
+
+cast-have : tie.Need-cast-have Inv-loop μ-loop
+cast-have c =
+    let h = small c in
+    search needs
+
+add-end : tie.Need-add-end Inv-loop μ-loop
+add-end c =
+    let h = small c in
+    search needs
+
+loop-holds : tie.Need-loop-holds Inv-loop μ-loop
+loop-holds c =
+    let h = small c in
+    let z = c .before in
+    let s = c .before .before .before .before .before .before in
+    let a = s .args in
+    let p = s .pre in (
+      omega (arith, p .0, h),
+      omega (arith, h),
+      p .1,
+      p .2,
+      h,
+      (λ e. refl),
+      through-start (code-from (a .key)) (a .n) (a .m) (a .question) (a .ws .now) (a .count) (z .first-size .result) (c .smaller .result) (a .from) (z .before .before .first-group .result)
+          (z .before .second-group .result) (p .0) (z .before .before .first-group .ensures) (z .before .second-group .ensures) (z .first-size .ensures) (c .smaller .ensures),
+    )
+
+-- in a turn the statement is there
+inside : (e : tie.Then2 Inv-loop μ-loop) → let v = e .before .before .before .before .before .before .loop in (v .f .malformed ≡ false) × (v .f .place < v .end)
+inside e =
+    let v = e .before .before .before .before .before .before .loop in
+    let b = both (not (v .f .malformed)) (ltb (v .f .place) (v .end)) (e .if2 .taken) in
+    (not-true _ (b .0), ltb-true _ _ (b .1))
+
+a-turn : (c : tie.After-turn Inv-loop μ-loop) →
+    let l = c .before .before .before .before .before .before .before .before .before .before .before .before in
+    let a = l .before .before .before .before .before .before .before .args in
+    let v = l .loop in
+    (c .turn .result .place ≡ v .f .place + 1)
+    × (walked (code-from (a .key)) (a .n) (v .g) (a .question) (a .ws .now) (v .f) (v .end - v .f .place) ≡ walked (code-from (a .key)) (a .n) (v .g) (a .question) (a .ws .now) (c .turn .result) (v .end - c .turn .result .place))
+a-turn c =
+    let u = c .before .before in
+    let e = u .before .before .before .before in
+    let l = e .before .before .before .before .before .before in
+    let a = l .before .before .before .before .before .before .before .args in
+    let v = l .loop in
+    group-turn (code-from (a .key)) (a .n) (v .g) (a .question) (a .ws .now) (v .f) (c .turn .result) (u .take-up .result .words) (v .end) (inside e .1) (inside e .0) (u .take-up .ensures) (c .turn .ensures)
+
+-- at the border the first part has ended
+was-first : (e : tie.Else2 Inv-loop μ-loop) → e .before .before .before .before .before .before .loop .first ≡ true
+was-first e =
+    let v = e .before .before .before .before .before .before .loop in
+    left-true (v .first) (not (v .f .malformed) && ltb (v .f .place) (v .end)) (e .before .before .before .if1 .taken) (e .if2 .left)
+
+a-border : (c : tie.After-between Inv-loop μ-loop) →
+    let l = c .before .before .before .before .before .before .before in
+    let z = l .before in
+    let a = z .before .before .before .before .before .before .args in
+    let v = l .loop in
+    (c .between .result .place ≡ v .f .place)
+    × (finished (code-from (a .key)) (a .n) (a .m) (a .question) (a .ws .now) (a .count) (z .before .first-size .result) (z .smaller .result) (z .before .before .second-group .result) true (walked (code-from (a .key)) (a .n) (v .g) (a .question) (a .ws .now) (v .f) (v .end - v .f .place))
+    ≡ finished (code-from (a .key)) (a .n) (a .m) (a .question) (a .ws .now) (a .count) (z .before .first-size .result) (z .smaller .result) (z .before .before .second-group .result) false (walked (code-from (a .key)) (a .n) (z .before .before .second-group .result) (a .question) (a .ws .now) (c .between .result) (1 + a .count - c .between .result .place)))
+a-border c =
+    let e = c .before in
+    let l = e .before .before .before .before .before .before in
+    let z = l .before in
+    let a = z .before .before .before .before .before .before .args in
+    let v = l .loop in
+    border-turn (code-from (a .key)) (a .n) (a .m) (a .question) (a .ws .now) (a .count) (z .before .first-size .result) (z .smaller .result) (v .f) (c .between .result) (v .g) (z .before .before .second-group .result) (v .end)
+    (e .if2 .left) (v .inv .0) (v .inv .5 (was-first e)) (v .inv .4) (c .between .ensures)
+
+-- behind a fault of 4 or 5 the part is passed at once
+a-glance : (c : tie.After-glance Inv-loop μ-loop) →
+    let l = c .before .before .before .before .before .before .before .before .before in
+    let a = l .before .before .before .before .before .before .before .args in
+    let v = l .loop in
+    (v .f .place < c .glance .result .place)
+    × (c .glance .result .place ≤ v .end)
+    × (walked (code-from (a .key)) (a .n) (v .g) (a .question) (a .ws .now) (v .f) (v .end - v .f .place) ≡ walked (code-from (a .key)) (a .n) (v .g) (a .question) (a .ws .now) (c .glance .result) (v .end - c .glance .result .place))
+a-glance c =
+    let e = c .before .before .before in
+    let l = e .before .before .before .before .before .before in
+    let a = l .before .before .before .before .before .before .before .args in
+    let v = l .loop in
+    part-passed (code-from (a .key)) (a .n) (v .g) (a .question) (a .ws .now) (v .f) (c .glance .result) (v .end) (c .glance .ensures (code-from (a .key)) (v .g)) (e .if2 .taken)
+
+glance-requires : tie.Need-glance-requires Inv-loop μ-loop
+glance-requires c κs =
+    let v = c .before .before .before .before .before .before .before .before .loop in
+    (c .if3 .taken, v .inv .0, omega (arith, v .inv .1, v .inv .2), omega (arith, v .inv .1, v .inv .3))
+
+loop-less : tie.Need-loop-less Inv-loop μ-loop
+loop-less c = omega (arith, a-glance c .0, a-glance c .1)
+
+loop-again : tie.Need-loop-again Inv-loop μ-loop
+loop-again c =
+    let l = c .before .before .before .before .before .before .before .before .before in
+    let z = l .before in
+    let a = z .before .before .before .before .before .before .args in
+    let v = l .loop in
+    let t = a-glance c in (
+      t .1,
+      v .inv .1,
+      v .inv .2,
+      v .inv .3,
+      v .inv .4,
+      v .inv .5,
+      v .inv .6 ∙ ap (finished (code-from (a .key)) (a .n) (a .m) (a .question) (a .ws .now) (a .count) (z .before .first-size .result) (z .smaller .result) (z .before .before .second-group .result) (v .first)) (t .2),
+    )
+
+cast-take-up : tie.Need-cast-take-up Inv-loop μ-loop
+cast-take-up c = search needs
+
+mul-take-up : tie.Need-mul-take-up Inv-loop μ-loop
+mul-take-up c = search needs
+
+add-take-up : tie.Need-add-take-up Inv-loop μ-loop
+add-take-up c = search needs
+
+take-up-requires : tie.Need-take-up-requires Inv-loop μ-loop
+take-up-requires c κs =
+    let v = c .before .before .before .before .before .before .before .before .before .loop in
+    omega (arith, inside (c .before .before .before) .1, v .inv .1, v .inv .3)
+
+add-turn : tie.Need-add-turn Inv-loop μ-loop
+add-turn c = search needs
+
+turn-requires : tie.Need-turn-requires Inv-loop μ-loop
+turn-requires c κs = search needs
+
+loop-less-2 : tie.Need-loop-less-2 Inv-loop μ-loop
+loop-less-2 c = omega (arith, a-turn c .0, inside (c .before .before .before .before .before .before) .1)
+
+loop-again-2 : tie.Need-loop-again-2 Inv-loop μ-loop
+loop-again-2 c =
+    let l = c .before .before .before .before .before .before .before .before .before .before .before .before in
+    let z = l .before in
+    let a = z .before .before .before .before .before .before .args in
+    let v = l .loop in
+    let t = a-turn c in (
+      omega (arith, t .0, inside (c .before .before .before .before .before .before) .1),
+      v .inv .1,
+      v .inv .2,
+      v .inv .3,
+      v .inv .4,
+      v .inv .5,
+      v .inv .6 ∙ ap (finished (code-from (a .key)) (a .n) (a .m) (a .question) (a .ws .now) (a .count) (z .before .first-size .result) (z .smaller .result) (z .before .before .second-group .result) (v .first)) (t .1),
+    )
+
+sub-between : tie.Need-sub-between Inv-loop μ-loop
+sub-between c = search needs
+
+between-requires : tie.Need-between-requires Inv-loop μ-loop
+between-requires c κs = search needs
+
+add-end-2 : tie.Need-add-end-2 Inv-loop μ-loop
+add-end-2 c = search needs
+
+loop-less-3 : tie.Need-loop-less-3 Inv-loop μ-loop
+unfolding pick
+loop-less-3 c =
+    let v = c .before .before .before .before .before .before .before .loop in
+    let p : pick {A = ℕ} (v .first) 64 0 ≡ 64 = rw (was-first (c .before)) in
+    omega (arith, p, a-border c .0, v .inv .2)
+
+loop-again-3 : tie.Need-loop-again-3 Inv-loop μ-loop
+loop-again-3 c =
+    let l = c .before .before .before .before .before .before .before in
+    let z = l .before in
+    let a = z .before .before .before .before .before .before .args in
+    let v = l .loop in
+    let t = a-border c in
+    let x = walked (code-from (a .key)) (a .n) (v .g) (a .question) (a .ws .now) (v .f) (v .end - v .f .place) in (
+      omega (arith, t .0, v .inv .0, v .inv .1),
+      omega arith,
+      v .inv .2,
+      v .inv .3,
+      v .inv .4,
+      (λ e. never false refl e),
+      v .inv .6
+          ∙ ap (λ b. finished (code-from (a .key)) (a .n) (a .m) (a .question) (a .ws .now) (a .count) (z .before .first-size .result) (z .smaller .result) (z .before .before .second-group .result) b x) (was-first (c .before))
+          ∙ t .1,
+    )
+
+returns : tie.Need-returns Inv-loop μ-loop
+returns c =
+    let l = c .before .before .before in
+    let z = l .before in
+    let a = z .before .before .before .before .before .before .args in
+    let v = l .loop in
+    let inside = not (v .f .malformed) && ltb (v .f .place) (v .end) in
+    part-end (code-from (a .key)) (a .n) (v .g) (a .question) (a .ws .now) (v .f) (v .end) (right-false (v .first) inside (c .if1 .left))
+    ∙ through-end (code-from (a .key)) (a .n) (a .m) (a .question) (a .ws .now) (a .count) (z .before .first-size .result) (z .smaller .result) (z .before .before .second-group .result) (v .first) _ (left-false (v .first) inside (c .if1 .left))
+    ∙ sym (v .inv .6)
+
+pub through-spec : {M : Type 1} → statement M
+through-spec =
+    tie.close
+    (tie.spec
+    Inv-loop
+    μ-loop
+    first-group-requires
+    second-group-requires
+    first-size-requires
+    cast-smaller
+    smaller-requires
+    cast-have
+    add-end
+    loop-holds
+    glance-requires
+    loop-less
+    loop-again
+    cast-take-up
+    mul-take-up
+    add-take-up
+    take-up-requires
+    add-turn
+    turn-requires
+    loop-less-2
+    loop-again-2
+    sub-between
+    between-requires
+    add-end-2
+    loop-less-3
+    loop-again-3
+    returns)
