@@ -487,6 +487,27 @@ fn voting_setups(n: u32, round: u32, others: &[u32]) -> Vec<Named> {
     all
 }
 
+/// A setup with the module's last pair at an earlier step of its question, below, at and above a step,
+/// and on other questions; and whether a statement of that step is above the pair.
+pub fn modules_around(setup: &Setup, earlier: u32, step: u32) -> Vec<(Setup, bool)> {
+    let pairs = [
+        (QUESTION, earlier),
+        (QUESTION, step - 1),
+        (QUESTION, step),
+        (QUESTION, step + 1),
+        (QUESTION - 1, LAST_STEP),
+        (QUESTION + 1, 0),
+    ];
+    let each = pairs.into_iter().map(|(question, last)| {
+        // behind the votes of the last round there is no step
+        let pair = (question, last.min(LAST_STEP));
+        let mut at = setup.clone();
+        at.module = module(setup.module.n, 2, Some(pair));
+        (at, (QUESTION, step) > pair)
+    });
+    each.collect()
+}
+
 impl Calls {
     /// Every stage at several n; coins, outputs, modules and earlier decisions around it.
     fn stages(&mut self) {
@@ -547,20 +568,8 @@ impl Calls {
     fn around_module(&mut self, setup: &Setup, number: u32) {
         let step = crate::station::step_and_decision(&setup.station).0 .0;
         let next = if step == 0 { 2 } else { step + 1 };
-        for (question, last) in [
-            (QUESTION, step),
-            (QUESTION, next - 1),
-            (QUESTION, next),
-            (QUESTION, next + 1),
-            (QUESTION - 1, LAST_STEP),
-            (QUESTION + 1, 0),
-        ] {
-            // behind the votes of the last round there is no step
-            let last = last.min(LAST_STEP);
-            let mut at = setup.clone();
-            at.module = module(setup.module.n, 2, Some((question, last)));
+        for (at, above) in modules_around(setup, step, next) {
             let would_write = number == 20 || number == 21;
-            let above = (QUESTION, next) > (question, last);
             self.give(&at, Some(if would_write && !above { 12 } else { number }));
         }
     }

@@ -4,8 +4,8 @@
 
 use crate::author::Author;
 use crate::call_cases::{
-    fault_sets, faulty_giving, first_proposal, giver, later_proposal, setups, vote_bundle, Calls,
-    Setup, BACKGROUND, OUTPUT, USED,
+    fault_sets, faulty_giving, first_proposal, giver, later_proposal, modules_around, setups,
+    vote_bundle, Calls, Setup, BACKGROUND, OUTPUT, USED,
 };
 use crate::fit_cases::fit_cases_of;
 use crate::group::{quorum, BUNDLE_WORDS, LAST_ROUND, STATEMENT_WORDS};
@@ -273,18 +273,8 @@ impl Calls {
     /// jumped onto.
     fn around_jump_module(&mut self, setup: &Setup, given: &Bundle) {
         let step = given.main.step().0;
-        for (question, last) in [
-            (QUESTION, 0),
-            (QUESTION, step - 1),
-            (QUESTION, step),
-            (QUESTION, step + 1),
-            (QUESTION - 1, LAST_STEP),
-            (QUESTION + 1, 0),
-        ] {
-            let last = last.min(LAST_STEP);
-            let mut at = setup.clone();
-            at.module = module(setup.module.n, 2, Some((question, last)));
-            match (QUESTION, step) > (question, last) {
+        for (mut at, above) in modules_around(setup, 0, step) {
+            match above {
                 true => self.jump(&at, given),
                 false => self.give(&at, Some(12)),
             };

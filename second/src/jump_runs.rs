@@ -135,6 +135,14 @@ impl Run {
         self.air(vote, certificate)
     }
 
+    /// Site 2 jumps onto such a vote of site 3, holds it beside its own copy and tosses 0: the vote and
+    /// the R-GET proposal of round 2.
+    fn jump_onto_none_vote(&mut self, other: usize) -> (usize, usize) {
+        let vote = self.faulty_none_vote(other);
+        self.written(2, vote, 23);
+        (vote, self.written(2, vote, 20))
+    }
+
     /// The decision of a site's station.
     pub fn decision(&self, site: u32) -> u32 {
         self.author.machine.stations[site as usize - 1][7]
@@ -149,10 +157,7 @@ pub fn backing_run(author: Author) -> Run {
     run.open(1, 1, JUMP_ON);
     let init_2 = run.open(2, 1, JUMP_ON);
     let first_1 = run.written(1, init_2, 20);
-    let none_3 = run.faulty_none_vote(first_1);
-    // 2 jumps onto the none vote, holds it beside its own and tosses 0
-    run.written(2, none_3, 23);
-    let second_2 = run.written(2, none_3, 20);
+    let (_, second_2) = run.jump_onto_none_vote(first_1);
     // 1 jumps onto the R-GET, tosses 0 and votes
     run.written(1, second_2, 23);
     let vote_1 = run.written(1, second_2, 20);
@@ -169,10 +174,7 @@ pub fn other_backing_run(author: Author) -> Run {
     let init_2 = run.open(2, 1, JUMP_ON);
     let first_1 = run.written(1, init_2, 20);
     let first_2 = run.written(2, init_1, 20);
-    let none_3 = run.faulty_none_vote(first_1);
-    // 2 jumps onto the none vote, holds it beside its own and tosses 0
-    run.written(2, none_3, 23);
-    let second_2 = run.written(2, none_3, 20);
+    let (none_3, second_2) = run.jump_onto_none_vote(first_1);
     // 1 votes 1, proposes 1 and sees both values in round 2; so does 2
     run.written(1, first_2, 20);
     let second_1 = run.written(1, none_3, 20);

@@ -8,9 +8,8 @@ use rules::Which;
 use walk::Findings;
 use walk::Taken;
 ghost use mathlib.Core.Path.{_≡_};
-ghost use mathlib.Core.Bool.{true, _||_};
-ghost use mathlib.Core.List.{List};
-ghost use Prim.Native.Nat.{ℕ, _+_, _-_, _%_, _≤_};
+ghost use mathlib.Core.Bool.{true};
+ghost use Prim.Native.Nat.{_+_, _-_, _%_, _≤_};
 ghost use lib.ListN.{length};
 ghost use Rattle.laws.specs.Least.{least};
 ghost use Rattle.hmac.specs.Hmac.{code-from};
@@ -19,8 +18,7 @@ ghost use Rattle.format.specs.Numbers.{most-statements, place-of, statement-wor
 ghost use Rattle.format.specs.Group.{size-fits};
 ghost use Rattle.format.specs.Statement.{words-at};
 ghost use Rattle.format.specs.Bundle.{count-in, laid-out};
-ghost use Rattle.rules.specs.declared.Group.{Group};
-ghost use Rattle.walk.specs.Walk.{walked, through as Through};
+ghost use Rattle.walk.specs.Walk.{through as Through};
 ghost use Rattle.certificate.specs.Check.{judged, checked};
 
 // The statement at word `at`, read into a struct: what is looked at of it is looked at there.
@@ -42,32 +40,6 @@ pub fn smaller(a: usize, b: usize) -> usize
     ensures { λ r. ⌜ r ≡ least a b ⌝ }
 {
     if a < b { a } else { b }
-}
-
-// The statements up to the `end` behind a fault of 4 or 5: no code is computed and no group looked at any more, only fields and questions.
-fn glance(n: u32, question: u32, ws: &[u32], end: u32, from: Findings) -> Findings
-    requires { ⌜ ((from .other || from .wrong) ≡ true) × (from .place ≤ end) × (end ≤ most-statements + 1) × (place-of end ≤ length (now ws)) ⌝ }
-    ensures { λ r. ⌜ ((code : List ℕ → List ℕ) (g : Group) → r ≡ walked code n g question (now (ws .entry)) from (end - from .place)) ⌝ }
-{
-    let mut f = from;
-    while !f.malformed & (f.place < end) {
-        let at = 1 + f.place as usize * STATEMENT_WORDS;
-        let s = format::read_fields(ws[at]);
-        let good = format::well_formed(s, n);
-        let next = Findings {
-            place: f.place + 1,
-            last: s.station,
-            malformed: !good,
-            other: f.other | (ws[at + 1] != question),
-            wrong: f.wrong,
-            unbacked: f.unbacked,
-            dget: f.dget,
-            zero: f.zero,
-            one: f.one,
-        };
-        f = next;
-    }
-    f
 }
 
 // The walk over the certificate of `count` statements: the first group, or as much of it as there is, and then the rest. A part ends behind its last statement
@@ -96,8 +68,8 @@ fn through(
     while first | (!f.malformed & (f.place < end)) {
         if !f.malformed & (f.place < end) {
             if f.other | f.wrong {
-                let rest = glance(n, question, ws, end, f);
-                f = rest;
+                let passed = glance::rest(n, question, ws, end, f);
+                f = passed;
             } else {
                 let t = take_up(ws, 1 + f.place as usize * STATEMENT_WORDS);
                 let next = walk::turn(key, n, g, question, f, t, f.place + 1);
@@ -141,7 +113,7 @@ fn walk(key: [u8; 32], n: u32, asked: Which, ws: &[u32], count: u32) -> u32
     let states = states_for(key, good & fits);
     let f = walk::start(states, n, asked, t);
     if f.other | f.wrong {
-        return walk::answer(glance(n, words[1], ws, 1 + count, f));
+        return walk::answer(glance::rest(n, words[1], ws, 1 + count, f));
     }
     walk::answer(through(states, n, m, words[1], ws, count, f))
 }

@@ -6,7 +6,7 @@ use mathlib.Core.Path.{_≡_, refl, sym, ap, _∙_}
 use native.Mathlib.Omega.{arith}
 use lib.Dec.{eqb}
 use Rattle.laws.specs.Pick.{pick}
-use Rattle.laws.specs.Bools.{both, never}
+use Rattle.laws.specs.Bools.{both, never, neither, second-of, or-assoc}
 use Rattle.laws.specs.Least.{least, least-fits}
 use Rattle.laws.specs.Refusals.{test, first-failed}
 use Rattle.format.specs.Numbers.{malformed, other-question, wrong-code, no-certificate, place-of, statement-words}
@@ -15,10 +15,10 @@ use Rattle.format.specs.Statement.{Statement, statement, statements, fields-at,
 use Rattle.format.specs.Bundle.{all-formed, count-in, main-of, certificate-of}
 use Rattle.rules.specs.declared.Which.{Which}
 use Rattle.rules.specs.declared.Group.{Group}
-use Rattle.rules.specs.Rules.{which, some, spread, rule}
+use Rattle.rules.specs.Rules.{which, some, some-D-GET, in-order, spread, rule}
 use Rattle.walk.specs.declared.Findings.{Findings}
-use Rattle.walk.specs.Walk.{started, walked, first-size, between, through, findings, answer}
-use Rattle.walk.specs.Laws.Turns.{Finds, left-false, stopped, finds-malformed, finds}
+use Rattle.walk.specs.Walk.{started, walked, first-size, second-size, both-seen, between, through, findings, answer}
+use Rattle.walk.specs.Laws.Turns.{Finds, stopped, finds-malformed, finds}
 use Rattle.walk.specs.Laws.Border.{one, two, missed-is, formed-split, some-split}
 
 -- 3 is found exactly if the fields of a statement are not in place. Else 4 is found exactly if the main statement is not of the question asked for or another
@@ -41,13 +41,6 @@ answered r true false c d p q s t = rw (p, q refl)
 answered r true true false d p q s t = rw (p, q refl, s refl refl)
 answered r true true true false p q s t = rw (p, q refl, s refl refl, t refl refl refl)
 answered r true true true true p q s t = rw (p, q refl, s refl refl, t refl refl refl)
-
-neither : (a b : Bool) → a ≡ false → b ≡ false → (a || b) ≡ false
-neither a b p q = rw (p, q)
-
-or-assoc : (a b c : Bool) → (a || b || c) ≡ (a || (b || c))
-or-assoc true b c = refl
-or-assoc false b c = refl
 
 module _ (code : List ℕ → List ℕ) (n : ℕ) (asked : Which) (ws : List ℕ) where
   -- the two parts of the certificate, and what is found behind each
@@ -155,19 +148,33 @@ module _ (code : List ℕ → List ℕ) (n : ℕ) (asked : Which) (ws : List ℕ
       unfolding between started some statements
       end-wrong none =
           let p : Statement → Bool = λ s. not (verifies code s) in
-          let early : front .other ≡ false = left-false _ _ (sym (end-finds .other) ∙ none) in
-          let main : begun .other ≡ false = left-false _ _ (sym (front-finds a .other) ∙ early) in
+          let early : front .other ≡ false = neither _ _ (sym (end-finds .other) ∙ none) .0 in
+          let main : begun .other ≡ false = neither _ _ (sym (front-finds a .other) ∙ early) .0 in
           end-finds .wrong none
           ∙ ap (λ (x : Bool). x || some p behind) (front-finds a .wrong early)
           ∙ rw (m, main) (or-assoc (p (main-of ws)) (some p before) (some p behind) ∙ ap (λ (x : Bool). p (main-of ws) || x) (split p))
 
-      end-unbacked : end .other ≡ false → end .wrong ≡ false → end .unbacked ≡ not (rule n (main-of ws) (certificate-of ws))
+      -- what is found of 6 up to the second part, by what the first part is
+      border-unbacked : front .other ≡ false → front .wrong ≡ false
+          → border .unbacked
+          ≡ (begun .unbacked
+          || not (in-order (one n ws) (begun .last) before)
+          || not (eqb have (first-size (fields-at ws (place-of 0)) (one n ws))
+          && spread (main-of ws) before
+          && eqb rest (second-size (fields-at ws (place-of 0)) (two n ws) (some-D-GET before))))
       unfolding between started fields-of spread
-      end-unbacked none right =
+      border-unbacked o w =
           let fs = front-finds a in
-          let o : front .other ≡ false = left-false _ _ (sym (end-finds .other) ∙ none) in
-          let w : front .wrong ≡ false = left-false _ _ (sym (end-finds .wrong none) ∙ right) in
-          end-finds .unbacked none right ∙ rw (fs .unbacked o w, fs .dget o w, fs .zeros o w, fs .ones o w) (missed-is n ws (count-in ws) have refl)
+          ap (λ (u : Bool). u || not (eqb have (first-size (fields-at ws 1) (one n ws)) && both-seen (fields-at ws 1) front && eqb rest (second-size (fields-at ws 1) (two n ws) (front .dget)))) (fs .unbacked o w)
+          ∙ ap (λ (d : Bool). begun .unbacked || not (in-order (one n ws) (begun .last) before) || not (eqb have (first-size (fields-at ws 1) (one n ws)) && both-seen (fields-at ws 1) front && eqb rest (second-size (fields-at ws 1) (two n ws) d))) (fs .dget o w)
+          ∙ rw (fs .zeros o w, fs .ones o w)
+
+      end-unbacked : end .other ≡ false → end .wrong ≡ false → end .unbacked ≡ not (rule n (main-of ws) (certificate-of ws))
+      unfolding between started
+      end-unbacked none right =
+          let o : front .other ≡ false = neither _ _ (sym (end-finds .other) ∙ none) .0 in
+          let w : front .wrong ≡ false = neither _ _ (sym (end-finds .wrong none) ∙ right) .0 in
+          end-finds .unbacked none right ∙ ap (λ (u : Bool). u || not (in-order (two n ws) 0 behind)) (border-unbacked o w) ∙ missed-is n ws (count-in ws) have refl
 
   findings-are : findings code n asked ws ≡ end
   unfolding findings through fields-of
@@ -223,7 +230,7 @@ module _ (code : List ℕ → List ℕ) (n : ℕ) (asked : Which) (ws : List ℕ
       glanced-finds = finds code n g (main-of ws .question) ws (count-in ws) begun 11 refl (begun-formed main-there) (both main-formed (all-formed n ws 11 (count-in ws)) h .1)
 
       main-asked : glanced .other ≡ false → begun .other ≡ false
-      main-asked none = left-false _ _ (sym (glanced-finds .other) ∙ none)
+      main-asked none = neither _ _ (sym (glanced-finds .other) ∙ none) .0
 
       glanced-other : glanced .other ≡ (not (which asked (main-of ws .question)) || some (λ s. not (eqb (s .question) (main-of ws .question))) (certificate-of ws))
       unfolding started
@@ -238,8 +245,8 @@ module _ (code : List ℕ → List ℕ) (n : ℕ) (asked : Which) (ws : List ℕ
       not-both : (begun .other || begun .wrong) ≡ true → glanced .other ≡ false → glanced .wrong ≡ false → glanced .unbacked ≡ not (rule n (main-of ws) (certificate-of ws))
       not-both faulted none right =
           let o : begun .other ≡ false = main-asked none in
-          let w : begun .wrong ≡ false = left-false _ _ (sym (glanced-finds .wrong none) ∙ right) in
-          never (begun .other || begun .wrong) (neither (begun .other) (begun .wrong) o w) faulted
+          let w : begun .wrong ≡ false = neither _ _ (sym (glanced-finds .wrong none) ∙ right) .0 in
+          never (begun .wrong) w (second-of (begun .other) (begun .wrong) o faulted)
 
     pub glance-finds : (begun .other || begun .wrong) ≡ true → Found code n asked ws glanced
     glance-finds faulted =

@@ -43,7 +43,7 @@ pub struct Findings {
     pub wrong: bool,
     // 6: the certificate is not as the rules ask
     pub unbacked: bool,
-    // of the groups: there is a D-GET, the value 0, the value 1
+    // so far in the groups: there was a D-GET, the value 0, the value 1; what is between the groups asks for it
     pub dget: bool,
     pub zero: bool,
     pub one: bool,

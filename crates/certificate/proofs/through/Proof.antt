@@ -7,12 +7,12 @@ use lib.Dec.{ltb}
 use lib.ListN.{length}
 use borrow.Author.Tests.{ltb-true, not-true}
 use Rattle.laws.specs.Pick.{pick}
-use Rattle.laws.specs.Bools.{both, never}
+use Rattle.laws.specs.Bools.{both, never, first-of, neither}
 use Rattle.laws.specs.Least.{least-fits}
 use Rattle.hmac.specs.Hmac.{code-from}
 use Rattle.walk.specs.Walk.{walked, through}
-use Rattle.walk.specs.Laws.Turns.{left-false, right-false}
-use Rattle.certificate.specs.Laws.Calls.{group-turn, part-end, part-passed, finished, through-start, through-end, border-turn, left-true}
+use Rattle.glance.specs.Glance.{glance-is-walk}
+use Rattle.certificate.specs.Laws.Calls.{group-turn, part-end, part-passed, finished, through-start, through-end, border-turn}
 use borrow.Author.Needs.{needs}
 use Rattle.certificate.proofs.through.Statement.{statement}
 use Rattle.certificate.proofs.through.Tie as tie
@@ -101,7 +101,7 @@ a-turn c =
 was-first : (e : tie.Else2 Inv-loop μ-loop) → e .before .before .before .before .before .before .loop .first ≡ true
 was-first e =
     let v = e .before .before .before .before .before .before .loop in
-    left-true (v .first) (not (v .f .malformed) && ltb (v .f .place) (v .end)) (e .before .before .before .if1 .taken) (e .if2 .left)
+    first-of (v .first) (not (v .f .malformed) && ltb (v .f .place) (v .end)) (e .if2 .left) (e .before .before .before .if1 .taken)
 
 a-border : (c : tie.After-between Inv-loop μ-loop) →
     let l = c .before .before .before .before .before .before .before in
@@ -121,24 +121,22 @@ a-border c =
     (e .if2 .left) (v .inv .0) (v .inv .5 (was-first e)) (v .inv .4) (c .between .ensures)
 
 -- behind a fault of 4 or 5 the part is passed at once
-a-glance : (c : tie.After-glance Inv-loop μ-loop) →
+a-glance : (c : tie.After-rest Inv-loop μ-loop) →
     let l = c .before .before .before .before .before .before .before .before .before in
     let a = l .before .before .before .before .before .before .before .args in
     let v = l .loop in
-    (v .f .place < c .glance .result .place)
-    × (c .glance .result .place ≤ v .end)
-    × (walked (code-from (a .key)) (a .n) (v .g) (a .question) (a .ws .now) (v .f) (v .end - v .f .place) ≡ walked (code-from (a .key)) (a .n) (v .g) (a .question) (a .ws .now) (c .glance .result) (v .end - c .glance .result .place))
+    (v .f .place < c .rest .result .place)
+    × (c .rest .result .place ≤ v .end)
+    × (walked (code-from (a .key)) (a .n) (v .g) (a .question) (a .ws .now) (v .f) (v .end - v .f .place) ≡ walked (code-from (a .key)) (a .n) (v .g) (a .question) (a .ws .now) (c .rest .result) (v .end - c .rest .result .place))
 a-glance c =
     let e = c .before .before .before in
     let l = e .before .before .before .before .before .before in
     let a = l .before .before .before .before .before .before .before .args in
     let v = l .loop in
-    part-passed (code-from (a .key)) (a .n) (v .g) (a .question) (a .ws .now) (v .f) (c .glance .result) (v .end) (c .glance .ensures (code-from (a .key)) (v .g)) (e .if2 .taken)
+    part-passed (code-from (a .key)) (a .n) (v .g) (a .question) (a .ws .now) (v .f) (c .rest .result) (v .end) (c .rest .ensures ∙ glance-is-walk (code-from (a .key)) (a .n) (v .g) (a .question) (a .ws .now) (v .end - v .f .place) (v .f) (c .before .if3 .taken)) (e .if2 .taken)
 
-glance-requires : tie.Need-glance-requires Inv-loop μ-loop
-glance-requires c κs =
-    let v = c .before .before .before .before .before .before .before .before .loop in
-    (c .if3 .taken, v .inv .0, omega (arith, v .inv .1, v .inv .2), omega (arith, v .inv .1, v .inv .3))
+rest-requires : tie.Need-rest-requires Inv-loop μ-loop
+rest-requires c κs = search needs
 
 loop-less : tie.Need-loop-less Inv-loop μ-loop
 loop-less c = omega (arith, a-glance c .0, a-glance c .1)
@@ -240,8 +238,8 @@ returns c =
     let a = z .before .before .before .before .before .before .args in
     let v = l .loop in
     let inside = not (v .f .malformed) && ltb (v .f .place) (v .end) in
-    part-end (code-from (a .key)) (a .n) (v .g) (a .question) (a .ws .now) (v .f) (v .end) (right-false (v .first) inside (c .if1 .left))
-    ∙ through-end (code-from (a .key)) (a .n) (a .m) (a .question) (a .ws .now) (a .count) (z .before .first-size .result) (z .smaller .result) (z .before .before .second-group .result) (v .first) _ (left-false (v .first) inside (c .if1 .left))
+    part-end (code-from (a .key)) (a .n) (v .g) (a .question) (a .ws .now) (v .f) (v .end) (neither (v .first) inside (c .if1 .left) .1)
+    ∙ through-end (code-from (a .key)) (a .n) (a .m) (a .question) (a .ws .now) (a .count) (z .before .first-size .result) (z .smaller .result) (z .before .before .second-group .result) (v .first) _ (neither (v .first) inside (c .if1 .left) .0)
     ∙ sym (v .inv .6)
 
 pub through-spec : {M : Type 1} → statement M
@@ -258,7 +256,7 @@ through-spec =
     cast-have
     add-end
     loop-holds
-    glance-requires
+    rest-requires
     loop-less
     loop-again
     cast-take-up

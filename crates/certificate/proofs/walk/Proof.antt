@@ -1,14 +1,16 @@
 -- What the calls give is the walk, or its turns without the groups where these do not matter; its answer is the check's. Where no code is computed any code gives
 -- that answer.
-use Prim.Native.Nat.{_≤_}
-use mathlib.Core.Path.{_≡_, ap}
+use Prim.Native.Nat.{_+_, _-_, _≤_}
+use mathlib.Core.Path.{_≡_, ap, _∙_}
 use native.Mathlib.Omega.{arith}
+use lib.ListN.{getD}
 use Rattle.format.specs.Numbers.{most-statements}
 use Rattle.format.specs.Laws.Parts.{sizes}
 use Rattle.hmac.specs.Hmac.{code-from}
 use Rattle.rules.specs.Rules.{none-votes}
 use Rattle.walk.specs.declared.Findings.{Findings}
 use Rattle.walk.specs.Walk.{started}
+use Rattle.glance.specs.Glance.{glance-is-walk}
 use Rattle.certificate.specs.Laws.Answers.{judged-walk, judged-glance}
 use borrow.Author.Needs.{needs}
 use Rattle.certificate.proofs.walk.Statement.{statement}
@@ -49,20 +51,16 @@ few s =
     let b = sizes _ (s .pre .1) in
     omega (arith, b .0, s .pre .2)
 
-array-read-glance : tie.Need-array-read-glance
-array-read-glance c = search needs
+array-read-rest : tie.Need-array-read-rest
+array-read-rest c = search needs
 
-add-glance : tie.Need-add-glance
-add-glance c =
+add-rest : tie.Need-add-rest
+add-rest c =
     let h = few (c .before .before .before .before .before .before .before .before .before .before) in
     search needs
 
-glance-requires : tie.Need-glance-requires
-glance-requires c κs =
-    let f = c .before .before in
-    let s = f .before .before .before .before .before .before .before .before in
-    let b = sizes _ (s .pre .1) in
-    (c .if1 .taken, omega (arith, begun f), omega (arith, few s), omega (arith, b .1, s .pre .2))
+rest-requires : tie.Need-rest-requires
+rest-requires c κs = search needs
 
 answer-requires : tie.Need-answer-requires
 answer-requires c κs = search needs
@@ -78,9 +76,9 @@ returns c =
     let t = r .before .before in
     let s = t .before .before in
     let a = s .args in
-    judged-glance (a .key) (a .n) (a .asked) (a .ws .now) (s .pre .0) (s .pre .1) (code-from (k .states-for .result)) (t .take-up .result .words) (r .read-fields .result) (a .count) (f .start .result) (c .before .glance .result) (c .answer .result)
+    judged-glance (a .key) (a .n) (a .asked) (a .ws .now) (s .pre .0) (s .pre .1) (code-from (k .states-for .result)) (t .take-up .result .words) (r .read-fields .result) (a .count) (f .start .result) (c .before .rest .result) (c .answer .result)
     (g .well-formed .result) (q .allows .result) (t .take-up .ensures) (r .read-fields .ensures) (g .well-formed .ensures) (q .allows .ensures) (k .states-for .ensures) (s .pre .2)
-    (f .start .ensures) (c .answer .ensures) (e .if1 .taken) (none-votes (a .n) 0) (c .before .glance .ensures (code-from (k .states-for .result)) (none-votes (a .n) 0))
+    (f .start .ensures) (c .answer .ensures) (e .if1 .taken) (none-votes (a .n) 0) (c .before .rest .ensures ∙ glance-is-walk (code-from (k .states-for .result)) (a .n) (none-votes (a .n) 0) (getD (t .take-up .result .words) 1 0) (a .ws .now) (1 + a .count - f .start .result .place) (f .start .result) (e .if1 .taken))
 
 array-read-through : tie.Need-array-read-through
 array-read-through c = search needs
@@ -121,9 +119,9 @@ walk-spec =
     allows-requires
     states-for-requires
     start-requires
-    array-read-glance
-    add-glance
-    glance-requires
+    array-read-rest
+    add-rest
+    rest-requires
     answer-requires
     returns
     array-read-through

@@ -1,34 +1,24 @@
 -- What the parts of the walk's code give, taken to the walk's definitions.
 use Prim.Native.Nat.{ℕ, zero, suc, _+_, _-_, _≤_, _<_}
-use mathlib.Core.Bool.{Bool, true, false, not, _&&_, _||_}
+use mathlib.Core.Bool.{Bool, true, false, not, _&&_}
 use mathlib.Core.List.{List}
 use mathlib.Core.Path.{_≡_, refl, sym, ap, _∙_}
 use native.Mathlib.Omega.{arith}
 use lib.Dec.{eqb, ltb}
-use lib.ListN.{getD}
 use borrow.Author.Tests.{ltb-true, ltb-false, le-ltb, not-true}
 use Rattle.laws.specs.Pick.{pick}
 use Rattle.laws.specs.Bools.{both, never}
 use Rattle.laws.specs.Least.{least}
 use Rattle.format.specs.Numbers.{place-of}
 use Rattle.format.specs.declared.Fields.{Fields}
-use Rattle.format.specs.Words.{fields-of, formed}
+use Rattle.format.specs.Words.{formed}
 use Rattle.format.specs.Statement.{statement, words-at, fields-at}
 use Rattle.rules.specs.declared.Group.{Group}
 use Rattle.rules.specs.Rules.{first-group, second-group}
 use Rattle.walk.specs.declared.Findings.{Findings}
 use Rattle.walk.specs.Walk.{noted, turned, walked, first-size, between, through}
 use Rattle.certificate.specs.Laws.Read.{fields-read, statement-read}
-use Rattle.walk.specs.Laws.Turns.{or-nothing, stopped, onward}
-
-pub still : (o p w : Bool) → (o || w) ≡ true → (o || p || w) ≡ true
-still true p w h = refl
-still false true w h = refl
-still false false w h = h
-
-still-faulty : (b o p w : Bool) → (o || w) ≡ true → (b || (o || p) || w) ≡ true
-still-faulty true o p w h = refl
-still-faulty false o p w h = still o p w h
+use Rattle.walk.specs.Laws.Turns.{stopped, onward}
 
 module _ (code : List ℕ → List ℕ) (n : ℕ) (g : Group) (question : ℕ) (ws : List ℕ) where
   turn-read : (f : Findings) (t : List ℕ) → t ≡ words-at ws (place-of (f .place))
@@ -58,39 +48,13 @@ module _ (code : List ℕ → List ℕ) (n : ℕ) (g : Group) (question : ℕ) (
           let z : end - f .place ≡ 0 = omega (arith, ltb-false (f .place) end (rw e at h)) in
           rw z
 
-  -- a statement behind a fault of 4 or 5, of which only word 0 and the question are looked at
-  pub glance-step : (f : Findings) (end : ℕ) (s : Fields) (b : Bool) → s ≡ fields-of (getD ws (place-of (f .place)) 0) → b ≡ formed n s → (f .other || f .wrong) ≡ true
-      → (not (f .malformed) && ltb (f .place) end) ≡ true
-      → walked code n g question ws f (end - f .place)
-      ≡ walked code n g question ws
-      (record {
-        place = f .place + 1;
-        last = s .station;
-        malformed = not b;
-        other = f .other || not (eqb (getD ws (place-of (f .place) + 1) 0) question);
-        wrong = f .wrong;
-        unbacked = f .unbacked;
-        dget = f .dget;
-        zero = f .zero;
-        one = f .one;
-      })
-      (end - (f .place + 1))
-  unfolding noted fields-of
-  glance-step f end s b read good fault inside =
-      let i = both (not (f .malformed)) (ltb (f .place) end) inside in
-      let z : end - f .place ≡ suc (end - (f .place + 1)) = omega (arith, ltb-true (f .place) end (i .1)) in
-      let known : (not (formed n (fields-of (getD ws (place-of (f .place)) 0))) || (f .other || not (eqb (getD ws (place-of (f .place) + 1) 0) question)) || f .wrong) ≡ true
-      = still-faulty (not (formed n (fields-of (getD ws (place-of (f .place)) 0)))) (f .other) (not (eqb (getD ws (place-of (f .place) + 1) 0) question)) (f .wrong) fault in
-      rw z (onward code n g question ws f (end - (f .place + 1)) (not-true (f .malformed) (i .0))
-      ∙ rw (known, good, read, ← or-nothing (f .wrong), ← or-nothing (f .unbacked), ← or-nothing (f .dget), ← or-nothing (f .zero), ← or-nothing (f .one)))
-
   -- a walk goes on, by no more than its statements, and by all of them where none is malformed
-  passed : (k : ℕ) (f : Findings) →
+  advances : (k : ℕ) (f : Findings) →
       let w = walked code n g question ws f k in
       (f .place ≤ w .place) × (w .place ≤ f .place + k) × (w .malformed ≡ false → w .place ≡ f .place + k)
   unfolding walked noted
-  passed zero f = (omega arith, omega arith, λ e. omega arith)
-  passed (suc k) f = go (f .malformed) refl (passed k (turned code n g question ws f))
+  advances zero f = (omega arith, omega arith, λ e. omega arith)
+  advances (suc k) f = go (f .malformed) refl (advances k (turned code n g question ws f))
     where
       go : (b : Bool) → f .malformed ≡ b
           → (let w = walked code n g question ws (turned code n g question ws f) k in
@@ -110,7 +74,7 @@ module _ (code : List ℕ → List ℕ) (n : ℕ) (g : Group) (question : ℕ) (
       let z : end - f .place ≡ suc (end - (f .place + 1)) = omega (arith, low) in
       let on : rest ≡ walked code n g question ws (turned code n g question ws f) (end - (f .place + 1))
       = e ∙ ap (walked code n g question ws f) z ∙ onward code n g question ws f (end - (f .place + 1)) (not-true (f .malformed) (i .0)) in
-      let p = passed (end - (f .place + 1)) (turned code n g question ws f) in
+      let p = advances (end - (f .place + 1)) (turned code n g question ws f) in
       let up : f .place + 1 ≤ rest .place = rw on (p .0) in
       let down : rest .place ≤ f .place + 1 + (end - (f .place + 1)) = rw on (p .1) in
       let all : rest .malformed ≡ false → rest .place ≡ f .place + 1 + (end - (f .place + 1)) = rw on (p .2) in
@@ -157,7 +121,3 @@ module _ (code : List ℕ → List ℕ) (n : ℕ) (m : Fields) (question : ℕ) 
           let q : end ≤ f .place = ltb-false (f .place) end (rw k at h) in
           let z : 1 + count - border .place ≡ count - have = omega (arith, p, q, low, e, room) in
           rw z
-
-pub left-true : (a b : Bool) → (a || b) ≡ true → b ≡ false → a ≡ true
-left-true true b h e = refl
-left-true false b h e = never b e h

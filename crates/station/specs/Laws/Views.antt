@@ -8,8 +8,8 @@ use lib.Dec.{eqb, ltb, leb}
 use lib.ListN.{length}
 use borrow.Author.Tests.{eqb-true, eqb-false, ltb-true, ltb-false, leb-true, not-true, not-false}
 use Rattle.laws.specs.Pick.{pick}
-use Rattle.laws.specs.Bools.{never, both}
-use Rattle.laws.specs.Refusals.{Test, test, first-failed, all-passed, failed-one, passed-until}
+use Rattle.laws.specs.Bools.{both, second-of, neither}
+use Rattle.laws.specs.Refusals.{Test, first-failed, all-passed, failed-one, passed-until}
 use Rattle.laws.specs.All.{All, all-map, all-two}
 use Rattle.format.specs.Numbers.{kind-INIT, none, D-GET, kept, sent, sent-decided, closed-now, jumped, output-words, conflicting, not-above, last-round, least-stations, most-stations}
 use Rattle.format.specs.Group.{size-fits, quorum}
@@ -39,15 +39,6 @@ use Rattle.station.specs.Laws.Sane.{Sane}
 use Rattle.station.specs.Laws.FitSane.{fits-sane, eights}
 use Rattle.station.specs.Laws.Keep.{Fitting, stage-of-step}
 use Rattle.station.specs.Laws.End.{Full, full-grown}
-
--- where the first of two is false, the second is what both come to
-second-of : (a b : Bool) → a ≡ false → (a || b) ≡ true → b ≡ true
-second-of true b e h = never true e refl
-second-of false b e h = h
-
-neither : (a b : Bool) → (a || b) ≡ false → (a ≡ false) × (b ≡ false)
-neither true b h = never true h refl
-neither false b h = (refl, h)
 
 -- a module in range
 pub record InRange (m : Module) : Type 0 where

@@ -3,6 +3,7 @@ use Prim.Native.Nat.{_+_, _-_, _≤_}
 use mathlib.Core.Bool.{_&&_}
 use mathlib.Core.Path.{_≡_, refl, sym, _∙_}
 use lib.ListN.{length, take, drop}
+use native.Mathlib.Omega.{arith}
 use Rattle.format.specs.Statement.{code-at, same-words}
 use Rattle.walk.specs.Laws.Codes.{same-turn, same-end}
 use borrow.Author.Needs.{needs}
@@ -44,7 +45,7 @@ loop-again : tie.Need-loop-again Inv-loop μ-loop
 loop-again c =
     let a = c .before .before .args in
     let v = c .before .loop in
-    (search needs, v .inv .1, v .inv .2, v .inv .3 ∙ same-turn (a .t1) (a .t2) (v .i) (v .same) (c .loop-test .taken) (v .inv .1) (v .inv .2))
+    (search needs, v .inv .1, v .inv .2, v .inv .3 ∙ same-turn (a .t1) (a .t2) (v .i) (v .same) (omega arith) (v .inv .1) (v .inv .2))
 
 returns : tie.Need-returns Inv-loop μ-loop
 returns c =

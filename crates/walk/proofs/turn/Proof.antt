@@ -5,7 +5,7 @@ use lib.Dec.{eqb}
 use lib.ListN.{getD}
 use Rattle.format.specs.Words.{fields-of}
 use Rattle.walk.specs.Walk.{noted}
-use Rattle.walk.specs.Laws.Turns.{left-false, right-false, or-nothing}
+use Rattle.laws.specs.Bools.{neither, or-nothing}
 use Rattle.walk.specs.Laws.Codes.{covers}
 use borrow.Author.Needs.{needs}
 use Rattle.walk.proofs.turn.Statement.{statement}
@@ -37,7 +37,7 @@ code-fails-requires c κs = λ h.
     let r = b .before in
     let s = r .before .before .args in
     covers (s .n) (s .t .words) (r .read-fields .result) (b .well-formed .result) (s .f .other || not (eqb (getD (s .t .words) 1 0) (s .question))) (r .read-fields .ensures)
-    (b .well-formed .ensures) (left-false _ (s .f .wrong) (c .if1 .left))
+    (b .well-formed .ensures) (neither _ (s .f .wrong) (c .if1 .left) .0)
 
 is-wanted-requires : tie.Need-is-wanted-requires
 is-wanted-requires c κs = search needs
@@ -50,7 +50,7 @@ returns-2 c =
     let b = e .before .before .before in
     let none = rw (b .well-formed .ensures, b .before .read-fields .ensures) at (e .if1 .left) in
     let s = b .before .before .before .args in
-    let right : s .f .wrong ≡ false = right-false (not (b .well-formed .result) || (s .f .other || not (eqb (getD (s .t .words) 1 0) (s .question)))) (s .f .wrong) (e .if1 .left) in
+    let right : s .f .wrong ≡ false = neither (not (b .well-formed .result) || (s .f .other || not (eqb (getD (s .t .words) 1 0) (s .question)))) (s .f .wrong) (e .if1 .left) .1 in
     rw (w .before .code-fails .ensures, w .is-wanted .ensures, b .well-formed .ensures, b .before .read-fields .ensures, none, right)
 
 pub turn-spec : {M : Type 1} → statement M

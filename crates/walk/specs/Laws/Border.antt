@@ -9,6 +9,7 @@ use lib.Dec.{eqb, ltb}
 use lib.ListN.{length}
 use borrow.Author.Tests.{eq-eqb, ne-eqb, eqb-true, eqb-false, ltb-false}
 use Rattle.laws.specs.Pick.{pick, here, skip}
+use Rattle.laws.specs.Bools.{and-assoc, or-assoc}
 use Rattle.laws.specs.Least.{least}
 use Rattle.format.specs.Numbers.{kind-INIT, place-of, statement-words}
 use Rattle.format.specs.Words.{fields-of, formed}
@@ -20,10 +21,6 @@ use Rattle.walk.specs.Walk.{first-size, second-size}
 use Rattle.format.specs.Laws.Parts.{parts-length, parts-take, parts-drop}
 
 -- ---- a certificate in two parts
-and-assoc : (a b c : Bool) → (a && (b && c)) ≡ ((a && b) && c)
-and-assoc true b c = refl
-and-assoc false b c = refl
-
 pub formed-split : (n : ℕ) (ws : List ℕ) (at k j : ℕ) → all-formed n ws at (k + j) ≡ (all-formed n ws at k && all-formed n ws (at + k * statement-words) j)
 unfolding all-formed
 formed-split n ws at zero j =
@@ -33,11 +30,7 @@ formed-split n ws at zero j =
 formed-split n ws at (suc k) j =
     let e : at + suc k * 10 ≡ at + 10 + k * 10 = omega arith in
     let f : suc k + j ≡ suc (k + j) = omega arith in
-    rw (e, f, formed-split n ws (at + 10) k j) (and-assoc (formed n (fields-at ws at)) (all-formed n ws (at + 10) k) (all-formed n ws (at + 10 + k * 10) j))
-
-or-assoc : (a b c : Bool) → (a || (b || c)) ≡ ((a || b) || c)
-or-assoc true b c = refl
-or-assoc false b c = refl
+    rw (e, f, formed-split n ws (at + 10) k j) (sym (and-assoc (formed n (fields-at ws at)) (all-formed n ws (at + 10) k) (all-formed n ws (at + 10 + k * 10) j)))
 
 pub some-split : (p : Statement → Bool) (ws : List ℕ) (at k j : ℕ)
     → some p (statements ws at (k + j)) ≡ (some p (statements ws at k) || some p (statements ws (at + k * statement-words) j))
@@ -49,7 +42,7 @@ some-split p ws at zero j =
 some-split p ws at (suc k) j =
     let e : at + suc k * 10 ≡ at + 10 + k * 10 = omega arith in
     let f : suc k + j ≡ suc (k + j) = omega arith in
-    rw (e, f, some-split p ws (at + 10) k j) (or-assoc (p (statement ws at)) (some p (statements ws (at + 10) k)) (some p (statements ws (at + 10 + k * 10) j)))
+    rw (e, f, some-split p ws (at + 10) k j) (sym (or-assoc (p (statement ws at)) (some p (statements ws (at + 10) k)) (some p (statements ws (at + 10 + k * 10) j))))
 
 -- ---- the rules
 least-zero : (b : ℕ) → least 0 b ≡ 0
@@ -66,9 +59,9 @@ unfolding in-order
 empty-rises g [] = refl
 empty-rises g (s ∷ c) = rw (ne-eqb (suc (length c)) 0 (λ e. omega arith))
 
-neither : (a b : Bool) → (not a || not b) ≡ not (a && b)
-neither true b = refl
-neither false b = refl
+not-both : (a b : Bool) → (not a || not b) ≡ not (a && b)
+not-both true b = refl
+not-both false b = refl
 
 -- the faults of 6, one behind the other, and the rules' tests
 tidy : (a b c d e f : Bool) → (a || not b || not (c && d && e) || not f) ≡ not (not a && (c && b && d && (e && f)))
@@ -164,7 +157,7 @@ module _ (n : ℕ) (ws : List ℕ) where
           let d : List Statement = statements ws 11 count in
           let rises : eqb count 0 ≡ (eqb count 0 && in-order two 0 d) = rw (parts-length ws 11 count) at (empty-rises two d) in
           rw (← e, no-toss, no-spread [], no-size, no-second false, init-rule d, parts-length ws 11 count, sub-zero count)
-          (neither (eqb count 0) (in-order two 0 d) ∙ ap not (sym rises))
+          (not-both (eqb count 0) (in-order two 0 d) ∙ ap not (sym rises))
 
     pub missed-is : (have : ℕ) → least (first-size (fields-at ws (place-of 0)) one) count ≡ have
         → missed have (statements ws (place-of 1) have) (count - have) (statements ws (place-of 1 + have * statement-words) (count - have))

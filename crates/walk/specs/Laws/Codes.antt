@@ -10,6 +10,7 @@ use lib.ListN.{length, getD, take, drop}
 use lib.Seq.{drop-cons, drop-length}
 use borrow.Author.Tests.{not-false}
 use Rattle.laws.specs.Pick.{pick}
+use Rattle.laws.specs.Bools.{neither, and-assoc, or-nothing}
 use Rattle.hmac.specs.declared.Prepared.{Prepared}
 use Rattle.hmac.specs.declared.Code.{Code}
 use Rattle.hmac.specs.Hmac.{code-from, short-code}
@@ -18,7 +19,6 @@ use Rattle.format.specs.declared.Fields.{Fields}
 use Rattle.format.specs.Words.{fields-of, formed}
 use Rattle.format.specs.Statement.{statement, code-at, covered, same-words, verifies}
 use Rattle.format.specs.Laws.Layout.{covered-formed, two-words}
-use Rattle.walk.specs.Laws.Turns.{left-false, or-nothing}
 
 -- the code over two words
 pub two-coded : (p : Prepared) (a b : ℕ) → short-code p (a ∷ b ∷ []) ≡ record { number = 0; words = code-from p (a ∷ b ∷ []) }
@@ -36,7 +36,7 @@ failed p t code r h c e m =
 -- a code is computed only where the fields are in place, and then covers the words read
 pub covers : (n : ℕ) (t : List ℕ) (s : Fields) (b o : Bool) → s ≡ fields-of (getD t 0 0) → b ≡ formed n s → (not b || o) ≡ false
     → covered (statement t 0) ≡ getD t 0 0 ∷ getD t 1 0 ∷ []
-covers n t s b o read good h = covered-formed n t 0 (sym (rw read at good) ∙ not-false b (left-false (not b) o h))
+covers n t s b o read good h = covered-formed n t 0 (sym (rw read at good) ∙ not-false b (neither (not b) o h .0))
 
 -- a second group has its size, or there is none and nothing follows
 pub chosen : (due : Bool) (rest size : ℕ) → (due && eqb rest size || not due && eqb rest 0) ≡ eqb rest (pick due size 0)
@@ -45,10 +45,6 @@ chosen true rest size = sym (or-nothing (eqb rest size))
 chosen false rest size = refl
 
 -- ---- comparing eight words
-and-shift : (a b c : Bool) → (a && (b && c)) ≡ ((a && b) && c)
-and-shift true b c = refl
-and-shift false b c = refl
-
 pub same-turn : (t code : List ℕ) (i : ℕ) (ok : Bool) → i < code-words → length code ≡ code-words → length t ≡ statement-words
     → (ok && same-words (take (code-words - i) (drop (covered-words + i) t)) (drop i code))
     ≡ ((ok && eqb (getD t (covered-words + i) 0) (getD code i 0)) && same-words (take (code-words - (i + 1)) (drop (covered-words + (i + 1)) t)) (drop (i + 1) code))
@@ -59,7 +55,7 @@ same-turn t code i ok h l m =
     let p : 2 + i < length t = omega arith in
     let q : i < length code = omega arith in
     rw (e, drop-cons t (2 + i) 0 p, drop-cons code i 0 q, f, add-one)
-    (and-shift ok (eqb (getD t (2 + i) 0) (getD code i 0)) (same-words (take (8 - suc i) (drop (suc (2 + i)) t)) (drop (suc i) code)))
+    (sym (and-assoc ok (eqb (getD t (2 + i) 0) (getD code i 0)) (same-words (take (8 - suc i) (drop (suc (2 + i)) t)) (drop (suc i) code))))
 
 pub same-end : (l code : List ℕ) (i : ℕ) (ok : Bool) → code-words ≤ i → i ≤ code-words → length code ≡ code-words
     → ok ≡ (ok && same-words (take (code-words - i) l) (drop i code))

@@ -6,7 +6,7 @@ use mathlib.Core.Path.{_≡_, refl, sym, ap, _∙_}
 use native.Mathlib.Omega.{arith}
 use lib.Dec.{eqb, ltb}
 use Rattle.laws.specs.Pick.{pick}
-use Rattle.laws.specs.Bools.{both, never}
+use Rattle.laws.specs.Bools.{both, neither, or-assoc, or-nothing}
 use Rattle.format.specs.Numbers.{place-of, statement-words}
 use Rattle.format.specs.Words.{formed}
 use Rattle.format.specs.Statement.{Statement, statement, statements, fields-at, verifies}
@@ -17,31 +17,15 @@ use Rattle.walk.specs.declared.Findings.{Findings}
 use Rattle.walk.specs.Walk.{faulty, noted, turned, walked}
 
 -- ---- a fault found before, and one found in what follows
-pub or-nothing : (a : Bool) → a ≡ (a || false)
-or-nothing true = refl
-or-nothing false = refl
-
 gather : (a p r : Bool) → (a || not p || not r) ≡ (a || not (p && r))
 gather true p r = refl
 gather false true r = refl
 gather false false r = refl
 
-gather-or : (a b r : Bool) → (a || b || r) ≡ (a || (b || r))
-gather-or true b r = refl
-gather-or false b r = refl
-
-pub left-false : (a b : Bool) → (a || b) ≡ false → a ≡ false
-left-false true b h = h
-left-false false b h = refl
-
 -- where no question differs, a code is computed unless a wrong one was found
 once : (o w v : Bool) → o ≡ false → (w || (not (false || o || w) && not v)) ≡ (w || not v)
 once o true v h = refl
 once o false v h = rw h
-
-pub right-false : (a b : Bool) → (a || b) ≡ false → b ≡ false
-right-false true b h = never true h refl
-right-false false b h = h
 
 none-of : (o w : Bool) → o ≡ false → w ≡ false → (false || o || w) ≡ false
 none-of o w p q = rw (p, q)
@@ -112,17 +96,17 @@ module _ (code : List ℕ → List ℕ) (n : ℕ) (g : Group) (question : ℕ) (
   before f r s k c h =
       let p : Bool = eqb (s .question) question in
       let t : Findings = noted code g question (f .place + 1) f false s in
-      let same : r .other ≡ false → (f .other || not p) ≡ false = λ e. left-false _ _ (sym (h .other) ∙ e) in
+      let same : r .other ≡ false → (f .other || not p) ≡ false = λ e. neither _ _ (sym (h .other) ∙ e) .0 in
       -- where neither 4 nor 5 is found in the end, this statement is held against the group
       let held : r .other ≡ false → r .wrong ≡ false → faulty question f false s ≡ false = λ e v.
-      none-of (f .other || not p) (f .wrong) (same e) (left-false (f .wrong) _ (left-false (t .wrong) (some (λ s. not (verifies code s)) c) (sym (h .wrong e) ∙ v))) in
+      none-of (f .other || not p) (f .wrong) (same e) (neither (f .wrong) _ (neither (t .wrong) (some (λ s. not (verifies code s)) c) (sym (h .wrong e) ∙ v) .0) .0) in
       record {
         place = omega (arith, h .place);
-        other = h .other ∙ gather-or (f .other) (not p) (some (λ s. not (eqb (s .question) question)) c);
+        other = h .other ∙ or-assoc (f .other) (not p) (some (λ s. not (eqb (s .question) question)) c);
         wrong = λ e.
             h .wrong e
             ∙ ap (λ (w : Bool). w || some (λ s. not (verifies code s)) c) (once (f .other || not p) (f .wrong) (verifies code s) (same e))
-            ∙ gather-or (f .wrong) (not (verifies code s)) (some (λ s. not (verifies code s)) c);
+            ∙ or-assoc (f .wrong) (not (verifies code s)) (some (λ s. not (verifies code s)) c);
         unbacked = λ e v.
             h .unbacked e v
             ∙ ap (λ (b : Bool). f .unbacked || (not b && not (matches g s && ltb (f .last) (s .station))) || not (in-order g (s .station) c)) (held e v)
@@ -130,7 +114,7 @@ module _ (code : List ℕ → List ℕ) (n : ℕ) (g : Group) (question : ℕ) (
         dget = λ e v.
             h .dget e v
             ∙ ap (λ (b : Bool). f .dget || (not b && eqb (s .flag) 0) || some-D-GET c) (held e v)
-            ∙ gather-or (f .dget) (eqb (s .flag) 0) (some-D-GET c);
+            ∙ or-assoc (f .dget) (eqb (s .flag) 0) (some-D-GET c);
         zeros = λ e v. h .zeros e v ∙ seen (f .zero) (faulty question f false s) (eqb (s .value) 0) (some-value 0 c) (held e v);
         ones = λ e v. h .ones e v ∙ seen (f .one) (faulty question f false s) (eqb (s .value) 1) (some-value 1 c) (held e v);
       }

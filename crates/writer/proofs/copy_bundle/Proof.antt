@@ -19,7 +19,9 @@ copy-words-requires : tie.Need-copy-words-requires
 copy-words-requires c κs =
     let a = c .before .before .before .before .args in
     let f = both (leb 11 (length (a .ws .now))) (leb (length (a .ws .now)) (length (a .out .now))) (not-false _ (c .before .if1 .left)) in
-    (omega arith, leb-true _ _ (f .1))
+    let low = leb-true 11 (length (a .ws .now)) (f .0) in
+    let high = leb-true (length (a .ws .now)) (length (a .out .now)) (f .1) in
+    (omega (arith, low), omega (arith, low, high))
 
 slice-write-out : tie.Need-slice-write-out
 slice-write-out c =
