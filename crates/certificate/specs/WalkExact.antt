@@ -54,7 +54,7 @@ module _ (code : List ℕ → List ℕ) (n : ℕ) (asked : Which) (ws : List ℕ
     unfolding check-by first-failed pick
     check-is a = rw a
 
-    pub found-exact : size-fits n ≡ true → laid-out ws ≡ true → answer r ≡ check-by code n asked ws
+    found-exact : size-fits n ≡ true → laid-out ws ≡ true → answer r ≡ check-by code n asked ws
     found-exact a l =
         let e : bundle-fits n ws ≡ all-formed n ws 1 (suc (count-in ws)) = laid l in
         answered r (bundle-fits n ws) (question-fits asked (main-of ws) (certificate-of ws)) (all-verify code (statements ws 1 (suc (count-in ws)))) (rule n (main-of ws) (certificate-of ws))

@@ -18,7 +18,8 @@ ghost use Rattle.format.specs.Numbers.{most-statements, place-of, statement-wor
 ghost use Rattle.format.specs.Group.{size-fits};
 ghost use Rattle.format.specs.Statement.{words-at};
 ghost use Rattle.format.specs.Bundle.{count-in, laid-out};
-ghost use Rattle.walk.specs.Walk.{through as Through};
+ghost use Rattle.walk.specs.Walk.{through as Through, answer as Answer};
+ghost use Rattle.glance.specs.Glance.{glanced};
 ghost use Rattle.certificate.specs.Check.{judged, checked};
 
 // The statement at word `at`, read into a struct: what is looked at of it is looked at there.
@@ -42,8 +43,8 @@ pub fn smaller(a: usize, b: usize) -> usize
     if a < b { a } else { b }
 }
 
-// The walk over the certificate of `count` statements: the first group, or as much of it as there is, and then the rest. A part ends behind its last statement
-// or behind a malformed one.
+// The walk over the certificate of `count` statements: the first group, or as much of it as there is, and then the rest. It ends behind the last one, or behind
+// one with a fault of 3, 4 or 5; what stands behind a 4 or 5 is left to a glance.
 fn through(
     key: Prepared,
     n: u32,
@@ -54,7 +55,7 @@ fn through(
     from: Findings,
 ) -> Findings
     requires { ⌜ (from .place ≡ 1) × (count ≤ most-statements) × (place-of (1 + count) ≤ length (now ws)) ⌝ }
-    ensures { λ r. ⌜ r ≡ Through (code-from key) n m question (now (ws .entry)) count from ⌝ }
+    ensures { λ r. ⌜ Answer (glanced n question (now (ws .entry)) r (1 + count - r .place)) ≡ Answer (Through (code-from key) n m question (now (ws .entry)) count from) ⌝ }
 {
     let r = m.round;
     let one = rules::first_group(n, m);
@@ -65,16 +66,11 @@ fn through(
     let mut g = one;
     let mut end = 1 + have;
     let mut first = true;
-    while first | (!f.malformed & (f.place < end)) {
-        if !f.malformed & (f.place < end) {
-            if f.other | f.wrong {
-                let passed = glance::rest(n, question, ws, end, f);
-                f = passed;
-            } else {
-                let t = take_up(ws, 1 + f.place as usize * STATEMENT_WORDS);
-                let next = walk::turn(key, n, g, question, f, t, f.place + 1);
-                f = next;
-            }
+    while !(f.malformed | f.other | f.wrong) & (first | (f.place < end)) {
+        if f.place < end {
+            let t = take_up(ws, 1 + f.place as usize * STATEMENT_WORDS);
+            let next = walk::turn(key, n, g, question, f, t, f.place + 1);
+            f = next;
         } else {
             let border = walk::between(m, have == size, count - have, two, f);
             f = border;
@@ -111,11 +107,13 @@ fn walk(key: [u8; 32], n: u32, asked: Which, ws: &[u32], count: u32) -> u32
     let good = format::well_formed(m, n);
     let fits = rules::allows(asked, words[1]);
     let states = states_for(key, good & fits);
-    let f = walk::start(states, n, asked, t);
-    if f.other | f.wrong {
-        return walk::answer(glance::rest(n, words[1], ws, 1 + count, f));
+    let begun = walk::start(states, n, asked, t);
+    // behind a fault of the main statement the groups are not even worked out
+    if begun.malformed | begun.other | begun.wrong {
+        return walk::answer(glance::rest(n, words[1], ws, 1 + count, begun));
     }
-    walk::answer(through(states, n, m, words[1], ws, count, f))
+    let f = through(states, n, m, words[1], ws, count, begun);
+    walk::answer(glance::rest(n, words[1], ws, 1 + count, f))
 }
 
 // The answer for the words given, under the group's key and n, where the question is to be one or may be any.

@@ -50,6 +50,10 @@ still-faulty : (b o p w : Bool) → (o || w) ≡ true → (b || (o || p) || w) �
 still-faulty true o p w h = refl
 still-faulty false o p w h = still o p w h
 
+pub stays : (n question : ℕ) (ws : List ℕ) (f : Findings) → (f .other || f .wrong) ≡ true → (passed-at n question ws f .other || passed-at n question ws f .wrong) ≡ true
+unfolding passed
+stays n question ws f fault = still (f .other) (not (eqb (getD ws (place-of (f .place) + 1) 0) question)) (f .wrong) fault
+
 module _ (code : List ℕ → List ℕ) (n : ℕ) (g : Group) (question : ℕ) (ws : List ℕ) where
   -- a turn behind such a fault
   turn-passes : (f : Findings) → (f .other || f .wrong) ≡ true → turned code n g question ws f ≡ passed-at n question ws f
@@ -59,14 +63,10 @@ module _ (code : List ℕ → List ℕ) (n : ℕ) (g : Group) (question : ℕ) (
       = still-faulty (not (formed n (fields-of (getD ws (place-of (f .place)) 0)))) (f .other) (not (eqb (getD ws (place-of (f .place) + 1) 0) question)) (f .wrong) fault in
       rw (known, ← or-nothing (f .wrong), ← or-nothing (f .unbacked), ← or-nothing (f .dget), ← or-nothing (f .zero), ← or-nothing (f .one))
 
-  stays : (f : Findings) → (f .other || f .wrong) ≡ true → (passed-at n question ws f .other || passed-at n question ws f .wrong) ≡ true
-  unfolding passed
-  stays f fault = still (f .other) (not (eqb (getD ws (place-of (f .place) + 1) 0) question)) (f .wrong) fault
-
   pub glance-is-walk : (k : ℕ) (f : Findings) → (f .other || f .wrong) ≡ true → glanced n question ws f k ≡ walked code n g question ws f k
   unfolding glanced walked pick
   glance-is-walk zero f fault = refl
-  glance-is-walk (suc k) f fault = go (f .malformed) (glance-is-walk k (passed-at n question ws f) (stays f fault))
+  glance-is-walk (suc k) f fault = go (f .malformed) (glance-is-walk k (passed-at n question ws f) (stays n question ws f fault))
     where
       go : (b : Bool) → glanced n question ws (passed-at n question ws f) k ≡ walked code n g question ws (passed-at n question ws f) k
           → pick b f (glanced n question ws (passed-at n question ws f) k) ≡ pick b f (walked code n g question ws (turned code n g question ws f) k)
@@ -75,7 +75,7 @@ module _ (code : List ℕ → List ℕ) (n : ℕ) (g : Group) (question : ℕ) (
 
 -- ---- the loop: one turn, and its end
 module _ (n question : ℕ) (ws : List ℕ) (f : Findings) (end : ℕ) where
-  pub glance-turn : (w : ℕ) (s : Fields) (b : Bool) (asked : ℕ) → w ≡ getD ws (place-of (f .place)) 0 → s ≡ fields-of w → b ≡ formed n s → asked ≡ getD ws (place-of (f .place) + 1) 0
+  pub glance-turn : (w : ℕ) (s : Fields) (b o : Bool) → w ≡ getD ws (place-of (f .place)) 0 → s ≡ fields-of w → b ≡ formed n s → o ≡ (f .other || not (eqb (getD ws (place-of (f .place) + 1) 0) question))
       → (not (f .malformed) && ltb (f .place) end) ≡ true
       → glanced n question ws f (end - f .place)
       ≡ glanced n question ws
@@ -83,7 +83,7 @@ module _ (n question : ℕ) (ws : List ℕ) (f : Findings) (end : ℕ) where
         place = f .place + 1;
         last = s .station;
         malformed = not b;
-        other = f .other || not (eqb asked question);
+        other = o;
         wrong = f .wrong;
         unbacked = f .unbacked;
         dget = f .dget;
@@ -92,10 +92,10 @@ module _ (n question : ℕ) (ws : List ℕ) (f : Findings) (end : ℕ) where
       })
       (end - (f .place + 1))
   unfolding glanced passed pick
-  glance-turn w s b asked read fields good at inside =
+  glance-turn w s b o read fields good other inside =
       let i = both (not (f .malformed)) (ltb (f .place) end) inside in
       let z : end - f .place ≡ suc (end - (f .place + 1)) = omega (arith, ltb-true (f .place) end (i .1)) in
-      rw (z, not-true (f .malformed) (i .0), good, fields, read, at)
+      rw (z, not-true (f .malformed) (i .0), good, fields, read, other)
 
   pub glance-end : (not (f .malformed) && ltb (f .place) end) ≡ false → f ≡ glanced n question ws f (end - f .place)
   unfolding glanced pick

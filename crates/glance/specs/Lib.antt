@@ -1,1 +1,2 @@
 pub mod Glance
+pub mod Behind

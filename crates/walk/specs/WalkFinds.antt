@@ -6,7 +6,7 @@ use mathlib.Core.Path.{_≡_, refl, sym, ap, _∙_}
 use native.Mathlib.Omega.{arith}
 use lib.Dec.{eqb}
 use Rattle.laws.specs.Pick.{pick}
-use Rattle.laws.specs.Bools.{both, never, neither, second-of, or-assoc}
+use Rattle.laws.specs.Bools.{both, neither, or-assoc}
 use Rattle.laws.specs.Least.{least, least-fits}
 use Rattle.laws.specs.Refusals.{test, first-failed}
 use Rattle.format.specs.Numbers.{malformed, other-question, wrong-code, no-certificate, place-of, statement-words}
@@ -14,7 +14,6 @@ use Rattle.format.specs.Words.{fields-of, formed}
 use Rattle.format.specs.Statement.{Statement, statement, statements, fields-at, verifies}
 use Rattle.format.specs.Bundle.{all-formed, count-in, main-of, certificate-of}
 use Rattle.rules.specs.declared.Which.{Which}
-use Rattle.rules.specs.declared.Group.{Group}
 use Rattle.rules.specs.Rules.{which, some, some-D-GET, in-order, spread, rule}
 use Rattle.walk.specs.declared.Findings.{Findings}
 use Rattle.walk.specs.Walk.{started, walked, first-size, second-size, both-seen, between, through, findings, answer}
@@ -203,56 +202,3 @@ module _ (code : List ℕ → List ℕ) (n : ℕ) (asked : Which) (ws : List ℕ
         wrong = λ h q. end-wrong (parts h .0) (parts h .1) (parts h .2) q;
         unbacked = λ h q v. end-unbacked (parts h .0) (parts h .1) (parts h .2) q v;
       })
-
-  -- behind a main statement with a fault of 4 or 5 the groups do not matter: turns over the whole certificate, held against any group, come to the same
-  module _ (g : Group) where
-    abbrev glanced : Findings
-    glanced = walked code n g (main-of ws .question) ws begun (count-in ws)
-
-    glanced-malformed : glanced .malformed ≡ not (all-formed n ws (place-of 0) (suc (count-in ws)))
-    unfolding started all-formed
-    glanced-malformed = go main-formed refl
-      where
-        go : (b : Bool) → main-formed ≡ b → glanced .malformed ≡ not (main-formed && all-formed n ws (place-of 1) (count-in ws))
-        go true m = finds-malformed code n g (main-of ws .question) ws (count-in ws) begun 11 refl (begun-formed m) ∙ ap (λ (x : Bool). not (x && all-formed n ws 11 (count-in ws))) (sym m)
-        go false z =
-            ap (λ (r : Findings). r .malformed) (stopped code n g (main-of ws .question) ws begun (count-in ws) (ap not z))
-            ∙ ap not z
-            ∙ ap (λ (x : Bool). not (x && all-formed n ws 11 (count-in ws))) (sym z)
-
-    module _ (h : all-formed n ws (place-of 0) (suc (count-in ws)) ≡ true) where
-      main-there : main-formed ≡ true
-      unfolding all-formed
-      main-there = both main-formed (all-formed n ws 11 (count-in ws)) h .0
-
-      glanced-finds : Finds code g (main-of ws .question) begun glanced (count-in ws) (certificate-of ws)
-      unfolding all-formed started
-      glanced-finds = finds code n g (main-of ws .question) ws (count-in ws) begun 11 refl (begun-formed main-there) (both main-formed (all-formed n ws 11 (count-in ws)) h .1)
-
-      main-asked : glanced .other ≡ false → begun .other ≡ false
-      main-asked none = neither _ _ (sym (glanced-finds .other) ∙ none) .0
-
-      glanced-other : glanced .other ≡ (not (which asked (main-of ws .question)) || some (λ s. not (eqb (s .question) (main-of ws .question))) (certificate-of ws))
-      unfolding started
-      glanced-other = glanced-finds .other
-
-      glanced-wrong : glanced .other ≡ false → glanced .wrong ≡ some (λ s. not (verifies code s)) (statements ws (place-of 0) (suc (count-in ws)))
-      unfolding started some statements
-      glanced-wrong none =
-          let asked-for : begun .other ≡ false = main-asked none in
-          glanced-finds .wrong none ∙ rw (main-there, asked-for)
-
-      not-both : (begun .other || begun .wrong) ≡ true → glanced .other ≡ false → glanced .wrong ≡ false → glanced .unbacked ≡ not (rule n (main-of ws) (certificate-of ws))
-      not-both faulted none right =
-          let o : begun .other ≡ false = main-asked none in
-          let w : begun .wrong ≡ false = neither _ _ (sym (glanced-finds .wrong none) ∙ right) .0 in
-          never (begun .wrong) w (second-of (begun .other) (begun .wrong) o faulted)
-
-    pub glance-finds : (begun .other || begun .wrong) ≡ true → Found code n asked ws glanced
-    glance-finds faulted =
-        record {
-          malformed = glanced-malformed;
-          other = glanced-other;
-          wrong = glanced-wrong;
-          unbacked = λ h q v. not-both h faulted q v;
-        }

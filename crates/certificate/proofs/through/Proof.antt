@@ -1,18 +1,18 @@
--- The invariant: what is to come, in the part that is walked and behind it, is the whole. A turn is one unfolding of the definition; at the border the second part begins.
-use Prim.Native.Nat.{ℕ, _+_, _-_, _*_, _≤_, _<_}
-use mathlib.Core.Bool.{true, false, not, _&&_}
+-- The invariant: what is to come, in the part that is walked and behind it, is the whole. A turn is one unfolding of the definition; at the border the second part
+-- begins; behind a fault a glance has the answer of what was to come.
+use Prim.Native.Nat.{ℕ, _+_, _-_, _*_, _≤_}
+use mathlib.Core.Bool.{true, false, not, _||_}
 use mathlib.Core.Path.{_≡_, refl, sym, ap, _∙_}
 use native.Mathlib.Omega.{arith}
 use lib.Dec.{ltb}
 use lib.ListN.{length}
-use borrow.Author.Tests.{ltb-true, not-true}
+use borrow.Author.Tests.{le-ltb, not-true}
 use Rattle.laws.specs.Pick.{pick}
 use Rattle.laws.specs.Bools.{both, never, first-of, neither}
 use Rattle.laws.specs.Least.{least-fits}
 use Rattle.hmac.specs.Hmac.{code-from}
-use Rattle.walk.specs.Walk.{walked, through}
-use Rattle.glance.specs.Glance.{glance-is-walk}
-use Rattle.certificate.specs.Laws.Calls.{group-turn, part-end, part-passed, finished, through-start, through-end, border-turn}
+use Rattle.walk.specs.Walk.{walked, through, answer}
+use Rattle.certificate.specs.Laws.Calls.{group-turn, finished, through-start, loop-end, border-turn}
 use borrow.Author.Needs.{needs}
 use Rattle.certificate.proofs.through.Statement.{statement}
 use Rattle.certificate.proofs.through.Tie as tie
@@ -25,6 +25,7 @@ Inv-loop key n m question ws count two size have f₀ g₀ end₀ first₀ f g e
     × (1 + (1 + count) * 10 ≤ length ws)
     × (have ≤ count)
     × (first ≡ true → end ≡ 1 + have)
+    × (first ≡ false → end ≡ 1 + count)
     × (through (code-from key) n m question ws count f₀ ≡ finished (code-from key) n m question ws count size have two first (walked (code-from key) n g question ws f (end - f .place)))
 
 abbrev μ-loop : tie.MeasureT-loop
@@ -72,36 +73,37 @@ loop-holds c =
       p .2,
       h,
       (λ e. refl),
+      (λ e. never true e refl),
       through-start (code-from (a .key)) (a .n) (a .m) (a .question) (a .ws .now) (a .count) (z .first-size .result) (c .smaller .result) (a .from) (z .before .before .first-group .result)
           (z .before .second-group .result) (p .0) (z .before .before .first-group .ensures) (z .before .second-group .ensures) (z .first-size .ensures) (c .smaller .ensures),
     )
 
--- in a turn the statement is there
-inside : (e : tie.Then2 Inv-loop μ-loop) → let v = e .before .before .before .before .before .before .loop in (v .f .malformed ≡ false) × (v .f .place < v .end)
-inside e =
-    let v = e .before .before .before .before .before .before .loop in
-    let b = both (not (v .f .malformed)) (ltb (v .f .place) (v .end)) (e .if2 .taken) in
-    (not-true _ (b .0), ltb-true _ _ (b .1))
+-- in the loop nothing was found of 3
+formed-so-far : (e : tie.Then1 Inv-loop μ-loop) → e .before .before .before .before .loop .f .malformed ≡ false
+formed-so-far e =
+    let v = e .before .before .before .before .loop in
+    let clean = not-true _ (both (not (v .f .malformed || v .f .other || v .f .wrong)) (v .first || ltb (v .f .place) (v .end)) (e .if1 .taken) .0) in
+    neither (v .f .malformed) (v .f .other) (neither (v .f .malformed || v .f .other) (v .f .wrong) clean .0) .0
 
 a-turn : (c : tie.After-turn Inv-loop μ-loop) →
-    let l = c .before .before .before .before .before .before .before .before .before .before .before .before in
+    let l = c .before .before .before .before .before .before .before .before .before .before in
     let a = l .before .before .before .before .before .before .before .args in
     let v = l .loop in
     (c .turn .result .place ≡ v .f .place + 1)
     × (walked (code-from (a .key)) (a .n) (v .g) (a .question) (a .ws .now) (v .f) (v .end - v .f .place) ≡ walked (code-from (a .key)) (a .n) (v .g) (a .question) (a .ws .now) (c .turn .result) (v .end - c .turn .result .place))
 a-turn c =
     let u = c .before .before in
-    let e = u .before .before .before .before in
+    let e = u .before .before in
     let l = e .before .before .before .before .before .before in
     let a = l .before .before .before .before .before .before .before .args in
     let v = l .loop in
-    group-turn (code-from (a .key)) (a .n) (v .g) (a .question) (a .ws .now) (v .f) (c .turn .result) (u .take-up .result .words) (v .end) (inside e .1) (inside e .0) (u .take-up .ensures) (c .turn .ensures)
+    group-turn (code-from (a .key)) (a .n) (v .g) (a .question) (a .ws .now) (v .f) (c .turn .result) (u .take-up .result .words) (v .end) (e .if2 .taken) (formed-so-far (e .before .before)) (u .take-up .ensures) (c .turn .ensures)
 
 -- at the border the first part has ended
 was-first : (e : tie.Else2 Inv-loop μ-loop) → e .before .before .before .before .before .before .loop .first ≡ true
 was-first e =
     let v = e .before .before .before .before .before .before .loop in
-    first-of (v .first) (not (v .f .malformed) && ltb (v .f .place) (v .end)) (e .if2 .left) (e .before .before .before .if1 .taken)
+    first-of (v .first) (ltb (v .f .place) (v .end)) (le-ltb (v .f .place) (v .end) (e .if2 .left)) (both (not (v .f .malformed || v .f .other || v .f .wrong)) (v .first || ltb (v .f .place) (v .end)) (e .before .before .if1 .taken) .1)
 
 a-border : (c : tie.After-between Inv-loop μ-loop) →
     let l = c .before .before .before .before .before .before .before in
@@ -120,43 +122,6 @@ a-border c =
     border-turn (code-from (a .key)) (a .n) (a .m) (a .question) (a .ws .now) (a .count) (z .before .first-size .result) (z .smaller .result) (v .f) (c .between .result) (v .g) (z .before .before .second-group .result) (v .end)
     (e .if2 .left) (v .inv .0) (v .inv .5 (was-first e)) (v .inv .4) (c .between .ensures)
 
--- behind a fault of 4 or 5 the part is passed at once
-a-glance : (c : tie.After-rest Inv-loop μ-loop) →
-    let l = c .before .before .before .before .before .before .before .before .before in
-    let a = l .before .before .before .before .before .before .before .args in
-    let v = l .loop in
-    (v .f .place < c .rest .result .place)
-    × (c .rest .result .place ≤ v .end)
-    × (walked (code-from (a .key)) (a .n) (v .g) (a .question) (a .ws .now) (v .f) (v .end - v .f .place) ≡ walked (code-from (a .key)) (a .n) (v .g) (a .question) (a .ws .now) (c .rest .result) (v .end - c .rest .result .place))
-a-glance c =
-    let e = c .before .before .before in
-    let l = e .before .before .before .before .before .before in
-    let a = l .before .before .before .before .before .before .before .args in
-    let v = l .loop in
-    part-passed (code-from (a .key)) (a .n) (v .g) (a .question) (a .ws .now) (v .f) (c .rest .result) (v .end) (c .rest .ensures ∙ glance-is-walk (code-from (a .key)) (a .n) (v .g) (a .question) (a .ws .now) (v .end - v .f .place) (v .f) (c .before .if3 .taken)) (e .if2 .taken)
-
-rest-requires : tie.Need-rest-requires Inv-loop μ-loop
-rest-requires c κs = search needs
-
-loop-less : tie.Need-loop-less Inv-loop μ-loop
-loop-less c = omega (arith, a-glance c .0, a-glance c .1)
-
-loop-again : tie.Need-loop-again Inv-loop μ-loop
-loop-again c =
-    let l = c .before .before .before .before .before .before .before .before .before in
-    let z = l .before in
-    let a = z .before .before .before .before .before .before .args in
-    let v = l .loop in
-    let t = a-glance c in (
-      t .1,
-      v .inv .1,
-      v .inv .2,
-      v .inv .3,
-      v .inv .4,
-      v .inv .5,
-      v .inv .6 ∙ ap (finished (code-from (a .key)) (a .n) (a .m) (a .question) (a .ws .now) (a .count) (z .before .first-size .result) (z .smaller .result) (z .before .before .second-group .result) (v .first)) (t .2),
-    )
-
 cast-take-up : tie.Need-cast-take-up Inv-loop μ-loop
 cast-take-up c = search needs
 
@@ -168,8 +133,8 @@ add-take-up c = search needs
 
 take-up-requires : tie.Need-take-up-requires Inv-loop μ-loop
 take-up-requires c κs =
-    let v = c .before .before .before .before .before .before .before .before .before .loop in
-    omega (arith, inside (c .before .before .before) .1, v .inv .1, v .inv .3)
+    let v = c .before .before .before .before .before .before .before .loop in
+    omega (arith, c .before .if2 .taken, v .inv .1, v .inv .3)
 
 add-turn : tie.Need-add-turn Inv-loop μ-loop
 add-turn c = search needs
@@ -177,23 +142,24 @@ add-turn c = search needs
 turn-requires : tie.Need-turn-requires Inv-loop μ-loop
 turn-requires c κs = search needs
 
-loop-less-2 : tie.Need-loop-less-2 Inv-loop μ-loop
-loop-less-2 c = omega (arith, a-turn c .0, inside (c .before .before .before .before .before .before) .1)
+loop-less : tie.Need-loop-less Inv-loop μ-loop
+loop-less c = omega (arith, a-turn c .0, c .before .before .before .before .if2 .taken)
 
-loop-again-2 : tie.Need-loop-again-2 Inv-loop μ-loop
-loop-again-2 c =
-    let l = c .before .before .before .before .before .before .before .before .before .before .before .before in
+loop-again : tie.Need-loop-again Inv-loop μ-loop
+loop-again c =
+    let l = c .before .before .before .before .before .before .before .before .before .before in
     let z = l .before in
     let a = z .before .before .before .before .before .before .args in
     let v = l .loop in
     let t = a-turn c in (
-      omega (arith, t .0, inside (c .before .before .before .before .before .before) .1),
+      omega (arith, t .0, c .before .before .before .before .if2 .taken),
       v .inv .1,
       v .inv .2,
       v .inv .3,
       v .inv .4,
       v .inv .5,
-      v .inv .6 ∙ ap (finished (code-from (a .key)) (a .n) (a .m) (a .question) (a .ws .now) (a .count) (z .before .first-size .result) (z .smaller .result) (z .before .before .second-group .result) (v .first)) (t .1),
+      v .inv .6,
+      v .inv .7 ∙ ap (finished (code-from (a .key)) (a .n) (a .m) (a .question) (a .ws .now) (a .count) (z .before .first-size .result) (z .smaller .result) (z .before .before .second-group .result) (v .first)) (t .1),
     )
 
 sub-between : tie.Need-sub-between Inv-loop μ-loop
@@ -205,15 +171,15 @@ between-requires c κs = search needs
 add-end-2 : tie.Need-add-end-2 Inv-loop μ-loop
 add-end-2 c = search needs
 
-loop-less-3 : tie.Need-loop-less-3 Inv-loop μ-loop
+loop-less-2 : tie.Need-loop-less-2 Inv-loop μ-loop
 unfolding pick
-loop-less-3 c =
+loop-less-2 c =
     let v = c .before .before .before .before .before .before .before .loop in
     let p : pick {A = ℕ} (v .first) 64 0 ≡ 64 = rw (was-first (c .before)) in
     omega (arith, p, a-border c .0, v .inv .2)
 
-loop-again-3 : tie.Need-loop-again-3 Inv-loop μ-loop
-loop-again-3 c =
+loop-again-2 : tie.Need-loop-again-2 Inv-loop μ-loop
+loop-again-2 c =
     let l = c .before .before .before .before .before .before .before in
     let z = l .before in
     let a = z .before .before .before .before .before .before .args in
@@ -226,21 +192,21 @@ loop-again-3 c =
       v .inv .3,
       v .inv .4,
       (λ e. never false refl e),
-      v .inv .6
+      (λ e. refl),
+      v .inv .7
           ∙ ap (λ b. finished (code-from (a .key)) (a .n) (a .m) (a .question) (a .ws .now) (a .count) (z .before .first-size .result) (z .smaller .result) (z .before .before .second-group .result) b x) (was-first (c .before))
           ∙ t .1,
     )
 
 returns : tie.Need-returns Inv-loop μ-loop
 returns c =
-    let l = c .before .before .before in
+    let l = c .before .before .before .before in
     let z = l .before in
     let a = z .before .before .before .before .before .before .args in
     let v = l .loop in
-    let inside = not (v .f .malformed) && ltb (v .f .place) (v .end) in
-    part-end (code-from (a .key)) (a .n) (v .g) (a .question) (a .ws .now) (v .f) (v .end) (neither (v .first) inside (c .if1 .left) .1)
-    ∙ through-end (code-from (a .key)) (a .n) (a .m) (a .question) (a .ws .now) (a .count) (z .before .first-size .result) (z .smaller .result) (z .before .before .second-group .result) (v .first) _ (neither (v .first) inside (c .if1 .left) .0)
-    ∙ sym (v .inv .6)
+    loop-end (code-from (a .key)) (a .n) (a .m) (a .question) (a .ws .now) (a .count) (z .before .first-size .result) (z .smaller .result) (v .g) (z .before .before .second-group .result) (v .f) (v .end) (v .first)
+    (v .inv .0) (v .inv .4) (v .inv .5) (v .inv .6) (c .if1 .left)
+    ∙ ap answer (sym (v .inv .7))
 
 pub through-spec : {M : Type 1} → statement M
 through-spec =
@@ -256,20 +222,17 @@ through-spec =
     cast-have
     add-end
     loop-holds
-    rest-requires
-    loop-less
-    loop-again
     cast-take-up
     mul-take-up
     add-take-up
     take-up-requires
     add-turn
     turn-requires
-    loop-less-2
-    loop-again-2
+    loop-less
+    loop-again
     sub-between
     between-requires
     add-end-2
-    loop-less-3
-    loop-again-3
+    loop-less-2
+    loop-again-2
     returns)

@@ -1,17 +1,15 @@
--- What the calls give is the walk, or its turns without the groups where these do not matter; its answer is the check's. Where no code is computed any code gives
--- that answer.
-use Prim.Native.Nat.{_+_, _-_, _≤_}
+-- What the calls give is the walk, and its answer is the check's. Where no code is computed any code gives that answer.
+use Prim.Native.Nat.{_≤_}
 use mathlib.Core.Path.{_≡_, ap, _∙_}
 use native.Mathlib.Omega.{arith}
 use lib.ListN.{getD}
 use Rattle.format.specs.Numbers.{most-statements}
 use Rattle.format.specs.Laws.Parts.{sizes}
 use Rattle.hmac.specs.Hmac.{code-from}
-use Rattle.rules.specs.Rules.{none-votes}
 use Rattle.walk.specs.declared.Findings.{Findings}
-use Rattle.walk.specs.Walk.{started}
-use Rattle.glance.specs.Glance.{glance-is-walk}
-use Rattle.certificate.specs.Laws.Answers.{judged-walk, judged-glance}
+use Rattle.walk.specs.Walk.{started, answer}
+use Rattle.certificate.specs.Laws.Calls.{through-behind}
+use Rattle.certificate.specs.Laws.Answers.{judged-walk}
 use borrow.Author.Needs.{needs}
 use Rattle.certificate.proofs.walk.Statement.{statement}
 use Rattle.certificate.proofs.walk.Tie as tie
@@ -56,7 +54,7 @@ array-read-rest c = search needs
 
 add-rest : tie.Need-add-rest
 add-rest c =
-    let h = few (c .before .before .before .before .before .before .before .before .before .before) in
+    let h = few (c .before .before .before .before .before .before .before .before .before .before .before) in
     search needs
 
 rest-requires : tie.Need-rest-requires
@@ -68,7 +66,7 @@ answer-requires c κs = search needs
 returns : tie.Need-returns
 returns c =
     let e = c .before .before in
-    let f = e .before .before in
+    let f = e .before .before .before in
     let k = f .before in
     let q = k .before in
     let g = q .before in
@@ -76,26 +74,38 @@ returns c =
     let t = r .before .before in
     let s = t .before .before in
     let a = s .args in
-    judged-glance (a .key) (a .n) (a .asked) (a .ws .now) (s .pre .0) (s .pre .1) (code-from (k .states-for .result)) (t .take-up .result .words) (r .read-fields .result) (a .count) (f .start .result) (c .before .rest .result) (c .answer .result)
+    judged-walk (a .key) (a .n) (a .asked) (a .ws .now) (s .pre .0) (s .pre .1) (code-from (k .states-for .result)) (t .take-up .result .words) (r .read-fields .result) (a .count) (f .start .result) (c .answer .result)
     (g .well-formed .result) (q .allows .result) (t .take-up .ensures) (r .read-fields .ensures) (g .well-formed .ensures) (q .allows .ensures) (k .states-for .ensures) (s .pre .2)
-    (f .start .ensures) (c .answer .ensures) (e .if1 .taken) (none-votes (a .n) 0) (c .before .rest .ensures ∙ glance-is-walk (code-from (k .states-for .result)) (a .n) (none-votes (a .n) 0) (getD (t .take-up .result .words) 1 0) (a .ws .now) (1 + a .count - f .start .result .place) (f .start .result) (e .if1 .taken))
+    (f .start .ensures) (c .answer .ensures ∙ ap answer (c .before .rest .ensures) ∙ through-behind (code-from (k .states-for .result)) (a .n) (r .read-fields .result) (getD (t .take-up .result .words) 1 0) (a .ws .now) (a .count) (f .start .result) (begun f) (e .if1 .taken))
 
 array-read-through : tie.Need-array-read-through
 array-read-through c = search needs
 
 through-requires : tie.Need-through-requires
 through-requires c κs =
-    let f = c .before .before in
+    let f = c .before .before .before in
     let s = f .before .before .before .before .before .before .before .before in
     let b = sizes _ (s .pre .1) in
     (begun f, few s, omega (arith, b .1, s .pre .2))
+
+array-read-rest-2 : tie.Need-array-read-rest-2
+array-read-rest-2 c = search needs
+
+add-rest-2 : tie.Need-add-rest-2
+add-rest-2 c =
+    let h = few (c .before .before .before .before .before .before .before .before .before .before .before .before) in
+    search needs
+
+rest-requires-2 : tie.Need-rest-requires-2
+rest-requires-2 c κs = search needs
 
 answer-requires-2 : tie.Need-answer-requires-2
 answer-requires-2 c κs = search needs
 
 returns-2 : tie.Need-returns-2
 returns-2 c =
-    let f = c .before .before .before .before in
+    let h = c .before .before in
+    let f = h .before .before .before .before in
     let k = f .before in
     let q = k .before in
     let g = q .before in
@@ -103,9 +113,9 @@ returns-2 c =
     let t = r .before .before in
     let s = t .before .before in
     let a = s .args in
-    judged-walk (a .key) (a .n) (a .asked) (a .ws .now) (s .pre .0) (s .pre .1) (code-from (k .states-for .result)) (t .take-up .result .words) (r .read-fields .result) (a .count) (f .start .result) (c .before .through .result) (c .answer2 .result)
+    judged-walk (a .key) (a .n) (a .asked) (a .ws .now) (s .pre .0) (s .pre .1) (code-from (k .states-for .result)) (t .take-up .result .words) (r .read-fields .result) (a .count) (f .start .result) (c .answer2 .result)
     (g .well-formed .result) (q .allows .result) (t .take-up .ensures) (r .read-fields .ensures) (g .well-formed .ensures) (q .allows .ensures) (k .states-for .ensures) (s .pre .2)
-    (f .start .ensures) (c .answer2 .ensures) (c .before .through .ensures)
+    (f .start .ensures) (c .answer2 .ensures ∙ ap answer (c .before .rest2 .ensures) ∙ h .through .ensures)
 
 pub walk-spec : {M : Type 1} → statement M
 walk-spec =
@@ -126,5 +136,8 @@ walk-spec =
     returns
     array-read-through
     through-requires
+    array-read-rest-2
+    add-rest-2
+    rest-requires-2
     answer-requires-2
     returns-2)

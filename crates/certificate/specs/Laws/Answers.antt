@@ -1,9 +1,8 @@
 -- The answers of the check, each from what led to it: no fitting size, no layout, or the walk.
-use Prim.Native.Nat.{ℕ, _+_, _-_, _%_, _^_}
-use mathlib.Core.Bool.{Bool, true, false, not, _&&_, _||_}
+use Prim.Native.Nat.{ℕ, _+_, _%_, _^_}
+use mathlib.Core.Bool.{Bool, true, false, not, _&&_}
 use mathlib.Core.List.{List}
 use mathlib.Core.Path.{_≡_, refl, sym, ap, _∙_}
-use native.Mathlib.Omega.{arith}
 use lib.Dec.{eqb}
 use lib.ListN.{length, getD}
 use Rattle.laws.specs.Pick.{pick}
@@ -16,14 +15,12 @@ use Rattle.format.specs.Words.{fields-of, formed}
 use Rattle.format.specs.Statement.{statement, words-at, fields-at}
 use Rattle.format.specs.Bundle.{head-fits, count-bits, count-in, laid-out, all-formed, bundle-fits, main-of, certificate-of}
 use Rattle.rules.specs.declared.Which.{Which}
-use Rattle.rules.specs.declared.Group.{Group}
 use Rattle.rules.specs.Rules.{which}
 use Rattle.hmac.specs.Code.{hmac-code}
 use Rattle.walk.specs.declared.Findings.{Findings}
 use Rattle.certificate.specs.Check.{one-question, check-by, judged}
-use Rattle.walk.specs.Walk.{started, walked, through, findings, answer, walk}
-use Rattle.walk.specs.WalkFinds.{glance-finds}
-use Rattle.certificate.specs.WalkExact.{found-exact, walk-exact}
+use Rattle.walk.specs.Walk.{started, through, findings, answer, walk}
+use Rattle.certificate.specs.WalkExact.{walk-exact}
 use Rattle.certificate.specs.Laws.Read.{word-0-read, word-1-read, fields-read, statement-read}
 
 -- the layout, by the head word
@@ -71,9 +68,9 @@ module _ (key : List ℕ) (n : ℕ) (asked : Which) (ws : List ℕ) where
       walk-is code = rw (a, b)
 
       -- the words that were read are those of the main statement
-      module _ (code : List ℕ → List ℕ) (t : List ℕ) (m : Fields) (count : ℕ) (f r : Findings) (x : ℕ) (good fits : Bool) (read : t ≡ words-at ws (place-of 0)) (main : m ≡ fields-of (getD t 0 0))
+      module _ (code : List ℕ → List ℕ) (t : List ℕ) (m : Fields) (count : ℕ) (f : Findings) (x : ℕ) (good fits : Bool) (read : t ≡ words-at ws (place-of 0)) (main : m ≡ fields-of (getD t 0 0))
           (p : good ≡ formed n m) (q : fits ≡ which asked (getD t 1 0)) (same : (good && fits) ≡ true → code ≡ hmac-code key) (counted : count ≡ count-in ws)
-          (begun : f ≡ started code asked (not (formed n (fields-at t 0))) (statement t 0)) (found : x ≡ answer r) where
+          (begun : f ≡ started code asked (not (formed n (fields-at t 0))) (statement t 0)) (found : x ≡ answer (through code n m (getD t 1 0) ws count f)) where
         fields : m ≡ fields-at ws (place-of 0)
         fields = main ∙ rw (read, word-0-read ws 1)
 
@@ -95,13 +92,5 @@ module _ (key : List ℕ) (n : ℕ) (asked : Which) (ws : List ℕ) where
             let known : (good && fits) ≡ (formed n (fields-at ws 1) && which asked (main-of ws .question)) = rw (p, q, fields, asked-for) in
             any-code code (hmac-code key) n asked ws (λ h. same (known ∙ h))
 
-        pub judged-walk : r ≡ through code n m (getD t 1 0) ws count f → x ≡ judged key n asked ws
-        judged-walk end = found ∙ rw (end, begins, counted, fields, asked-for) (walk-is code) ∙ walk-exact code n asked ws ∙ any
-
-        pub judged-glance : (f .other || f .wrong) ≡ true → (g : Group) → r ≡ walked code n g (getD t 1 0) ws f (1 + count - f .place) → x ≡ judged key n asked ws
-        unfolding started
-        judged-glance fault g end =
-            let place : f .place ≡ 1 = ap (λ (y : Findings). y .place) begins in
-            let k : 1 + count - f .place ≡ count-in ws = omega (arith, place, counted) in
-            let e : r ≡ walked code n g (main-of ws .question) ws (started code asked (not (formed n (fields-at ws 1))) (main-of ws)) (count-in ws) = end ∙ rw (k, begins, asked-for) in
-            found ∙ ap answer e ∙ found-exact code n asked ws _ (glance-finds code n asked ws g (rw begins at fault)) a b ∙ any
+        pub judged-walk : x ≡ judged key n asked ws
+        judged-walk = found ∙ rw (begins, counted, fields, asked-for) (walk-is code) ∙ walk-exact code n asked ws ∙ any

@@ -1,14 +1,14 @@
 -- What the parts of the walk's code give, taken to the walk's definitions.
-use Prim.Native.Nat.{ℕ, zero, suc, _+_, _-_, _≤_, _<_}
-use mathlib.Core.Bool.{Bool, true, false, not, _&&_}
+use Prim.Native.Nat.{ℕ, suc, _+_, _-_, _≤_, _<_}
+use mathlib.Core.Bool.{Bool, true, false, not, _&&_, _||_}
 use mathlib.Core.List.{List}
 use mathlib.Core.Path.{_≡_, refl, sym, ap, _∙_}
 use native.Mathlib.Omega.{arith}
 use lib.Dec.{eqb, ltb}
-use borrow.Author.Tests.{ltb-true, ltb-false, le-ltb, not-true}
+use borrow.Author.Tests.{ltb-false}
 use Rattle.laws.specs.Pick.{pick}
-use Rattle.laws.specs.Bools.{both, never}
-use Rattle.laws.specs.Least.{least}
+use Rattle.laws.specs.Bools.{never}
+use Rattle.laws.specs.Least.{least, least-fits}
 use Rattle.format.specs.Numbers.{place-of}
 use Rattle.format.specs.declared.Fields.{Fields}
 use Rattle.format.specs.Words.{formed}
@@ -16,9 +16,11 @@ use Rattle.format.specs.Statement.{statement, words-at, fields-at}
 use Rattle.rules.specs.declared.Group.{Group}
 use Rattle.rules.specs.Rules.{first-group, second-group}
 use Rattle.walk.specs.declared.Findings.{Findings}
-use Rattle.walk.specs.Walk.{noted, turned, walked, first-size, between, through}
+use Rattle.walk.specs.Walk.{noted, turned, walked, first-size, between, through, answer}
+use Rattle.glance.specs.Glance.{glanced}
+use Rattle.glance.specs.Behind.{glance-behind, behind-fault}
 use Rattle.certificate.specs.Laws.Read.{fields-read, statement-read}
-use Rattle.walk.specs.Laws.Turns.{stopped, onward}
+use Rattle.walk.specs.Laws.Turns.{onward}
 
 module _ (code : List ℕ → List ℕ) (n : ℕ) (g : Group) (question : ℕ) (ws : List ℕ) where
   turn-read : (f : Findings) (t : List ℕ) → t ≡ words-at ws (place-of (f .place))
@@ -37,58 +39,20 @@ module _ (code : List ℕ → List ℕ) (n : ℕ) (g : Group) (question : ℕ) (
       let s : end - f .place ≡ suc (end - (f .place + 1)) = omega arith in
       (ap (λ (r : Findings). r .place) q, rw (q, s) (onward code n g question ws f (end - (f .place + 1)) m))
 
-  -- a part has ended behind its last statement, or behind a malformed one
-  pub part-end : (f : Findings) (end : ℕ) → (not (f .malformed) && ltb (f .place) end) ≡ false → f ≡ walked code n g question ws f (end - f .place)
-  unfolding walked
-  part-end f end h = go (f .malformed) refl
-    where
-      go : (b : Bool) → f .malformed ≡ b → f ≡ walked code n g question ws f (end - f .place)
-      go true e = sym (stopped code n g question ws f (end - f .place) e)
-      go false e =
-          let z : end - f .place ≡ 0 = omega (arith, ltb-false (f .place) end (rw e at h)) in
-          rw z
-
-  -- a walk goes on, by no more than its statements, and by all of them where none is malformed
-  advances : (k : ℕ) (f : Findings) →
-      let w = walked code n g question ws f k in
-      (f .place ≤ w .place) × (w .place ≤ f .place + k) × (w .malformed ≡ false → w .place ≡ f .place + k)
-  unfolding walked noted
-  advances zero f = (omega arith, omega arith, λ e. omega arith)
-  advances (suc k) f = go (f .malformed) refl (advances k (turned code n g question ws f))
-    where
-      go : (b : Bool) → f .malformed ≡ b
-          → (let w = walked code n g question ws (turned code n g question ws f) k in
-          (turned code n g question ws f .place ≤ w .place) × (w .place ≤ turned code n g question ws f .place + k) × (w .malformed ≡ false → w .place ≡ turned code n g question ws f .place + k))
-          → let w = walked code n g question ws f (suc k) in
-          (f .place ≤ w .place) × (w .place ≤ f .place + suc k) × (w .malformed ≡ false → w .place ≡ f .place + suc k)
-      go true e ih = rw (stopped code n g question ws f (suc k) e) (omega arith, omega arith, λ h. never (f .malformed) h e)
-      go false e ih = rw (onward code n g question ws f k e) (omega (arith, ih .0), omega (arith, ih .1), λ h. omega (arith, ih .2 h))
-
-  -- a part passed to its end, or to a malformed statement, has ended
-  pub part-passed : (f rest : Findings) (end : ℕ) → rest ≡ walked code n g question ws f (end - f .place) → (not (f .malformed) && ltb (f .place) end) ≡ true
-      → (f .place < rest .place) × (rest .place ≤ end) × (walked code n g question ws f (end - f .place) ≡ walked code n g question ws rest (end - rest .place))
-  unfolding noted
-  part-passed f rest end e inside =
-      let i = both (not (f .malformed)) (ltb (f .place) end) inside in
-      let low : f .place < end = ltb-true (f .place) end (i .1) in
-      let z : end - f .place ≡ suc (end - (f .place + 1)) = omega (arith, low) in
-      let on : rest ≡ walked code n g question ws (turned code n g question ws f) (end - (f .place + 1))
-      = e ∙ ap (walked code n g question ws f) z ∙ onward code n g question ws f (end - (f .place + 1)) (not-true (f .malformed) (i .0)) in
-      let p = advances (end - (f .place + 1)) (turned code n g question ws f) in
-      let up : f .place + 1 ≤ rest .place = rw on (p .0) in
-      let down : rest .place ≤ f .place + 1 + (end - (f .place + 1)) = rw on (p .1) in
-      let all : rest .malformed ≡ false → rest .place ≡ f .place + 1 + (end - (f .place + 1)) = rw on (p .2) in
-      (omega (arith, up), omega (arith, down, low), sym e ∙ part-end rest end (go low all (rest .malformed) refl))
-    where
-      go : f .place < end → (rest .malformed ≡ false → rest .place ≡ f .place + 1 + (end - (f .place + 1))) → (b : Bool) → rest .malformed ≡ b
-          → (not (rest .malformed) && ltb (rest .place) end) ≡ false
-      go low all true m = rw m
-      go low all false m = rw m (le-ltb (rest .place) end (omega (arith, all m, low)))
-
 -- what is to come behind x: in the first part what is between the groups and the second, in the second nothing
 unfoldable pub finished : (List ℕ → List ℕ) → ℕ → Fields → ℕ → List ℕ → ℕ → ℕ → ℕ → Group → Bool → Findings → Findings
 finished code n m question ws count size have two first x =
     pick first (walked code n two question ws (between m (eqb have size) (count - have) two x) (count - have)) x
+
+-- a fault before the certificate
+pub through-behind : (code : List ℕ → List ℕ) (n : ℕ) (m : Fields) (question : ℕ) (ws : List ℕ) (count : ℕ) (from : Findings) → from .place ≡ 1 → (from .malformed || from .other || from .wrong) ≡ true
+    → answer (glanced n question ws from (1 + count - from .place)) ≡ answer (through code n m question ws count from)
+unfolding through
+through-behind code n m question ws count from p fault =
+    let one : Group = first-group n (m .kind) (m .value) (m .flag) (m .round .0) in
+    let a : ℕ = least (first-size m one) count in
+    let z : 1 + count - from .place ≡ a + (count - a) = omega (arith, p, least-fits (first-size m one) count) in
+    rw z (sym (behind-fault code n one (second-group n (m .value) (m .round .0)) question ws m (eqb a (first-size m one)) (count - a) from a (count - a) fault))
 
 module _ (code : List ℕ → List ℕ) (n : ℕ) (m : Fields) (question : ℕ) (ws : List ℕ) (count size have : ℕ) where
   pub through-start : (from : Findings) (one two : Group) → from .place ≡ 1 → one ≡ first-group n (m .kind) (m .value) (m .flag) (m .round .0)
@@ -99,25 +63,32 @@ module _ (code : List ℕ → List ℕ) (n : ℕ) (m : Fields) (question : ℕ) 
       let e : 1 + have - from .place ≡ have = omega (arith, p) in
       rw (e, d, c, b, a)
 
-  pub through-end : (two : Group) (first : Bool) (x : Findings) → first ≡ false → x ≡ finished code n m question ws count size have two first x
-  unfolding finished pick
-  through-end two first x e = rw e
-
   -- the border: what is to come behind the first part is the second
-  pub border-turn : (f border : Findings) (g two : Group) (end : ℕ) → (not (f .malformed) && ltb (f .place) end) ≡ false → f .place ≤ end → end ≡ 1 + have → have ≤ count
+  pub border-turn : (f border : Findings) (g two : Group) (end : ℕ) → end ≤ f .place → f .place ≤ end → end ≡ 1 + have → have ≤ count
       → border ≡ between m (eqb have size) (count - have) two f
       → (border .place ≡ f .place) × (finished code n m question ws count size have two true (walked code n g question ws f (end - f .place)) ≡ finished code n m question ws count size have two false (walked code n two question ws border (1 + count - border .place)))
-  unfolding between finished pick
-  border-turn f border g two end h low e room b =
+  unfolding between finished walked pick
+  border-turn f border g two end low high e room b =
       let place : border .place ≡ f .place = ap (λ (r : Findings). r .place) b in
-      (place, rw (← part-end code n g question ws f end h, ← b) (go (f .malformed) refl))
+      let none : end - f .place ≡ 0 = omega (arith, low) in
+      let z : 1 + count - border .place ≡ count - have = omega (arith, place, low, high, e, room) in
+      (place, rw (none, z, ← b))
+
+  -- the loop has ended behind a fault, or behind the last statement
+  pub loop-end : (g two : Group) (f : Findings) (end : ℕ) (first : Bool) → f .place ≤ end → have ≤ count → (first ≡ true → end ≡ 1 + have) → (first ≡ false → end ≡ 1 + count)
+      → (not (f .malformed || f .other || f .wrong) && (first || ltb (f .place) end)) ≡ false
+      → answer (glanced n question ws f (1 + count - f .place)) ≡ answer (finished code n m question ws count size have two first (walked code n g question ws f (end - f .place)))
+  unfolding finished glanced walked pick
+  loop-end g two f end first low room one last h = go first (f .malformed || f .other || f .wrong) refl refl
     where
-      go : (t : Bool) → f .malformed ≡ t → walked code n two question ws border (count - have) ≡ walked code n two question ws border (1 + count - border .place)
-      go true k =
-          let m : border .malformed ≡ true = ap (λ (r : Findings). r .malformed) b ∙ k in
-          stopped code n two question ws border (count - have) m ∙ sym (stopped code n two question ws border (1 + count - border .place) m)
-      go false k =
-          let p : border .place ≡ f .place = ap (λ (r : Findings). r .place) b in
-          let q : end ≤ f .place = ltb-false (f .place) end (rw k at h) in
-          let z : 1 + count - border .place ≡ count - have = omega (arith, p, q, low, e, room) in
-          rw z
+      go : (s t : Bool) → first ≡ s → (f .malformed || f .other || f .wrong) ≡ t
+          → answer (glanced n question ws f (1 + count - f .place)) ≡ answer (pick s (walked code n two question ws (between m (eqb have size) (count - have) two (walked code n g question ws f (end - f .place))) (count - have)) (walked code n g question ws f (end - f .place)))
+      go true true p fault =
+          let z : 1 + count - f .place ≡ (end - f .place) + (count - have) = omega (arith, low, room, one p) in
+          rw z (sym (behind-fault code n g two question ws m (eqb have size) (count - have) f (end - f .place) (count - have) fault))
+      go false true p fault = rw (← last p) (ap answer (glance-behind code n g question ws f (end - f .place) fault))
+      go true false p clean = never true (rw (p, clean) at h) refl
+      go false false p clean =
+          let over : end ≤ f .place = ltb-false (f .place) end (rw (p, clean) at h) in
+          let z : end - f .place ≡ 0 = omega (arith, over) in
+          rw (← last p, z)

@@ -44,11 +44,11 @@ read-fields-requires c κs = search needs
 well-formed-requires : tie.Need-well-formed-requires Inv-loop μ-loop
 well-formed-requires c κs = search needs
 
-add-word-at : tie.Need-add-word-at Inv-loop μ-loop
-add-word-at c = search needs
+add-is-other : tie.Need-add-is-other Inv-loop μ-loop
+add-is-other c = search needs
 
-word-at-requires-2 : tie.Need-word-at-requires-2 Inv-loop μ-loop
-word-at-requires-2 c κs = search needs
+is-other-requires : tie.Need-is-other-requires Inv-loop μ-loop
+is-other-requires c κs = search needs
 
 add-t17 : tie.Need-add-t17 Inv-loop μ-loop
 add-t17 c =
@@ -56,11 +56,11 @@ add-t17 c =
     search needs
 
 loop-less : tie.Need-loop-less Inv-loop μ-loop
-loop-less c = omega (arith, inside (c .before .before .before .before .before .before .before))
+loop-less c = omega (arith, inside (c .before .before .before .before .before .before))
 
 loop-again : tie.Need-loop-again Inv-loop μ-loop
 loop-again c =
-    let a = c .before .before in
+    let a = c .before in
     let b = a .before in
     let r = b .before in
     let w = r .before in
@@ -68,8 +68,8 @@ loop-again c =
     let l = e .before .before .before in
     let s = l .before .before .args in
     l .loop .inv
-    ∙ glance-turn (s .n) (s .question) (s .ws .now) (l .loop .f) (s .end) (w .word-at .result) (r .read-fields .result) (b .well-formed .result) (a .word-at2 .result)
-    (w .word-at .ensures) (r .read-fields .ensures) (b .well-formed .ensures) (a .word-at2 .ensures) (e .if1 .taken)
+    ∙ glance-turn (s .n) (s .question) (s .ws .now) (l .loop .f) (s .end) (w .word-at .result) (r .read-fields .result) (b .well-formed .result) (a .is-other .result)
+    (w .word-at .ensures) (r .read-fields .ensures) (b .well-formed .ensures) (a .is-other .ensures) (e .if1 .taken)
 
 returns : tie.Need-returns Inv-loop μ-loop
 returns c =
@@ -90,8 +90,8 @@ rest-spec =
     word-at-requires
     read-fields-requires
     well-formed-requires
-    add-word-at
-    word-at-requires-2
+    add-is-other
+    is-other-requires
     add-t17
     loop-less
     loop-again
