@@ -57,9 +57,11 @@ fn through(
     requires { ⌜ (from .place ≡ 1) × (count ≤ most-statements) × (place-of (1 + count) ≤ length (now ws)) ⌝ }
     ensures { λ r. ⌜ Answer (glanced n question (now (ws .entry)) r (1 + count - r .place)) ≡ Answer (Through (code-from key) n m question (now (ws .entry)) count from) ⌝ }
 {
-    let r = m.round;
+    // behind a fault of the main statement the groups are not even worked out
+    if from.malformed | from.other | from.wrong {
+        return from;
+    }
     let one = rules::first_group(n, m);
-    let two = rules::second_group(n, m.value, r);
     let size = walk::first_size(m, one);
     let have = smaller(size as usize, count as usize) as u32;
     let mut f = from;
@@ -72,6 +74,8 @@ fn through(
             let next = walk::turn(key, n, g, question, f, t, f.place + 1);
             f = next;
         } else {
+            let r = m.round;
+            let two = rules::second_group(n, m.value, r);
             let border = walk::between(m, have == size, count - have, two, f);
             f = border;
             g = two;
@@ -108,12 +112,8 @@ fn walk(key: [u8; 32], n: u32, asked: Which, ws: &[u32], count: u32) -> u32
     let fits = rules::allows(asked, words[1]);
     let states = states_for(key, good & fits);
     let begun = walk::start(states, n, asked, t);
-    // behind a fault of the main statement the groups are not even worked out
-    if begun.malformed | begun.other | begun.wrong {
-        return walk::answer(glance::rest(n, words[1], ws, 1 + count, begun));
-    }
     let f = through(states, n, m, words[1], ws, count, begun);
-    walk::answer(glance::rest(n, words[1], ws, 1 + count, f))
+    glance::answer_behind(n, words[1], ws, f)
 }
 
 // The answer for the words given, under the group's key and n, where the question is to be one or may be any.

@@ -44,9 +44,9 @@ const VALUE: u32 = 268435456;
 
 pub const FLAG: u32 = 134217728;
 
-const SPARE: u32 = 16777216;
+pub const SPARE: u32 = 16777216;
 
-const STATION: u32 = 65536;
+pub const STATION: u32 = 65536;
 
 // A bundle's head: its mark, the mark's weight, and the weight behind the count and behind the zeros.
 pub const HEAD_MARK: u32 = 3;

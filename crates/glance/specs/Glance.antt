@@ -1,22 +1,22 @@
 -- What stands behind a fault of 4 or 5: nothing is asked of the rules there and no code is computed, so that a turn of the walk looks at fields and questions alone,
 -- whatever the group: `glance-is-walk`.
-use Prim.Native.Nat.{ℕ, zero, suc, _+_, _-_}
+use Prim.Native.Nat.{ℕ, zero, suc, _+_, _-_, _*_, _/_, _≤_}
 use mathlib.Core.Bool.{Bool, true, false, not, _&&_, _||_}
 use mathlib.Core.List.{List}
-use mathlib.Core.Path.{_≡_, refl}
+use mathlib.Core.Path.{_≡_, refl, sym, ap, _∙_}
 use native.Mathlib.Omega.{arith}
-use lib.Dec.{eqb, ltb}
-use lib.ListN.{getD}
-use borrow.Author.Tests.{ltb-true, ltb-false, not-true}
+use lib.Dec.{eqb, leb}
+use lib.ListN.{length, getD}
+use borrow.Author.Tests.{leb-true, leb-false, not-true}
 use Rattle.laws.specs.Pick.{pick}
 use Rattle.laws.specs.Bools.{both, or-nothing}
-use Rattle.format.specs.Numbers.{place-of}
+use Rattle.format.specs.Numbers.{place-of, statement-words}
 use Rattle.format.specs.declared.Fields.{Fields}
-use Rattle.format.specs.Words.{fields-of, formed}
+use Rattle.format.specs.Words.{station-of, fields-of, formed}
 use Rattle.format.specs.Statement.{fields-at}
 use Rattle.rules.specs.declared.Group.{Group}
 use Rattle.walk.specs.declared.Findings.{Findings}
-use Rattle.walk.specs.Walk.{noted, turned, walked}
+use Rattle.walk.specs.Walk.{noted, turned, walked, answer}
 
 -- the statement with these fields and of this question, passed: what was found of 5 and 6 stays
 unfoldable pub passed : ℕ → ℕ → Fields → ℕ → Findings → Findings
@@ -73,35 +73,62 @@ module _ (code : List ℕ → List ℕ) (n : ℕ) (g : Group) (question : ℕ) (
       go true ih = refl
       go false ih = rw (turn-passes f fault) ih
 
--- ---- the loop: one turn, and its end
-module _ (n question : ℕ) (ws : List ℕ) (f : Findings) (end : ℕ) where
-  pub glance-turn : (w : ℕ) (s : Fields) (b o : Bool) → w ≡ getD ws (place-of (f .place)) 0 → s ≡ fields-of w → b ≡ formed n s → o ≡ (f .other || not (eqb (getD ws (place-of (f .place) + 1) 0) question))
-      → (not (f .malformed) && ltb (f .place) end) ≡ true
-      → glanced n question ws f (end - f .place)
-      ≡ glanced n question ws
-      (record {
-        place = f .place + 1;
-        last = s .station;
-        malformed = not b;
-        other = o;
-        wrong = f .wrong;
-        unbacked = f .unbacked;
-        dget = f .dget;
-        zero = f .zero;
-        one = f .one;
-      })
-      (end - (f .place + 1))
-  unfolding glanced passed pick
-  glance-turn w s b o read fields good other inside =
-      let i = both (not (f .malformed)) (ltb (f .place) end) inside in
-      let z : end - f .place ≡ suc (end - (f .place + 1)) = omega (arith, ltb-true (f .place) end (i .1)) in
-      rw (z, not-true (f .malformed) (i .0), good, fields, read, other)
+-- ---- the loop at word `at`: what is found so far, one turn, and its end
+-- how many whole statements there are from a place on
+unfoldable pub left : List ℕ → ℕ → ℕ
+left ws place = (length ws - place-of place) / statement-words
 
-  pub glance-end : (not (f .malformed) && ltb (f .place) end) ≡ false → f ≡ glanced n question ws f (end - f .place)
-  unfolding glanced pick
-  glance-end h = go (f .malformed) refl (end - f .place) refl
+-- the findings f, further on: what was found of 3 and 4 since, and the station passed last
+abbrev pub further : Findings → ℕ → ℕ → Bool → Bool → Findings
+further f place last bad o =
+    record {
+      place = place;
+      last = last;
+      malformed = bad;
+      other = o;
+      wrong = f .wrong;
+      unbacked = f .unbacked;
+      dget = f .dget;
+      zero = f .zero;
+      one = f .one;
+    }
+
+-- what is passed from here on ends where all does
+pub record Glancing (n question : ℕ) (ws : List ℕ) (f : Findings) (at last : ℕ) (bad o : Bool) : Type 0 where
+  pub place : ℕ
+  pub here : at ≡ place-of place
+  pub same : glanced n question ws f (left ws (f .place)) ≡ glanced n question ws (further f place last bad o) (left ws place)
+
+module _ (n question : ℕ) (ws : List ℕ) (f : Findings) (at last : ℕ) (bad o : Bool) where
+  next-passed : (p : ℕ) (good : Bool) → at ≡ place-of p → good ≡ formed n (fields-of (getD ws at 0)) → bad ≡ false → at + statement-words ≤ length ws
+      → glanced n question ws (further f p last bad o) (left ws p)
+      ≡ glanced n question ws (further f (p + 1) (station-of (getD ws at 0)) (not good) (o || not (eqb (getD ws (at + 1) 0) question))) (left ws (p + 1))
+  unfolding glanced passed fields-of pick left
+  next-passed p good here well clean inside =
+      let z : (length ws - (1 + p * 10)) / 10 ≡ suc ((length ws - (1 + (p + 1) * 10)) / 10) = omega (arith, inside, here) in
+      rw (z, clean, well, here)
+
+  pub glance-turn : (good : Bool) → good ≡ formed n (fields-of (getD ws at 0)) → (not bad && leb (at + statement-words) (length ws)) ≡ true
+      → Glancing n question ws f at last bad o
+      → Glancing n question ws f (at + statement-words) (station-of (getD ws at 0)) (not good) (o || not (eqb (getD ws (at + 1) 0) question))
+  glance-turn good well inside G =
+      let i = both (not bad) (leb (at + 10) (length ws)) inside in
+      record {
+        place = G .place + 1;
+        here = omega (arith, G .here);
+        same = G .same ∙ next-passed (G .place) good (G .here) well (not-true bad (i .0)) (leb-true (at + 10) (length ws) (i .1));
+      }
+
+  none-passed : (p : ℕ) → at ≡ place-of p → (not bad && leb (at + statement-words) (length ws)) ≡ false
+      → answer (further f (f .place) last bad o) ≡ answer (glanced n question ws (further f p last bad o) (left ws p))
+  unfolding glanced pick left answer
+  none-passed p here h = go bad refl ((length ws - (1 + p * 10)) / 10) refl
     where
-      go : (b : Bool) → f .malformed ≡ b → (k : ℕ) → end - f .place ≡ k → f ≡ glanced n question ws f k
+      go : (b : Bool) → bad ≡ b → (k : ℕ) → (length ws - (1 + p * 10)) / 10 ≡ k → answer (further f (f .place) last bad o) ≡ answer (glanced n question ws (further f p last bad o) k)
       go b e zero z = refl
       go true e (suc k) z = rw e
-      go false e (suc k) z = absurd (omega (arith, z, ltb-false (f .place) end (rw e at h)))
+      go false e (suc k) z = absurd (omega (arith, z, here, leb-false (at + 10) (length ws) (rw e at h)))
+
+  pub glance-end : (not bad && leb (at + statement-words) (length ws)) ≡ false → Glancing n question ws f at last bad o
+      → answer (further f (f .place) last bad o) ≡ answer (glanced n question ws f (left ws (f .place)))
+  glance-end h G = none-passed (G .place) (G .here) h ∙ sym (ap answer (G .same))

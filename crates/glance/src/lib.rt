@@ -1,45 +1,56 @@
-// The rest of a bundle behind a fault of 4 or 5: only fields and questions are looked at, for a lower number. The contract cites specs/.
+// The answer behind a fault of 4 or 5: of the rest of a bundle only fields and questions are looked at, for a lower number. The contract cites specs/.
+use format::FLAG;
+use format::SPARE;
 use format::STATEMENT_WORDS;
+use format::STATION;
 use walk::Findings;
 ghost use mathlib.Core.Path.{_≡_};
-ghost use mathlib.Core.Bool.{not, _||_};
-ghost use Prim.Native.Nat.{_-_};
-ghost use lib.Dec.{eqb};
-ghost use lib.ListN.{getD};
-ghost use Rattle.glance.specs.Glance.{glanced};
+ghost use Rattle.format.specs.Words.{fields-of, formed};
+ghost use Rattle.walk.specs.Walk.{answer};
+ghost use Rattle.glance.specs.Glance.{glanced, left};
 
-// Whether one is of another question: it is known, or the statement with its question at word `at` is. Behind a fault of 4 no question is read.
-fn is_other(known: bool, question: u32, ws: &[u32], at: usize) -> bool
-    ensures { λ r. ⌜ r ≡ (known || not (eqb (getD (now (ws .entry)) at 0) question)) ⌝ }
+// Whether the fields of a word 0 are in place, as `format::well_formed` says of them taken apart. A glance does little else, so that it pays to look at kind, value and
+// flag at once: they are the top five bits.
+fn word_formed(w: u32, n: u32) -> bool
+    ensures { λ r. ⌜ r ≡ formed n (fields-of w) ⌝ }
 {
-    if known {
-        return true;
-    }
-    format::word_at(ws, at) != question
+    let k = w / FLAG;
+    let station = w / STATION % 256;
+    let r = w % STATION;
+    // INIT with 0 or 1
+    let init = (k == 0) | (k == 2);
+    // P with 0 or 1, of either flag; V with 0, 1 or none
+    let later = (k / 4 == 2) | (k == 16) | (k == 18) | (k == 20);
+    (w / SPARE % 8 == 0)
+        & (((1 <= station) & (station <= n)) & (((r == 0) & init) | ((1 <= r) & later)))
 }
 
-// The statements up to the `end`, or up to a malformed one.
-pub fn rest(n: u32, question: u32, ws: &[u32], end: u32, from: Findings) -> Findings
-    ensures { λ r. ⌜ r ≡ glanced n question (now (ws .entry)) from (end - from .place) ⌝ }
+// The answer, where the turns have ended: the whole statements from the findings' place on, or up to a malformed one, are passed for a number that is answered before.
+// That one is there is seen by the words' length, so that no word needs a test of its own. The station passed last does not matter to the answer; the walk has it.
+pub fn answer_behind(n: u32, question: u32, ws: &[u32], f: Findings) -> u32
+    ensures { λ r. ⌜ r ≡ answer (glanced n question (now (ws .entry)) f (left (now (ws .entry)) (f .place))) ⌝ }
 {
-    let mut f = from;
-    while !f.malformed & (f.place < end) {
-        let at = 1 + f.place as usize * STATEMENT_WORDS;
-        let s = format::read_fields(format::word_at(ws, at));
-        let good = format::well_formed(s, n);
-        let other = is_other(f.other, question, ws, at + 1);
-        let next = Findings {
-            place: f.place + 1,
-            last: s.station,
-            malformed: !good,
-            other: other,
-            wrong: f.wrong,
-            unbacked: f.unbacked,
-            dget: f.dget,
-            zero: f.zero,
-            one: f.one,
-        };
-        f = next;
+    let mut at = 1 + f.place as usize * STATEMENT_WORDS;
+    let mut last = f.last;
+    let mut malformed = f.malformed;
+    let mut other = f.other;
+    while !malformed & (at + STATEMENT_WORDS <= ws.len()) {
+        let w = ws[at];
+        let good = word_formed(w, n);
+        other = other | (ws[at + 1] != question);
+        last = w / STATION % 256;
+        malformed = !good;
+        at += STATEMENT_WORDS;
     }
-    f
+    walk::answer(Findings {
+        place: f.place,
+        last: last,
+        malformed: malformed,
+        other: other,
+        wrong: f.wrong,
+        unbacked: f.unbacked,
+        dget: f.dget,
+        zero: f.zero,
+        one: f.one,
+    })
 }

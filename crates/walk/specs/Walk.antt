@@ -1,6 +1,7 @@
 -- The check in one walk: "each certificate statement is taken up once, in order, and at most 16 words of findings are carried to the next" (Job 4 of
 -- document 02). The findings are the struct `Findings` of src/lib.rt, of nine words. `walk-finds` in WalkFinds says what they come to; `walk-exact` in
--- certificate/specs/WalkExact.antt that the walk's answer is the check's.
+-- certificate/specs/WalkExact.antt that the walk's answer is the check's. Behind a fault of 3, 4 or 5 the code takes a shorter way to that answer: `behind-fault` in
+-- glance/specs/Behind.antt.
 use Prim.Native.Nat.{ℕ, zero, suc, _+_, _-_}
 use mathlib.Core.Bool.{Bool, false, not, _&&_, _||_}
 use mathlib.Core.List.{List, [], _∷_}

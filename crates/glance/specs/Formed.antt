@@ -1,0 +1,77 @@
+-- Whether the fields of a word are in place, from its top five bits and its round: `formed-word`.
+use Prim.Native.Nat.{ℕ, zero, suc, _/_, _%_, _^_, _<_}
+use mathlib.Core.Bool.{Bool, true, false, not, _&&_, _||_}
+use mathlib.Core.Path.{_≡_, refl, ap, _∙_}
+use native.Mathlib.Omega.{arith}
+use lib.Dec.{eqb, leb}
+use borrow.Author.Tests.{eqb-true, eqb-false, le-leb}
+use Rattle.laws.specs.Bools.{never, both, or-nothing}
+use Rattle.format.specs.Words.{spare-of, station-of, round-of, fields-of, of-group, shaped, formed}
+
+-- bits 31..27 of a word: kind, value and flag
+abbrev pub top : ℕ → ℕ
+top w = w / 2 ^ 27
+
+-- "INIT has round 0, value 0 or 1, flag 0."; "P has round 1 to 65,535 and value 0 or 1."; "V has such a round, flag 0 and value 0, 1 or none."
+abbrev pub of-init : ℕ → Bool
+of-init k = eqb k 0 || eqb k 2
+
+abbrev pub of-later : ℕ → Bool
+of-later k = eqb (k / 4) 2 || eqb k 16 || eqb k 18 || eqb k 20
+
+-- ---- a test of all numbers below one, computed
+unfoldable each : (ℕ → Bool) → ℕ → Bool
+each p zero = true
+each p (suc m) = p m && each p m
+
+each-at : (p : ℕ → Bool) (m k : ℕ) → each p m ≡ true → k < m → p k ≡ true
+unfolding each
+each-at p zero k h l = absurd (omega (arith, l))
+each-at p (suc m) k h l = go (eqb k m) refl (λ b. each-at p m k (both (p m) (each p m) h .1) b)
+  where
+    go : (b : Bool) → eqb k m ≡ b → (k < m → p k ≡ true) → p k ≡ true
+    go true e ih = ap p (eqb-true k m e) ∙ both (p m) (each p m) h .0
+    go false e ih = ih (omega (arith, l, eqb-false k m e))
+
+abbrev alike : Bool → Bool → Bool
+alike true b = b
+alike false b = not b
+
+alike-is : (a b : Bool) → alike a b ≡ true → a ≡ b
+alike-is true true h = refl
+alike-is true false h = never false refl h
+alike-is false true h = never false refl h
+alike-is false false h = refl
+
+-- the shapes by the top bits k: in round 0, and in a later one
+abbrev at-0 : ℕ → Bool
+at-0 k = alike (shaped (k / 8) (k / 2 % 4) (k % 2) 0) (of-init k)
+
+abbrev at-1 : ℕ → Bool
+at-1 k = alike (shaped (k / 8) (k / 2 % 4) (k % 2) 1) (of-later k)
+
+all-0 : each at-0 32 ≡ true
+unfolding each
+all-0 = refl
+
+all-1 : each at-1 32 ≡ true
+unfolding each
+all-1 = refl
+
+-- a round below 2^16 is 0, or as good as 1
+by-round : (k r : ℕ) → k < 32 → r < 65536 → shaped (k / 8) (k / 2 % 4) (k % 2) r ≡ ((eqb r 0 && of-init k) || (leb 1 r && of-later k))
+by-round k r low high = go (eqb r 0) refl
+  where
+    go : (b : Bool) → eqb r 0 ≡ b → shaped (k / 8) (k / 2 % 4) (k % 2) r ≡ ((eqb r 0 && of-init k) || (leb 1 r && of-later k))
+    go true e =
+        let z : r ≡ 0 = eqb-true r 0 e in
+        rw z (alike-is _ _ (each-at at-0 32 k all-0 low) ∙ or-nothing (of-init k))
+    go false e = rw (e, le-leb 1 r (omega (arith, eqb-false r 0 e)), le-leb r 65535 (omega (arith, high))) (alike-is _ _ (each-at at-1 32 k all-1 low))
+
+pub formed-word : (n w : ℕ) → w < 2 ^ 32
+    → (eqb (spare-of w) 0 && (of-group n (station-of w) && ((eqb (round-of w) 0 && of-init (top w)) || (leb 1 (round-of w) && of-later (top w))))) ≡ formed n (fields-of w)
+unfolding formed fields-of
+formed-word n w h =
+    let a : w / 2 ^ 30 ≡ w / 2 ^ 27 / 8 = omega arith in
+    let b : w / 2 ^ 28 % 4 ≡ w / 2 ^ 27 / 2 % 4 = omega arith in
+    rw (a, b, by-round (w / 2 ^ 27) (w % 2 ^ 16) (omega (arith, h)) (omega arith))
