@@ -98,11 +98,11 @@ abbrev pub calls-9 : List Call
 calls-9 = call 3 (codes (of-3 kind-V none D-GET 1)) ∷ calls-8
 
 -- 20: site 1 is given that vote; its certificate mixes site 1's own P 0 with site 3's P 1. Site 1 takes it, decides nothing, and sends P 0 of round 2
-abbrev pub poison : List ℕ
-poison = (3 * 2 ^ 30 + 2) ∷ (lent calls-9 ++ (take 10 (drop 1 (bundle calls-5)) ++ lent calls-4))
+abbrev pub unbacked-none : List ℕ
+unbacked-none = (3 * 2 ^ 30 + 2) ∷ (lent calls-9 ++ (take 10 (drop 1 (bundle calls-5)) ++ lent calls-4))
 
 abbrev pub calls-10 : List Call
-calls-10 = give 1 poison 1 calls-9
+calls-10 = give 1 unbacked-none 1 calls-9
 
 -- 21: site 2 is given site 1's V, decides 0 in round 1, and sends P 0 of round 2
 abbrev pub calls-11 : List Call
@@ -148,7 +148,7 @@ record Facts : Type 0 where
   first : Bool
   second : Bool
   in-round-1 : ℕ
-  poisoned : Bool
+  held-unbacked : Bool
   proposed : ℕ
   vote : List ℕ
 
@@ -161,12 +161,12 @@ facts cs =
       first = decides toy [] 3 cs 2 0 1 0 1;
       second = decides toy [] 3 cs 1 0 1 0 2;
       in-round-1 = count (votes (line toy [] 3 cs 1 0 .took) 1 1 0) 3;
-      poisoned = votes (line toy [] 3 cs 1 0 .took) 1 1 none 3;
+      held-unbacked = votes (line toy [] 3 cs 1 0 .took) 1 1 none 3;
       proposed = count (proposed (log toy [] 3 cs) 1 1) 3;
       vote = check-by (toy []) 3 Any (bundle calls-7) ∷ main-of (bundle calls-7) .kind ∷ main-of (bundle calls-7) .round ∷ main-of (bundle calls-7) .value ∷ main-of (bundle calls-7) .question ∷ [];
     }
 
-computed : facts example ≡ record { numbers = answers; given = true; few = true; first = true; second = true; in-round-1 = 1; poisoned = true; proposed = 0; vote = 0 ∷ kind-V ∷ 1 ∷ 0 ∷ 1 ∷ [] }
+computed : facts example ≡ record { numbers = answers; given = true; few = true; first = true; second = true; in-round-1 = 1; held-unbacked = true; proposed = 0; vote = 0 ∷ kind-V ∷ 1 ∷ 0 ∷ 1 ∷ [] }
 unfolding computes
 computed = refl
 
@@ -247,7 +247,7 @@ pub record Witness (cs : List Call) : Type 1 where
   pub off : AllOff toy [] 3 cs 1
   pub backed : backing 3 0 ≤ count (proposed (log toy [] 3 cs) 1 0) 3
   pub unbacked : count (proposed (log toy [] 3 cs) 1 1) 3 ≡ 0
-  pub poisoned : votes (second .line .took) 1 1 none 3 ≡ true
+  pub held-unbacked : votes (second .line .took) 1 1 none 3 ≡ true
   -- site 1's vote of round 1 for 0, by which site 2 decides: by the theorem on such votes it names at least the backing of 0, which is 2, in sites that proposed 0
   pub first-vote : FirstVote toy [] 3 (bundle calls-7) 1 0
   pub named : backing 3 0 ≤ count (λ i. names-proposer (bundle calls-7) 0 i && proposed (log toy [] 3 calls-10) 1 0 i) 3
@@ -270,7 +270,7 @@ witness =
       off = all-off;
       backed = claimed .backed 2 0 1 0 (others 2 (omega arith) (omega arith) refl) all-off (decides-out toy [] 3 example 2 0 1 0 1 (omega arith) (ap (λ (f : Facts). f .first) computed));
       unbacked = ap (λ (f : Facts). f .proposed) computed;
-      poisoned = ap (λ (f : Facts). f .poisoned) computed;
+      held-unbacked = ap (λ (f : Facts). f .held-unbacked) computed;
       first-vote = first-vote;
       named = first-votes-by toy [] 3 calls-10 (bundle calls-7) 1 0 vote-came first-vote;
       claimed = claimed;

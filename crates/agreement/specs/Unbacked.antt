@@ -17,8 +17,8 @@ use Rattle.agreement.specs.Computed.{computes, numbers, given, given-out
 use Rattle.agreement.specs.Example.{toy, out, give, bundle, lent, of-3}
 
 -- a none vote of round 1 of station 3, over a proposal of station 1 with 1 and one of its own with 0
-abbrev pub poison : List ℕ → List ℕ → List ℕ → List ℕ
-poison vote of-1 of-itself = (3 * 2 ^ 30 + 2) ∷ (vote ++ (take 10 (drop 1 of-1) ++ of-itself))
+abbrev pub unbacked-none : List ℕ → List ℕ → List ℕ → List ℕ
+unbacked-none vote of-1 of-itself = (3 * 2 ^ 30 + 2) ∷ (vote ++ (take 10 (drop 1 of-1) ++ of-itself))
 
 -- ---- the list
 -- 20, 20: sites 1 and 2 open on question 1 with 1 and jump on
@@ -36,16 +36,16 @@ both-4 = call 3 (codes (of-3 kind-P 0 D-GET 1)) ∷ both-3
 abbrev pub both-5 : List Call
 both-5 = call 3 (codes (of-3 kind-V none D-GET 1)) ∷ both-4
 
-abbrev pub both-poison : List ℕ
-both-poison = poison (lent both-5) (bundle both-3) (lent both-4)
+abbrev pub both-none : List ℕ
+both-none = unbacked-none (lent both-5) (bundle both-3) (lent both-4)
 
 -- 23: site 2 jumps from its INIT onto that vote
 abbrev pub both-6 : List Call
-both-6 = give 2 both-poison 0 both-5
+both-6 = give 2 both-none 0 both-5
 
 -- 20: it is given it again; both votes are none, and the coin is 0: P 0 of round 2, R-GET
 abbrev pub both-7 : List Call
-both-7 = give 2 both-poison 0 both-6
+both-7 = give 2 both-none 0 both-6
 
 -- 23: site 1 jumps onto that proposal, with the coin 0; 20: it is given it again, and sends V 0
 abbrev pub both-9 : List Call

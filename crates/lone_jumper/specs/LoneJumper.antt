@@ -12,7 +12,7 @@ use Rattle.format.specs.Group.{backing}
 use Rattle.agreement.specs.Demand.{opens, codes, Call, call, proposed, log, Sound, JumpOff, Decides}
 use Rattle.agreement.specs.Computed.{computes, off-out}
 use Rattle.agreement.specs.Example.{toy, out, give, bundle, lent, of-3}
-use Rattle.agreement.specs.Unbacked.{poison, facts, Unbacked, unbacked, enough-0}
+use Rattle.agreement.specs.Unbacked.{unbacked-none, facts, Unbacked, unbacked, enough-0}
 
 -- ---- the list
 -- 20, 20: sites 1 and 2 open on question 1 with 1, site 2 with jump on
@@ -36,19 +36,19 @@ lone-5 = call 3 (codes (of-3 kind-P 0 D-GET 1)) ∷ lone-4
 abbrev pub lone-6 : List Call
 lone-6 = call 3 (codes (of-3 kind-V none D-GET 1)) ∷ lone-5
 
-abbrev pub lone-poison : List ℕ
-lone-poison = poison (lent lone-6) (bundle lone-3) (lent lone-5)
+abbrev pub lone-none : List ℕ
+lone-none = unbacked-none (lent lone-6) (bundle lone-3) (lent lone-5)
 
 -- 23: site 2 jumps onto that vote; 20: it is given it again, with coin 0: P 0 of round 2, R-GET
 abbrev pub lone-8 : List Call
-lone-8 = give 2 lone-poison 0 (give 2 lone-poison 0 lone-6)
+lone-8 = give 2 lone-none 0 (give 2 lone-none 0 lone-6)
 
 -- 20: site 1 is given site 2's P of round 1, and votes 1; 20: it is given site 3's vote, and proposes 1 in round 2
 abbrev pub lone-9 : List Call
 lone-9 = give 1 (bundle lone-4) 0 lone-8
 
 abbrev pub lone-10 : List Call
-lone-10 = give 1 lone-poison 0 lone-9
+lone-10 = give 1 lone-none 0 lone-9
 
 -- 20, 20: each is given the other's P of round 2, and votes none
 abbrev pub lone-11 : List Call

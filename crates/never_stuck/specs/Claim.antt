@@ -129,7 +129,7 @@ Never-stuck mac =
     → (question r : ℕ) (team : ℕ → Bool) (jump : Bool) → Quorate n team → 1 ≤ r → r + 1 ≤ last-round
     → ((y : ℕ) → 1 ≤ y → y ≤ n → team y ≡ true → Ready mac key n cs question r jump y) → CanDecide mac key n cs question (r + 1) team jump
 
--- ---- and with jump on, where sites resend nothing but their last bundles, if n rounds are left: in each round one site of the team ends the step, and the
+-- ---- and with jump on, where sites resend nothing but their last bundles, if n + 1 rounds are left: in each round one site of the team ends the step, and the
 -- others jump after it
 abbrev pub Never-stuck-by-last : (List ℕ → List ℕ → List ℕ) → Type 0
 Never-stuck-by-last mac =

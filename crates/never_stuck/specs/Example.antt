@@ -104,7 +104,7 @@ not-stuck =
     (few-out toy [] 3 (3 ∷ []) opened (ap (λ (f : Facts). f .faulty) opened-computed)) 1 1 (up-to 2) false two-of-three (omega arith) (omega arith)
     (all-out 3 1 false opened 2 (ap (λ (f : Facts). f .waiting) opened-computed))
 
--- ---- a poisoned none vote that is held, at n 4
+-- ---- a none vote that rests on an unbacked proposal is held, at n 4
 -- a site gives words to its first station, as it is
 abbrev pub give : ℕ → List ℕ → List Call → List Call
 give i ws cs = call i (gives 0 (present toy [] 4 cs i 0) ws 0 out) ∷ cs
@@ -149,17 +149,17 @@ abbrev pub none-voted : List Call
 none-voted = call 4 (codes (of-4 kind-V none)) ∷ unbacked
 
 -- the none vote, with a certificate that mixes the P 0 of sites 1 and 2 with site 4's P 1
-abbrev pub poison : List ℕ
-poison =
+abbrev pub unbacked-none : List ℕ
+unbacked-none =
     (3 * 2 ^ 30 + 3) ∷ (last toy [] 4 none-voted .lent ++ (take 10 (drop 1 (bundle proposed-1)) ++ (take 10 (drop 1 (bundle proposed-2)) ++ last toy [] 4 unbacked .lent)))
 
 -- 0: site 1 is given it, and holds it
-abbrev pub poisoned : List Call
-poisoned = give 1 poison none-voted
+abbrev pub unbacked-held : List Call
+unbacked-held = give 1 unbacked-none none-voted
 
 -- site 1's station holds a none vote of station 4
-abbrev pub holds-poison : List Call → Bool
-holds-poison cs = some (λ s. eqb (s .station) 4 && (eqb (s .kind) kind-V && has-value none s)) (state-of (present toy [] 4 cs 1 0) .held)
+abbrev pub holds-unbacked : List Call → Bool
+holds-unbacked cs = some (λ s. eqb (s .station) 4 && (eqb (s .kind) kind-V && has-value none s)) (state-of (present toy [] 4 cs 1 0) .held)
 
 -- what is computed of the list, all at once, since to compute the list again takes as long again
 record Computed : Type 0 where
@@ -167,30 +167,30 @@ record Computed : Type 0 where
   holds : Bool
 
 abbrev computed-of : List Call → Computed
-computed-of cs = record { all = facts 4 1 false 3 cs; holds = holds-poison cs }
+computed-of cs = record { all = facts 4 1 false 3 cs; holds = holds-unbacked cs }
 
-poisoned-computed : computed-of poisoned ≡ record {
+unbacked-computed : computed-of unbacked-held ≡ record {
   all = record { answers = 0 ∷ 0 ∷ 0 ∷ 20 ∷ 0 ∷ 20 ∷ 0 ∷ 20 ∷ 0 ∷ 20 ∷ 0 ∷ 20 ∷ 20 ∷ 20 ∷ []; within = true; faulty = true; waiting = true };
   holds = true;
 }
 unfolding computes
-poisoned-computed = refl
+unbacked-computed = refl
 
 three-of-four : 3 ≤ count (up-to 3) 4
 unfolding count
 three-of-four = omega arith
 
 pub record Witness (cs : List Call) : Type 0 where
-  pub held : holds-poison cs ≡ true
+  pub held : holds-unbacked cs ≡ true
   pub not-stuck : CanDecide toy [] 4 cs 1 2 (up-to 3) false
 
-pub witness : Witness poisoned
+pub witness : Witness unbacked-held
 witness =
     record {
-      held = ap (λ (c : Computed). c .holds) poisoned-computed;
-      not-stuck = never-stuck-by toy toy-eight [] 4 (omega arith) (omega arith) poisoned (given-out toy [] 4 poisoned (ap (λ (c : Computed). c .all .within) poisoned-computed))
-          (few-out toy [] 4 (4 ∷ []) poisoned (ap (λ (c : Computed). c .all .faulty) poisoned-computed)) 1 1 (up-to 3) false three-of-four (omega arith) (omega arith)
-          (all-out 4 1 false poisoned 3 (ap (λ (c : Computed). c .all .waiting) poisoned-computed));
+      held = ap (λ (c : Computed). c .holds) unbacked-computed;
+      not-stuck = never-stuck-by toy toy-eight [] 4 (omega arith) (omega arith) unbacked-held (given-out toy [] 4 unbacked-held (ap (λ (c : Computed). c .all .within) unbacked-computed))
+          (few-out toy [] 4 (4 ∷ []) unbacked-held (ap (λ (c : Computed). c .all .faulty) unbacked-computed)) 1 1 (up-to 3) false three-of-four (omega arith) (omega arith)
+          (all-out 4 1 false unbacked-held 3 (ap (λ (c : Computed). c .all .waiting) unbacked-computed));
     }
 
 -- ---- jump on, and a site that is far behind: site 2 has gone to P of round 2 by faulty site 3's bundles, site 1 is at P of round 1. This is agreement's list of two

@@ -11,7 +11,7 @@ pub mod Phase
 pub mod Level
 pub mod Leader
 pub mod Together
-pub mod Lucky
+pub mod Unanimous
 pub mod Calm
 pub mod Mover
 pub mod Relay

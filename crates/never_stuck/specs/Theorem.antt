@@ -24,7 +24,7 @@ use Rattle.never_stuck.specs.Laws.Sweep.{Arrived}
 use Rattle.never_stuck.specs.Laws.Level.{Waiting, level}
 use Rattle.never_stuck.specs.Laws.Leader.{Under, Leader, leader}
 use Rattle.never_stuck.specs.Laws.Together.{jump-on, together}
-use Rattle.never_stuck.specs.Laws.Lucky.{Done, lucky}
+use Rattle.never_stuck.specs.Laws.Unanimous.{Done, unanimous}
 use Rattle.never_stuck.specs.Laws.Calm.{coin, coin-low, calmed}
 
 module _ (mac : List ℕ → List ℕ → List ℕ) (eight : (key ws : List ℕ) → length (mac key ws) ≡ code-words) (key : List ℕ) (n : ℕ) (low : least-stations ≤ n) (top : n ≤ most-stations) where
@@ -68,7 +68,7 @@ module _ (mac : List ℕ → List ℕ → List ℕ) (eight : (key ws : List ℕ)
         → (jump ≡ true → (y k : ℕ) (t : Station) → 1 ≤ y → y ≤ n → team y ≡ true → Waits mac key n cs q y k t → stage-step (t .stage) ≤ floor)
         → Arrived mac eight key n low top q team floor cs (λ c y. Voting q team floor enough c y r) → CanDecide mac key n cs q (r + 1) team jump
     ended jump floor fl last-enough A =
-        let B = lucky mac eight key n low top q team floor enough r (coin mac eight key n low top q team floor enough r (A .list) (A .premises)) fl from last (coin-low n (reads (log mac key n (A .list))) q r) (A .list) (A .premises)
+        let B = unanimous mac eight key n low top q team floor enough r (coin mac eight key n low top q team floor enough r (A .list) (A .premises)) fl from last (coin-low n (reads (log mac key n (A .list))) q r) (A .list) (A .premises)
         (λ y a b c. let o = A .each y a b c in calmed mac eight key n low top q team floor enough r (A .list) (A .premises) (o .jump) y (o .waiting)) in
         let s = meet team (λ i. true) n (omega (arith, every-one n)) in
         let d = B .each (s .at) (s .low) (s .high) (s .in-first) in

@@ -1,4 +1,4 @@
--- Certificate groups, and the seven rules: `Backed` as document 01 lists them, `rule` as a test (`Valid` shows that the two agree).
+-- Certificate groups, and the seven rules: `Backed` as documents 01 and 02 (Job 2, of rule 5) list them, `rule` as a test (Backed.antt: the two agree).
 use Prim.Native.Nat.{ℕ, _+_, _-_, _<_}
 use mathlib.Core.Bool.{Bool, true, false, not, _&&_, _||_}
 use mathlib.Core.List.{List, [], _∷_, _++_}

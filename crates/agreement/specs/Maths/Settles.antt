@@ -1,4 +1,4 @@
--- What a locked, a decided or a lucky round settles, whatever the order of deliveries: the votes of the round behind it (Lemmas 7 and 8 of document 004, over
+-- What a locked, a decided or a unanimous round settles, whatever the order of deliveries: the votes of the round behind it (Lemmas 7 and 8 of document 004, over
 -- the log).
 use mathlib.Core.Path.{_≡_, refl}
 use mathlib.Core.Bool.{Bool, true, false, not}
@@ -36,12 +36,12 @@ module _ (n : ℕ) (sound : ℕ → Bool) (l : List Statement) (few : count (λ 
   pub decided-votes : (q v : ℕ) (d : Decided n l q v) (s : Statement) → Just n l s → s .kind ≡ kind-V → s .question ≡ q → s .round ≡ suc (d .round) → s .value ≤ none → s .value ≡ v
   decided-votes q v d = settled-votes q (d .round) v (d .from1) (Safe.decided-locks n sound l few big L q v d .0) (Safe.decided-no-none n sound l few big L q v d)
 
-  -- a lucky round: a quorum proposed v in the round before, and each coin of this one shows v
-  pub lucky-locks : (q r v : ℕ) → 1 ≤ r → Supp n l kind-P q r v (quorum n)
+  -- a unanimous round: a quorum proposed v in the round before, and each coin of this one shows v
+  pub unanimous-locks : (q r v : ℕ) → 1 ≤ r → Supp n l kind-P q r v (quorum n)
       → ((s : Statement) → In s l → s .kind ≡ kind-P → s .question ≡ q → s .round ≡ suc r → (s .flag ≡ D-GET → ⊥) → s .value ≡ v)
       → Safe.Splits n sound l few big L q (suc r)
       → Locked n sound l few big L q (suc r) v
-  lucky-locks q r v from major coins splits = (all-for, Safe.no-none n sound l few big L q (suc r) v splits all-for)
+  unanimous-locks q r v from major coins splits = (all-for, Safe.no-none n sound l few big L q (suc r) v splits all-for)
     where
       all-for : Safe.AllFor n sound l few big L q (suc r) v
       all-for m i k x y j = go (eqb (m .flag) D-GET) refl

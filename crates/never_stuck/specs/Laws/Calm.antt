@@ -1,4 +1,4 @@
--- At the votes of a round, all that the team holds is for one value or for none: the value of the coin that is lucky.
+-- At the votes of a round, all that the team holds is for one value or for none: the value of the agreeing coin.
 use mathlib.Core.Path.{_≡_, refl, _∙_, ap, subst}
 use mathlib.Core.Bool.{Bool, true, false}
 use mathlib.Core.List.{List}
@@ -41,15 +41,15 @@ use Rattle.never_stuck.specs.Laws.Level.{Waiting}
 abbrev one-proposed : ℕ → List Statement → ℕ → ℕ → Bool
 one-proposed n l q r = leb (quorum n) (count (has l kind-P q r 1) n)
 
-unfoldable pub lucky-coin : ℕ → List Statement → ℕ → ℕ → ℕ
-lucky-coin n l q r = one-if (one-proposed n l q r)
+unfoldable pub agreeing-coin : ℕ → List Statement → ℕ → ℕ → ℕ
+agreeing-coin n l q r = one-if (one-proposed n l q r)
 
 bit-of : (b : Bool) → one-if b < 2
 bit-of true = omega arith
 bit-of false = omega arith
 
-pub coin-low : (n : ℕ) (l : List Statement) (q r : ℕ) → lucky-coin n l q r < 2
-unfolding lucky-coin
+pub coin-low : (n : ℕ) (l : List Statement) (q r : ℕ) → agreeing-coin n l q r < 2
+unfolding agreeing-coin
 coin-low n l q r = bit-of (one-proposed n l q r)
 
 -- a justified vote is for the value that a quorum proposed, or for none: b says whether that is 1
@@ -80,8 +80,8 @@ calm-by n l q r b is-1 not-1 two s j (vote k i c d g) e f = by (ltb (s .value) 2
     by false h = right (has-value (one-if b) s) _ (eq-eqb (s .value) none (omega (arith, ltb-false (s .value) 2 h, d)))
 
 calm-one : (n : ℕ) (l : List Statement) (q r : ℕ) → (Supp n l kind-P q r 0 (quorum n) → Supp n l kind-P q r 1 (quorum n) → ⊥) → (s : Statement) → Just n l s → Shape s → step s ≡ 2 * r + 1
-    → s .question ≡ q → calm (lucky-coin n l q r) s ≡ true
-unfolding lucky-coin
+    → s .question ≡ q → calm (agreeing-coin n l q r) s ≡ true
+unfolding agreeing-coin
 calm-one n l q r two s j h e f = calm-by n l q r (one-proposed n l q r) (leb-true (quorum n) (count (has l kind-P q r 1) n)) (λ y z. omega (arith, leb-false (quorum n) (count (has l kind-P q r 1) n) y)) two s j h e f
 
 module _ (mac : List ℕ → List ℕ → List ℕ) (eight : (key ws : List ℕ) → length (mac key ws) ≡ code-words) (key : List ℕ) (n : ℕ) (low : least-stations ≤ n) (top : n ≤ most-stations) (q : ℕ) (team : ℕ → Bool) (floor : ℕ)
@@ -90,7 +90,7 @@ module _ (mac : List ℕ → List ℕ → List ℕ) (eight : (key ws : List ℕ)
   l = reads (log mac key n cs)
 
   abbrev pub coin : ℕ
-  coin = lucky-coin n (reads (log mac key n cs)) q r
+  coin = agreeing-coin n (reads (log mac key n cs)) q r
 
   pub calm-held : (jump : Bool) (y : ℕ) (o : Waiting mac eight key n low top q team floor enough jump cs y (2 * r + 1) (2 * r + 1)) → every (calm coin) (state-of (o .station) .held) ≡ true
   calm-held jump y o = every-in (calm coin) (state-of (o .station) .held) held-calm

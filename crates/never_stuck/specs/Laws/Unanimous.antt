@@ -1,4 +1,4 @@
--- A lucky round: the whole team tosses alike, proposes alike, votes alike and decides.
+-- A unanimous round: the whole team tosses alike, proposes alike, votes alike and decides.
 use mathlib.Core.Path.{_≡_, refl, sym, _∙_, ap, subst}
 use mathlib.Core.Bool.{Bool}
 use mathlib.Core.List.{List}
@@ -92,9 +92,9 @@ module _ (mac : List ℕ → List ℕ → List ℕ) (eight : (key ws : List ℕ)
             }
 
     -- from the votes of round r on, with the coin v
-    pub lucky : (cs : List Call) → Premises mac key n cs → Team mac eight key n low top q team floor (λ y. At mac eight key n low top q team floor enough cs y (2 * r + 1) (calm v))
+    pub unanimous : (cs : List Call) → Premises mac key n cs → Team mac eight key n low top q team floor (λ y. At mac eight key n low top q team floor enough cs y (2 * r + 1) (calm v))
         → Arrived mac eight key n low top q team floor cs (λ l y. Done l (r + 1) y)
-    lucky cs P each =
+    unanimous cs P each =
         let A = phase mac eight key n low top q team floor enough (2 * r + 1) v fl bit (calm v) (λ l y. At mac eight key n low top q team floor enough l y (2 * (r + 1)) (has-value v))
         (at-on mac eight key n low top q team floor enough (2 * (r + 1)) (has-value v)) tossed cs P each in
         let B = phase mac eight key n low top q team floor enough (2 * (r + 1)) v (omega arith) bit (has-value v) (λ l y. At mac eight key n low top q team floor enough l y (2 * (r + 1) + 1) (has-value v))
