@@ -12,10 +12,11 @@ use Rattle.format.specs.Words.{spare-of, station-of, round-of, fields-of, of-gr
 abbrev pub top : ℕ → ℕ
 top w = w / 2 ^ 27
 
--- "INIT has round 0, value 0 or 1, flag 0."; "P has round 1 to 65,535 and value 0 or 1."; "V has such a round, flag 0 and value 0, 1 or none."
+-- "INIT has round 0, value 0 or 1, flag 0.": its top bits in round 0
 abbrev pub of-init : ℕ → Bool
 of-init k = eqb k 0 || eqb k 2
 
+-- "P has round 1 to 65,535 and value 0 or 1.", of either flag: 8 to 11. "V has such a round, flag 0 and value 0, 1 or none.": 16, 18, 20
 abbrev pub of-later : ℕ → Bool
 of-later k = eqb (k / 4) 2 || eqb k 16 || eqb k 18 || eqb k 20
 

@@ -78,7 +78,7 @@ module _ (code : List ℕ → List ℕ) (n : ℕ) (g : Group) (question : ℕ) (
 unfoldable pub left : List ℕ → ℕ → ℕ
 left ws place = (length ws - place-of place) / statement-words
 
--- the findings f, further on: what was found of 3 and 4 since, and the station passed last
+-- the findings f, further on, with what was found of 3 and 4 since
 abbrev pub further : Findings → ℕ → ℕ → Bool → Bool → Findings
 further f place last bad o =
     record {
@@ -93,42 +93,44 @@ further f place last bad o =
       one = f .one;
     }
 
--- what is passed from here on ends where all does
-pub record Glancing (n question : ℕ) (ws : List ℕ) (f : Findings) (at last : ℕ) (bad o : Bool) : Type 0 where
+-- at word `at` stands a statement of some place, behind some station, and what is passed from there on ends where all does
+pub record Glancing (n question : ℕ) (ws : List ℕ) (f : Findings) (at : ℕ) (bad o : Bool) : Type 0 where
   pub place : ℕ
+  pub last : ℕ
   pub here : at ≡ place-of place
   pub same : glanced n question ws f (left ws (f .place)) ≡ glanced n question ws (further f place last bad o) (left ws place)
 
-module _ (n question : ℕ) (ws : List ℕ) (f : Findings) (at last : ℕ) (bad o : Bool) where
-  next-passed : (p : ℕ) (good : Bool) → at ≡ place-of p → good ≡ formed n (fields-of (getD ws at 0)) → bad ≡ false → at + statement-words ≤ length ws
+module _ (n question : ℕ) (ws : List ℕ) (f : Findings) (at : ℕ) (bad o : Bool) where
+  next-passed : (p last : ℕ) (good : Bool) → at ≡ place-of p → good ≡ formed n (fields-of (getD ws at 0)) → bad ≡ false → at + statement-words ≤ length ws
       → glanced n question ws (further f p last bad o) (left ws p)
       ≡ glanced n question ws (further f (p + 1) (station-of (getD ws at 0)) (not good) (o || not (eqb (getD ws (at + 1) 0) question))) (left ws (p + 1))
   unfolding glanced passed fields-of pick left
-  next-passed p good here well clean inside =
+  next-passed p last good here well clean inside =
       let z : (length ws - (1 + p * 10)) / 10 ≡ suc ((length ws - (1 + (p + 1) * 10)) / 10) = omega (arith, inside, here) in
       rw (z, clean, well, here)
 
-  pub glance-turn : (good : Bool) → good ≡ formed n (fields-of (getD ws at 0)) → (not bad && leb (at + statement-words) (length ws)) ≡ true
-      → Glancing n question ws f at last bad o
-      → Glancing n question ws f (at + statement-words) (station-of (getD ws at 0)) (not good) (o || not (eqb (getD ws (at + 1) 0) question))
+  pub glance-turn : (good : Bool) → good ≡ formed n (fields-of (getD ws at 0)) → (not bad && leb (at + statement-words) (length ws)) ≡ true → Glancing n question ws f at bad o
+      → Glancing n question ws f (at + statement-words) (not good) (o || not (eqb (getD ws (at + 1) 0) question))
   glance-turn good well inside G =
       let i = both (not bad) (leb (at + 10) (length ws)) inside in
       record {
         place = G .place + 1;
+        last = station-of (getD ws at 0);
         here = omega (arith, G .here);
-        same = G .same ∙ next-passed (G .place) good (G .here) well (not-true bad (i .0)) (leb-true (at + 10) (length ws) (i .1));
+        same = G .same ∙ next-passed (G .place) (G .last) good (G .here) well (not-true bad (i .0)) (leb-true (at + 10) (length ws) (i .1));
       }
 
-  none-passed : (p : ℕ) → at ≡ place-of p → (not bad && leb (at + statement-words) (length ws)) ≡ false
-      → answer (further f (f .place) last bad o) ≡ answer (glanced n question ws (further f p last bad o) (left ws p))
+  none-passed : (p last : ℕ) → at ≡ place-of p → (not bad && leb (at + statement-words) (length ws)) ≡ false
+      → answer (further f (f .place) (f .last) bad o) ≡ answer (glanced n question ws (further f p last bad o) (left ws p))
   unfolding glanced pick left answer
-  none-passed p here h = go bad refl ((length ws - (1 + p * 10)) / 10) refl
+  none-passed p last here h = go bad refl ((length ws - (1 + p * 10)) / 10) refl
     where
-      go : (b : Bool) → bad ≡ b → (k : ℕ) → (length ws - (1 + p * 10)) / 10 ≡ k → answer (further f (f .place) last bad o) ≡ answer (glanced n question ws (further f p last bad o) k)
+      go : (b : Bool) → bad ≡ b → (k : ℕ) → (length ws - (1 + p * 10)) / 10 ≡ k
+          → answer (further f (f .place) (f .last) bad o) ≡ answer (glanced n question ws (further f p last bad o) k)
       go b e zero z = refl
       go true e (suc k) z = rw e
       go false e (suc k) z = absurd (omega (arith, z, here, leb-false (at + 10) (length ws) (rw e at h)))
 
-  pub glance-end : (not bad && leb (at + statement-words) (length ws)) ≡ false → Glancing n question ws f at last bad o
-      → answer (further f (f .place) last bad o) ≡ answer (glanced n question ws f (left ws (f .place)))
-  glance-end h G = none-passed (G .place) (G .here) h ∙ sym (ap answer (G .same))
+  pub glance-end : (not bad && leb (at + statement-words) (length ws)) ≡ false → Glancing n question ws f at bad o
+      → answer (further f (f .place) (f .last) bad o) ≡ answer (glanced n question ws f (left ws (f .place)))
+  glance-end h G = none-passed (G .place) (G .last) (G .here) h ∙ sym (ap answer (G .same))

@@ -26,25 +26,23 @@ fn word_formed(w: u32, n: u32) -> bool
 }
 
 // The answer, where the turns have ended: the whole statements from the findings' place on, or up to a malformed one, are passed for a number that is answered before.
-// That one is there is seen by the words' length, so that no word needs a test of its own. The station passed last does not matter to the answer; the walk has it.
+// That one is there is seen by the words' length, so that no word needs a test of its own. What else was found stays, and the place and the last station do not
+// matter to the answer.
 pub fn answer_behind(n: u32, question: u32, ws: &[u32], f: Findings) -> u32
     ensures { λ r. ⌜ r ≡ answer (glanced n question (now (ws .entry)) f (left (now (ws .entry)) (f .place))) ⌝ }
 {
     let mut at = 1 + f.place as usize * STATEMENT_WORDS;
-    let mut last = f.last;
     let mut malformed = f.malformed;
     let mut other = f.other;
     while !malformed & (at + STATEMENT_WORDS <= ws.len()) {
-        let w = ws[at];
-        let good = word_formed(w, n);
+        let good = word_formed(ws[at], n);
         other = other | (ws[at + 1] != question);
-        last = w / STATION % 256;
         malformed = !good;
         at += STATEMENT_WORDS;
     }
     walk::answer(Findings {
         place: f.place,
-        last: last,
+        last: f.last,
         malformed: malformed,
         other: other,
         wrong: f.wrong,

@@ -40,11 +40,14 @@ module _ (code : List ℕ → List ℕ) (n : ℕ) (g : Group) (question : ℕ) (
       let s : end - f .place ≡ suc (end - (f .place + 1)) = omega arith in
       (ap (λ (r : Findings). r .place) q, rw (q, s) (onward code n g question ws f (end - (f .place + 1)) m))
 
+-- the second group that a main statement with these fields asks for
+abbrev pub second : ℕ → Fields → Group
+second n m = second-group n (m .value) (m .round .0)
+
 -- what is to come behind x: in the first part what is between the groups and the second, in the second nothing
 unfoldable pub finished : (List ℕ → List ℕ) → ℕ → Fields → ℕ → List ℕ → ℕ → ℕ → ℕ → Bool → Findings → Findings
 finished code n m question ws count size have first x =
-    let two : Group = second-group n (m .value) (m .round .0) in
-    pick first (walked code n two question ws (between m (eqb have size) (count - have) two x) (count - have)) x
+    pick first (walked code n (second n m) question ws (between m (eqb have size) (count - have) (second n m) x) (count - have)) x
 
 -- a fault before the certificate
 pub through-behind : (code : List ℕ → List ℕ) (n : ℕ) (m : Fields) (question : ℕ) (ws : List ℕ) (count : ℕ) (from : Findings) → from .place ≡ 1 → (from .malformed || from .other || from .wrong) ≡ true
@@ -54,12 +57,9 @@ through-behind code n m question ws count from p fault =
     let one : Group = first-group n (m .kind) (m .value) (m .flag) (m .round .0) in
     let a : ℕ = least (first-size m one) count in
     let z : 1 + count - from .place ≡ a + (count - a) = omega (arith, p, least-fits (first-size m one) count) in
-    rw z (sym (behind-fault code n one (second-group n (m .value) (m .round .0)) question ws m (eqb a (first-size m one)) (count - a) from a (count - a) fault))
+    rw z (sym (behind-fault code n one (second n m) question ws m (eqb a (first-size m one)) (count - a) from a (count - a) fault))
 
 module _ (code : List ℕ → List ℕ) (n : ℕ) (m : Fields) (question : ℕ) (ws : List ℕ) (count size have : ℕ) where
-  abbrev second : Group
-  second = second-group n (m .value) (m .round .0)
-
   pub through-start : (from : Findings) (one : Group) → from .place ≡ 1 → one ≡ first-group n (m .kind) (m .value) (m .flag) (m .round .0)
       → size ≡ first-size m one → have ≡ least size count
       → through code n m question ws count from ≡ finished code n m question ws count size have true (walked code n one question ws from (1 + have - from .place))
@@ -70,7 +70,7 @@ module _ (code : List ℕ → List ℕ) (n : ℕ) (m : Fields) (question : ℕ) 
 
   -- the border: what is to come behind the first part is the second
   pub border-turn : (f border : Findings) (g two : Group) (end : ℕ) → end ≤ f .place → f .place ≤ end → end ≡ 1 + have → have ≤ count
-      → two ≡ second-group n (m .value) (m .round .0) → border ≡ between m (eqb have size) (count - have) two f
+      → two ≡ second n m → border ≡ between m (eqb have size) (count - have) two f
       → (border .place ≡ f .place) × (finished code n m question ws count size have true (walked code n g question ws f (end - f .place)) ≡ finished code n m question ws count size have false (walked code n two question ws border (1 + count - border .place)))
   unfolding between finished walked pick
   border-turn f border g two end low high e room t b =
@@ -87,10 +87,10 @@ module _ (code : List ℕ → List ℕ) (n : ℕ) (m : Fields) (question : ℕ) 
   loop-end g f end first low room one last h = go first (f .malformed || f .other || f .wrong) refl refl
     where
       go : (s t : Bool) → first ≡ s → (f .malformed || f .other || f .wrong) ≡ t
-          → answer (glanced n question ws f (1 + count - f .place)) ≡ answer (pick s (walked code n second question ws (between m (eqb have size) (count - have) second (walked code n g question ws f (end - f .place))) (count - have)) (walked code n g question ws f (end - f .place)))
+          → answer (glanced n question ws f (1 + count - f .place)) ≡ answer (pick s (walked code n (second n m) question ws (between m (eqb have size) (count - have) (second n m) (walked code n g question ws f (end - f .place))) (count - have)) (walked code n g question ws f (end - f .place)))
       go true true p fault =
           let z : 1 + count - f .place ≡ (end - f .place) + (count - have) = omega (arith, low, room, one p) in
-          rw z (sym (behind-fault code n g second question ws m (eqb have size) (count - have) f (end - f .place) (count - have) fault))
+          rw z (sym (behind-fault code n g (second n m) question ws m (eqb have size) (count - have) f (end - f .place) (count - have) fault))
       go false true p fault = rw (← last p) (ap answer (glance-behind code n g question ws f (end - f .place) fault))
       go true false p clean = never true (rw (p, clean) at h) refl
       go false false p clean =

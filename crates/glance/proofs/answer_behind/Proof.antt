@@ -13,10 +13,10 @@ use Rattle.glance.proofs.answer_behind.Statement.{statement}
 use Rattle.glance.proofs.answer_behind.Tie as tie
 
 abbrev Inv-loop : tie.InvT-loop
-Inv-loop n question ws f at₀ last₀ malformed₀ other₀ at last malformed other = (at ≤ 2 ^ 36 + length ws) × Glancing n question ws f at last malformed other
+Inv-loop n question ws f at₀ malformed₀ other₀ at malformed other = (at ≤ 2 ^ 36 + length ws) × Glancing n question ws f at malformed other
 
 abbrev μ-loop : tie.MeasureT-loop
-μ-loop n question ws f at₀ last₀ malformed₀ other₀ at last malformed other = length ws - at
+μ-loop n question ws f at₀ malformed₀ other₀ at malformed other = length ws - at
 
 -- in a turn the statement's ten words are there
 inside : (e : tie.In-loop Inv-loop μ-loop) → e .before .loop .at + 10 ≤ length (e .before .before .before .before .args .ws .now)
@@ -34,20 +34,20 @@ add-at : tie.Need-add-at Inv-loop μ-loop
 add-at c = search needs
 
 loop-holds : tie.Need-loop-holds Inv-loop μ-loop
-loop-holds c = (search needs, record { place = c .before .before .args .f .place; here = refl; same = refl })
+loop-holds c = (search needs, record { place = c .before .before .args .f .place; last = c .before .before .args .f .last; here = refl; same = refl })
 
 add-loop : tie.Need-add-loop Inv-loop μ-loop
 add-loop c =
     let b = c .loop .inv .0 in
     search needs
 
-mul-w : tie.Need-mul-w Inv-loop μ-loop
-mul-w c =
+mul-word-formed : tie.Need-mul-word-formed Inv-loop μ-loop
+mul-word-formed c =
     let i = inside c in
     search needs
 
-shared-slice-read-w : tie.Need-shared-slice-read-w Inv-loop μ-loop
-shared-slice-read-w c = omega (arith, inside (c .before))
+shared-slice-read-word-formed : tie.Need-shared-slice-read-word-formed Inv-loop μ-loop
+shared-slice-read-word-formed c = omega (arith, inside (c .before))
 
 word-formed-requires : tie.Need-word-formed-requires Inv-loop μ-loop
 word-formed-requires c κs = search needs
@@ -80,7 +80,7 @@ loop-again c =
     let l = e .before in
     let s = l .before .before .before .args in (
       omega (arith, inside e),
-      glance-turn (s .n) (s .question) (s .ws .now) (s .f) (l .loop .at) (l .loop .last) (l .loop .malformed) (l .loop .other) (w .word-formed .result) (w .word-formed .ensures) (e .loop-test .taken)
+      glance-turn (s .n) (s .question) (s .ws .now) (s .f) (l .loop .at) (l .loop .malformed) (l .loop .other) (w .word-formed .result) (w .word-formed .ensures) (e .loop-test .taken)
           (l .loop .inv .1),
     )
 
@@ -92,7 +92,7 @@ returns c =
     let e = c .before in
     let l = e .before in
     let s = l .before .before .before .args in
-    c .answer .ensures ∙ glance-end (s .n) (s .question) (s .ws .now) (s .f) (l .loop .at) (l .loop .last) (l .loop .malformed) (l .loop .other) (e .loop-test .left) (l .loop .inv .1)
+    c .answer .ensures ∙ glance-end (s .n) (s .question) (s .ws .now) (s .f) (l .loop .at) (l .loop .malformed) (l .loop .other) (e .loop-test .left) (l .loop .inv .1)
 
 pub answer-behind-spec : {M : Type 1} → statement M
 answer-behind-spec =
@@ -105,8 +105,8 @@ answer-behind-spec =
     add-at
     loop-holds
     add-loop
-    mul-w
-    shared-slice-read-w
+    mul-word-formed
+    shared-slice-read-word-formed
     word-formed-requires
     add-other
     mul-other
