@@ -13,27 +13,29 @@ use Rattle.laws.specs.Pick.{pick}
 use Rattle.laws.specs.Bools.{never, both}
 use Rattle.laws.specs.Count.{count, one-if}
 use Rattle.laws.specs.Refusals.{first-failed}
-use Rattle.format.specs.Numbers.{none, place-of, statement-words}
+use Rattle.format.specs.Numbers.{none}
 use Rattle.format.specs.Group.{quorum, backing, most-faulty}
 use Rattle.format.specs.Words as Format
-use Rattle.format.specs.Words.{fields-of, word-of, formed, step-of}
-use Rattle.format.specs.Statement.{statements, covered-at, code-at, same-words, verifies, well-formed, step}
-use Rattle.format.specs.Bundle.{laid-out, all-formed, bundle-fits, all-written, bundle-of}
+use Rattle.format.specs.Words.{fields-of, word-of, step-of}
+use Rattle.format.specs.Statement.{same-words, step}
 use Rattle.format.specs.Laws.Layout.{same-out}
+use Rattle.format.specs.Present.{place-of, statement-words, covered-at, code-at}
 use Rattle.rules.specs.Rules.{wanted, some, in-order, holds, d-get-group, first-group, second-group, has-second, early-toss, rest-holds, spread, groups-hold, rule}
-use Rattle.certificate.specs.Check.{every, check-by}
-use Rattle.modules.specs.Counter.{above, making}
-use Rattle.sealed.specs.Sealed.{coding-plain, coding-coin}
+use Rattle.certificate.specs.Check.{every}
+use Rattle.modules.specs.Counter.{above}
+use Rattle.modules.specs.Present.{making}
 use Rattle.station.specs.declared.Stage.{Stage}
 use Rattle.station.specs.declared.Stage.the-variants.{Gathering, Proposing, Voting}
 use Rattle.station.specs.declared.Station.{Station}
 use Rattle.station.specs.Machine.{kind-in, round-in, proposing, voting, insert, number-of, first-value, those, vote-value, decided, carried, follows, ended, taken, conflict, leading, kept-for-value, kept-for-none}
-use Rattle.station.specs.Words.{held-in, state-of, set-of, slot-of, slots-of, as-station, Lengths, kept-words, slots-words}
-use Rattle.station.specs.Fit.{zeros, slots-fit, fits}
-use Rattle.station.specs.Calls.{Returned, returned, opening, giving, no-station}
+use Rattle.station.specs.Words.{set-of}
+use Rattle.station.specs.Fit.{zeros}
+use Rattle.station.specs.Calls.{Returned}
 use Rattle.station.specs.Returns.{unrefused}
+use Rattle.station.specs.Present.{kept-words, slots-words, no-station, Lengths}
 use Rattle.agreement.specs.Maths.Votes.{votes}
-use Rattle.agreement.specs.Demand.{Call, site, action, View, starting, going-on, apart, view, Entry, Lineage, Found, nothing, found, member, logged, act, modules, answer, log, openings, lineage, Presents, Sound, BringsOff, JumpOff, FewFaulty, CodesCame, Behaves, Brings, Given, Decides}
+use Rattle.agreement.specs.Demand.{Call, site, action, View, starting, going-on, apart, view, Entry, Lineage, Found, nothing, found, member, logged, BringsOff}
+use Rattle.agreement.specs.Present.{answer, log, lineage, Presents, Sound, JumpOff, FewFaulty, CodesCame, Behaves, Brings, Given, Decides}
 
 -- ---- two stations compared: their numbers in one list, and their three arrays
 abbrev flag-in : Stage → ℕ
@@ -186,7 +188,7 @@ module _ (mac : List ℕ → List ℕ → List ℕ) (key : List ℕ) (n : ℕ) w
   given (c ∷ cs) = given cs && (brings cs (view (action c)) && (leb 1 (site c) && leb (site c) n))
 
   pub given-out : (cs : List Call) → given cs ≡ true → Given mac key n cs
-  unfolding given Given
+  unfolding given Rattle.agreement.specs.Demand.Given
   given-out [] e = tt
   given-out (c ∷ cs) e =
       let h = both (given cs) _ e in
@@ -217,7 +219,7 @@ module _ (mac : List ℕ → List ℕ → List ℕ) (key : List ℕ) (n : ℕ) w
   sound (c ∷ cs) i = sound cs i && (not (eqb (site c) i) || behaves cs i (view (action c)) (answer mac key n cs c .number))
 
   pub sound-out : (cs : List Call) (i : ℕ) → sound cs i ≡ true → Sound mac key n i cs
-  unfolding sound Sound
+  unfolding sound Rattle.agreement.specs.Demand.Sound
   sound-out [] i e = tt
   sound-out (c ∷ cs) i e =
       let h = both (sound cs i) _ e in
@@ -244,7 +246,7 @@ module _ (mac : List ℕ → List ℕ → List ℕ) (key : List ℕ) (n : ℕ) w
   brings-off question (going-on k t ws) = true
   brings-off question apart = true
 
-  brings-off-out : (question : ℕ) (v : View) → brings-off question v ≡ true → BringsOff mac key n question v
+  brings-off-out : (question : ℕ) (v : View) → brings-off question v ≡ true → BringsOff question v
   brings-off-out question (starting q jump) e = λ z. eqb-true jump 0 (implied (eqb q question) _ e (eq-eqb q question z))
   brings-off-out question (going-on k t ws) e = tt
   brings-off-out question apart e = tt
@@ -254,7 +256,7 @@ module _ (mac : List ℕ → List ℕ → List ℕ) (key : List ℕ) (n : ℕ) w
   off at question (c ∷ cs) = off at question cs && (not (at (site c)) || brings-off question (view (action c)))
 
   pub off-out : (at : ℕ → Bool) (question : ℕ) (cs : List Call) → off at question cs ≡ true → (i : ℕ) → at i ≡ true → JumpOff mac key n i question cs
-  unfolding off JumpOff
+  unfolding off Rattle.agreement.specs.Demand.JumpOff
   off-out at question [] e i a = tt
   off-out at question (c ∷ cs) e i a =
       let h = both (off at question cs) _ e in (
@@ -273,5 +275,5 @@ module _ (mac : List ℕ → List ℕ → List ℕ) (key : List ℕ) (n : ℕ) w
 
 -- ---- all that the tests compute by
 unfoldable pub computes : Unit {0}
-unfolding pick count first-failed ones backing fields-of word-of formed step-of statements same-words verifies well-formed step laid-out all-formed bundle-fits wanted some in-order holds d-get-group first-group second-group has-second early-toss rest-holds spread groups-hold rule every check-by above making coding-plain coding-coin insert number-of first-value those vote-value decided carried follows ended taken conflict held-in leading kept-for-value kept-for-none state-of set-of slot-of slots-of all-written as-station bundle-of zeros slots-fit fits returned opening giving no-station act modules log openings lineage below given sound off
+unfolding pick count first-failed ones backing fields-of word-of Rattle.format.specs.Statement.formed step-of Rattle.format.specs.Statement.statements same-words Rattle.format.specs.Statement.verifies Rattle.format.specs.Statement.well-formed step Rattle.format.specs.Bundle.laid-out Rattle.format.specs.Bundle.all-formed Rattle.format.specs.Bundle.bundle-fits wanted some in-order holds d-get-group first-group second-group has-second early-toss rest-holds spread groups-hold rule every Rattle.certificate.specs.Check.check-by above Rattle.modules.specs.Counter.making Rattle.sealed.specs.Sealed.coding-plain Rattle.sealed.specs.Sealed.coding-coin insert number-of first-value those vote-value decided carried follows ended taken conflict Rattle.station.specs.Words.held-in leading kept-for-value kept-for-none Rattle.station.specs.Words.state-of set-of Rattle.station.specs.Words.slot-of Rattle.station.specs.Words.slots-of Rattle.format.specs.Bundle.all-written Rattle.station.specs.Words.as-station Rattle.format.specs.Bundle.bundle-of zeros Rattle.station.specs.Fit.slots-fit Rattle.station.specs.Fit.fits Rattle.station.specs.Calls.returned Rattle.station.specs.Calls.opening Rattle.station.specs.Calls.giving Rattle.station.specs.Calls.no-station Rattle.agreement.specs.Demand.act Rattle.agreement.specs.Demand.modules Rattle.agreement.specs.Demand.log Rattle.agreement.specs.Demand.openings Rattle.agreement.specs.Demand.lineage below given sound off
 computes = tt

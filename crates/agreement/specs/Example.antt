@@ -6,28 +6,31 @@ use mathlib.Core.Bool.{Bool, true, false, _&&_}
 use mathlib.Core.List.{List, [], _∷_, _++_}
 use mathlib.Core.Path.{_≡_, refl, ap}
 use native.Mathlib.Omega.{arith}
-use lib.ListN.{getD, take, drop, replicate}
+use lib.ListN.{getD, take, replicate}
 use Rattle.laws.specs.Count.{count}
-use Rattle.format.specs.Numbers.{kind-P, kind-V, none, D-GET, R-GET}
+use Rattle.format.specs.Form.{present-form}
+use Rattle.format.specs.Numbers.{kind-P, kind-V, none, D-GET, R-GET, code-words}
 use Rattle.format.specs.Group.{backing}
-use Rattle.format.specs.Bundle.{main-of}
+use Rattle.format.specs.Present.{statement-words, output-words, words-at, main-of}
 use Rattle.rules.specs.declared.Which.the-variants.{Any}
-use Rattle.certificate.specs.Check.{check-by}
+use Rattle.certificate.specs.Present.{check-by}
 use Rattle.station.specs.declared.Stage.the-variants.{Gathering}
 use Rattle.station.specs.declared.Station.{Station}
+use Rattle.station.specs.Present.{kept-words}
 use Rattle.agreement.specs.Maths.Votes.{votes}
-use Rattle.agreement.specs.Demand.{opens, gives, codes, tosses, Call, call, member, proposed, log, Sound, AllOff, FewFaulty, CodesCame, Given, Decides, Claim}
+use Rattle.agreement.specs.Demand.{opens, gives, codes, tosses, Call, call, member}
 use Rattle.agreement.specs.Prefix.{given-before, sound-before}
 use Rattle.agreement.specs.Theorem.{claim}
 use Rattle.agreement.specs.FirstVotes.{names-proposer, FirstVote, first-votes-by}
 use Rattle.agreement.specs.Computed.{computes, last, written, numbers, line, present, given, given-out, few, others-out, few-out, off-out, decides, decides-out}
+use Rattle.agreement.specs.Present.{proposed, log, Sound, AllOff, FewFaulty, CodesCame, Given, Decides, Claim}
 
 abbrev pub toy : List ℕ → List ℕ → List ℕ
 toy key ws = getD ws 0 0 ∷ getD ws 1 0 ∷ 0 ∷ 0 ∷ 0 ∷ 0 ∷ 0 ∷ 0 ∷ []
 
 -- ---- what the calls bring
 abbrev pub out : List ℕ
-out = replicate 331 0
+out = replicate output-words 0
 
 -- the list with one call more: a site gives words to its first station, as the last call on that station returned it
 abbrev pub give : ℕ → List ℕ → ℕ → List Call → List Call
@@ -42,7 +45,7 @@ lent cs = last toy [] 3 cs .lent
 
 -- a statement of station 3 on question 1, to be coded
 abbrev pub of-3 : ℕ → ℕ → ℕ → ℕ → List ℕ
-of-3 kind value flag round = (kind * 2 ^ 30 + value * 2 ^ 28 + flag * 2 ^ 27 + 3 * 2 ^ 16 + round) ∷ 1 ∷ replicate 8 0
+of-3 kind value flag round = (kind * 2 ^ 30 + value * 2 ^ 28 + flag * 2 ^ 27 + 3 * 2 ^ 16 + round) ∷ 1 ∷ replicate code-words 0
 
 -- a station of site 3 on question 2 that no call returned: it holds an INIT of station 3 with value 1, which no module coded
 abbrev pub forged : Station
@@ -54,7 +57,7 @@ forged =
       jump = false;
       decision = none;
       held = record { heard = 4; slots = replicate 20 0 ++ ((2 ^ 28 + 3 * 2 ^ 16) ∷ 2 ∷ replicate 288 0) };
-      groups = record { value = replicate 160 0; none = replicate 160 0 };
+      groups = record { value = replicate kept-words 0; none = replicate kept-words 0 };
     }
 
 -- ---- the list, call by call, each with the number that it answers
@@ -68,7 +71,7 @@ calls-2 = call 2 (opens 1 0 0 out) ∷ calls-1
 
 -- 5: site 1 is given site 2's INIT with its last code word damaged
 abbrev pub damaged : List ℕ
-damaged = take 10 (bundle calls-2) ++ (1 ∷ [])
+damaged = take statement-words (bundle calls-2) ++ (1 ∷ [])
 
 abbrev pub calls-3 : List Call
 calls-3 = give 1 damaged 0 calls-2
@@ -99,7 +102,7 @@ calls-9 = call 3 (codes (of-3 kind-V none D-GET 1)) ∷ calls-8
 
 -- 20: site 1 is given that vote; its certificate mixes site 1's own P 0 with site 3's P 1. Site 1 takes it, decides nothing, and sends P 0 of round 2
 abbrev pub unbacked-none : List ℕ
-unbacked-none = (3 * 2 ^ 30 + 2) ∷ (lent calls-9 ++ (take 10 (drop 1 (bundle calls-5)) ++ lent calls-4))
+unbacked-none = (3 * 2 ^ 30 + 2) ∷ (lent calls-9 ++ (words-at (bundle calls-5) 1 ++ lent calls-4))
 
 abbrev pub calls-10 : List Call
 calls-10 = give 1 unbacked-none 1 calls-9
@@ -216,7 +219,7 @@ all-off i low high sound = off-out toy [] 3 (λ j. true) 1 example refl i refl
 
 -- the toss was coded
 faulty-3 : Sound toy [] 3 3 example → ⊥
-unfolding Sound
+unfolding Rattle.agreement.specs.Demand.Sound
 faulty-3 s = sound-before toy [] 3 3 (take 6 example) calls-12 s .0 refl (answered .toss)
 
 -- ---- the vote of round 1 that site 1 sent in calls-7 and site 2 is given in calls-11
@@ -227,7 +230,7 @@ first-vote = record { valid = at 0; kind = at 1; round = at 2; value = at 3; bit
     at k = ap (λ (f : Facts). getD (f .vote) k 0) computed
 
 vote-came : CodesCame toy [] 3 (log toy [] 3 calls-10) (bundle calls-7)
-unfolding Given
+unfolding Rattle.agreement.specs.Demand.Given
 vote-came = given-before toy [] 3 (take 7 example) calls-11 within .1 .0 .1
 
 -- ---- all of it: a list within the premises, for which the claim therefore holds
@@ -277,4 +280,4 @@ witness =
     }
   where
     claimed : Claim toy [] 3 example
-    claimed = claim toy (λ key ws. refl) [] 3 (omega arith) (omega arith) example within few-faulty
+    claimed = claim present-form toy (λ key ws. refl) [] 3 (omega arith) (omega arith) example within few-faulty

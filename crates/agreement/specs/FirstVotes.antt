@@ -12,23 +12,25 @@ use borrow.Author.Tests.{eqb-true, eq-eqb}
 use Rattle.laws.specs.Bools.{both, join, left, right}
 use Rattle.laws.specs.All.{All, all-map, all-two, all-right}
 use Rattle.laws.specs.Count.{count}
-use Rattle.format.specs.Numbers.{kind-INIT, kind-V, none, covered-words, place-of}
+use Rattle.format.specs.Form.{present-form}
+use Rattle.format.specs.Numbers.{kind-INIT, kind-V, none}
 use Rattle.format.specs.Group.{backing}
 use Rattle.format.specs.Words.{kind-of, value-of, station-of}
-use Rattle.format.specs.Statement.{Statement, statement, statements, well-formed, same-words}
+use Rattle.format.specs.Statement.{Statement, same-words}
 use Rattle.hmac.specs.Code.{hmac-code}
-use Rattle.format.specs.Bundle.{count-in, main-of, certificate-of}
+use Rattle.format.specs.Bundle.{count-in}
 use Rattle.format.specs.Laws.Layout.{all-well, same-out}
 use Rattle.format.specs.Laws.Shape.{formed-out}
+use Rattle.format.specs.Present.{covered-words, place-of, statement, well-formed, main-of, certificate-of}
 use Rattle.rules.specs.declared.Which.the-variants.{Any}
 use Rattle.rules.specs.Rules.{wanted, matches, some, inits, Backed, rule-1, rule-2, rule-3, rule-4, rule-5, rule-6, rule-7}
-use Rattle.certificate.specs.Check.{check-by, judged, checked}
-use Rattle.certificate.specs.Valid.{Valid}
 use Rattle.certificate.specs.Exact.{found-valid}
+use Rattle.certificate.specs.Present.{check-by, checked, Valid}
 use Rattle.agreement.specs.Maths.Log.{In, some-in}
 use Rattle.agreement.specs.Maths.Just.{rising-count}
-use Rattle.agreement.specs.Demand.{Call, Entry, logged, proposed, log, CodesCame}
+use Rattle.agreement.specs.Demand.{Call, Entry, logged}
 use Rattle.agreement.specs.Laws.Line.{each-came}
+use Rattle.agreement.specs.Present.{proposed, log, CodesCame}
 
 -- an INIT of site i with v
 abbrev pub is-init : ℕ → ℕ → Statement → Bool
@@ -115,13 +117,13 @@ module _ (mac : List ℕ → List ℕ → List ℕ) (key : List ℕ) (n : ℕ) (
   was : (k : ℕ) → well-formed n (statement ws (place-of k)) ≡ true
       → logged l (station-of (getD ws (place-of k) 0)) (getD ws (place-of k) 0 ∷ getD ws (place-of k + 1) 0 ∷ []) ≡ true → Was (statement ws (place-of k))
   was k w h =
-      let r = formed-out n (statement ws (place-of k)) w in
+      let r = formed-out present-form n (statement ws (place-of k)) w in
       ((r .low, r .high), λ e. init-proposed l (station-of (getD ws (place-of k) 0)) (getD ws (place-of k) 0) (getD ws (place-of k + 1) 0) e h)
 
   all-was : Was (main-of ws) × All Was (certificate-of ws)
-  unfolding statements
+  unfolding Rattle.format.specs.Statement.statements
   all-was =
-      each-came mac key n l ws came Was was (suc (count-in ws)) 0 (omega (arith, ok .bundle .size)) (ok .bundle .fields) (all-well n ws 1 (suc (count-in ws)) (ok .bundle .fields)) (ok .codes)
+      each-came present-form mac key n l ws came Was was (suc (count-in ws)) 0 (omega (arith, ok .bundle .size)) (ok .bundle .fields) (all-well present-form n ws 1 (suc (count-in ws)) (ok .bundle .fields)) (ok .codes)
 
   abbrev both-ways : ℕ → Bool
   both-ways i = names-proposer ws (main-of ws .value) i && proposed l (main-of ws .question) (main-of ws .value) i
@@ -149,12 +151,12 @@ pub first-votes-by : (mac : List ℕ → List ℕ → List ℕ) → First-votes 
 first-votes-by mac key n cs ws question v came F =
     subst (λ (w : ℕ). backing n w ≤ count (λ i. names-proposer ws w i && proposed (log mac key n cs) question w i) n) (F .value)
     (subst (λ (q : ℕ). backing n (main-of ws .value) ≤ count (λ i. names-proposer ws (main-of ws .value) i && proposed (log mac key n cs) q (main-of ws .value) i) n) (F .asked)
-    (vote-named mac key n (log mac key n cs) ws came (found-valid (mac key) n ws (F .valid)) (F .kind) (F .round) (omega (arith, F .value, F .bit))))
+    (vote-named mac key n (log mac key n cs) ws came (found-valid present-form (mac key) n ws (F .valid)) (F .kind) (F .round) (omega (arith, F .value, F .bit))))
 
 -- for HMAC-SHA-256, where valid is what the public check answers 0 to
 pub first-votes : First-votes hmac-code
 first-votes = first-votes-by hmac-code
 
 pub checked-valid : (key : List ℕ) (n : ℕ) (ws : List ℕ) → checked key n ws ≡ 0 → check-by (hmac-code key) n Any ws ≡ 0
-unfolding checked judged
+unfolding Rattle.certificate.specs.Check.checked Rattle.certificate.specs.Check.judged
 checked-valid key n ws h = h

@@ -1,7 +1,9 @@
 pub mod Demand
+pub mod Present
 pub mod Maths
 pub mod Prefix
 pub mod Theorem
+pub mod Forms
 pub mod FirstVotes
 pub mod Computed
 pub mod Example

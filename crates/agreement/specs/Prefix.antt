@@ -14,7 +14,8 @@ use Rattle.rules.specs.Rules.{some}
 use Rattle.station.specs.Calls.{Returned}
 use Rattle.agreement.specs.Maths.Counting.{count-mono}
 use Rattle.agreement.specs.Maths.Votes.{votes}
-use Rattle.agreement.specs.Demand.{Call, action, View, starting, going-on, apart, view, Lineage, Found, nothing, found, written-main, given-main, opened, gave, counted, went, answer, unrefused-at, openings, lineage, Sound, FewFaulty, Given, Decides}
+use Rattle.agreement.specs.Demand.{Call, action, View, starting, going-on, apart, view, Lineage, Found, nothing, found, counted}
+use Rattle.agreement.specs.Present.{written-main, given-main, opened, gave, went, answer, unrefused-at, openings, lineage, Sound, FewFaulty, Given, Decides}
 
 -- what is among some statements is among more of them
 some-behind : (p : Statement → Bool) (new l : List Statement) → some p l ≡ true → some p (new ++ l) ≡ true
@@ -76,12 +77,12 @@ on-by apart now r o k f l e below = record { line = l; is = e; more = λ p h. h 
 
 module _ (mac : List ℕ → List ℕ → List ℕ) (key : List ℕ) (n : ℕ) where
   pub given-before : (later cs : List Call) → Given mac key n (later ++ cs) → Given mac key n cs
-  unfolding Given
+  unfolding Rattle.agreement.specs.Demand.Given
   given-before [] cs g = g
   given-before (c ∷ later) cs g = given-before later cs (g .1 .1)
 
   pub sound-before : (i : ℕ) (later cs : List Call) → Sound mac key n i (later ++ cs) → Sound mac key n i cs
-  unfolding Sound
+  unfolding Rattle.agreement.specs.Demand.Sound
   sound-before i [] cs s = s
   sound-before i (c ∷ later) cs s = sound-before i later cs (s .1)
 
@@ -90,12 +91,12 @@ module _ (mac : List ℕ → List ℕ → List ℕ) (key : List ℕ) (n : ℕ) w
 
   -- a site's stations are numbered below its count of openings
   numbered : (i k : ℕ) (cs : List Call) (l : Lineage) → lineage mac key n cs i k ≡ found l → k < openings mac key n cs i
-  unfolding lineage openings
+  unfolding Rattle.agreement.specs.Demand.lineage Rattle.agreement.specs.Demand.openings
   numbered i k [] l e = absurd (let z : _≡_ {A = ℕ} 0 1 = cc in omega arith)
   numbered i k (c ∷ cs) l e = there-by (view (action c)) (unrefused-at mac key n cs c i) (answer mac key n cs c) (openings mac key n cs i) k (lineage mac key n cs i k) l (numbered i k cs) e
 
   onward : (c : Call) (cs : List Call) (i k : ℕ) (l : Lineage) → lineage mac key n cs i k ≡ found l → Grown (lineage mac key n (c ∷ cs) i k) l
-  unfolding lineage
+  unfolding Rattle.agreement.specs.Demand.lineage
   onward c cs i k l e =
       on-by (view (action c)) (unrefused-at mac key n cs c i) (answer mac key n cs c) (openings mac key n cs i) k (lineage mac key n cs i k) l e (numbered i k cs l e)
 

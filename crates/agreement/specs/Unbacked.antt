@@ -7,18 +7,20 @@ use mathlib.Core.Bool.{Bool, true, false}
 use mathlib.Core.List.{List, [], _∷_, _++_}
 use mathlib.Core.Path.{_≡_, refl, ap}
 use native.Mathlib.Omega.{arith}
-use lib.ListN.{take, drop}
 use Rattle.laws.specs.Count.{count}
+use Rattle.format.specs.Form.{present-form}
 use Rattle.format.specs.Numbers.{kind-P, kind-V, none, D-GET}
 use Rattle.format.specs.Group.{backing}
-use Rattle.agreement.specs.Demand.{opens, codes, Call, call, member, proposed, log, Sound, FewFaulty, Given, Decides, Claim}
+use Rattle.format.specs.Present.{words-at}
+use Rattle.agreement.specs.Demand.{opens, codes, Call, call, member}
 use Rattle.agreement.specs.Theorem.{claim}
 use Rattle.agreement.specs.Computed.{computes, numbers, given, given-out, few, others-out, few-out, decides, decides-out}
 use Rattle.agreement.specs.Example.{toy, out, give, bundle, lent, of-3}
+use Rattle.agreement.specs.Present.{proposed, log, Sound, FewFaulty, Given, Decides, Claim}
 
 -- a none vote of round 1 of station 3, over a proposal of station 1 with 1 and one of its own with 0
 abbrev pub unbacked-none : List ℕ → List ℕ → List ℕ → List ℕ
-unbacked-none vote of-1 of-itself = (3 * 2 ^ 30 + 2) ∷ (vote ++ (take 10 (drop 1 of-1) ++ of-itself))
+unbacked-none vote of-1 of-itself = (3 * 2 ^ 30 + 2) ∷ (vote ++ (words-at of-1 1 ++ of-itself))
 
 -- ---- the list
 -- 20, 20: sites 1 and 2 open on question 1 with 1 and jump on
@@ -112,7 +114,7 @@ module _ (cs : List Call) (answers : List ℕ) (i r : ℕ) (computed : facts cs 
         sound-2 = others 2 (omega arith) (omega arith) refl;
         decided = decides-out toy [] 3 cs i 0 1 0 r (omega arith) (ap (λ (f : Facts). f .decided) computed);
         unproposed = ap (λ (f : Facts). f .proposed) computed;
-        claimed = claim toy (λ key ws. refl) [] 3 (omega arith) (omega arith) cs within few-faulty;
+        claimed = claim present-form toy (λ key ws. refl) [] 3 (omega arith) (omega arith) cs within few-faulty;
       }
 
 pub both-unbacked : Unbacked both-jump both-answers 2

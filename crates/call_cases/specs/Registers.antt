@@ -9,14 +9,15 @@ use lib.Dec.{eqb, leb}
 use lib.ListN.{take, drop, getD}
 use lib.Seq.{take-take}
 use Rattle.sha256.specs.Sha256.{bytes}
-use Rattle.certificate.specs.Check.{checked}
+use Rattle.certificate.specs.Present.{checked}
 use Rattle.laws.specs.Pick.{pick}
 use Rattle.hmac.specs.Code.{hmac-code}
-use Rattle.modules.specs.Counter.{making}
 use Rattle.modules.specs.declared.Last.{Last}
 use Rattle.modules.specs.declared.Module.{Module}
-use Rattle.sealed.specs.Sealed.{coding-plain, coding-coin}
-use Rattle.station.specs.Calls.{Returned, opening, giving}
+use Rattle.modules.specs.Present.{making}
+use Rattle.sealed.specs.Present.{coding-plain, coding-coin}
+use Rattle.station.specs.Calls.{Returned}
+use Rattle.station.specs.Present.{opening, giving}
 use Rattle.station_words.specs.declared.Reading.{Reading}
 use Rattle.station_words.specs.Words.{station-words, part, reading}
 use Rattle.call_cases.specs.declared.Copied.{Copied}

@@ -12,7 +12,7 @@ ghost use mathlib.Core.Path.{_≡_};
 ghost use Prim.Native.Nat.{_+_, _≤_, _<_};
 ghost use lib.ListN.{length, getD};
 ghost use Rattle.hmac.specs.Code.{hmac-code};
-ghost use Rattle.sealed.specs.Sealed.{coding-plain, coding-coin};
+ghost use Rattle.sealed.specs.Present.{coding-plain, coding-coin};
 ghost use Rattle.station_words.specs.Words.{station-words, reading, part};
 ghost use Rattle.station_words.specs.Laws.Put.{put-at};
 ghost use Rattle.call_cases.specs.Registers.{all-words, check-of, key-of, made-by, Within, InRange, shown, seen, last-in, module-in, Counted, opened-by, given-words, given-by};

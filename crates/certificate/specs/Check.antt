@@ -4,8 +4,8 @@ use mathlib.Core.Bool.{Bool, true, _&&_}
 use mathlib.Core.List.{List, [], _∷_}
 use lib.Dec.{eqb}
 use Rattle.laws.specs.Refusals.{Test, test, first-failed}
-use Rattle.format.specs.Numbers.{out-of-range, malformed, other-question, wrong-code, no-certificate, place-of}
-use Rattle.format.specs.Group.{size-fits}
+use Rattle.format.specs.Form.{Form, size-fits}
+use Rattle.format.specs.Numbers.{out-of-range, malformed, other-question, wrong-code, no-certificate}
 use Rattle.format.specs.Statement.{Statement, statements, verifies}
 use Rattle.hmac.specs.Code.{hmac-code}
 use Rattle.format.specs.Bundle.{count-in, main-of, certificate-of, bundle-fits}
@@ -21,33 +21,34 @@ every p (s ∷ c) = p s && every p c
 abbrev pub one-question : Statement → List Statement → Bool
 one-question m c = every (λ s. eqb (s .question) (m .question)) c
 
--- "all codes verified", the main statement's too
-abbrev pub all-verify : (List ℕ → List ℕ) → List Statement → Bool
-all-verify code c = every (verifies code) c
-
 -- 4: "a question differs from the main statement's", or the main statement's from the one that is asked for, if one is
 abbrev pub question-fits : Which → Statement → List Statement → Bool
 question-fits asked m c = one-question m c && which asked (m .question)
 
--- for a code function: what is tested of a bundle, in this order; a station that is given one tests the same
-abbrev pub bundle-tests : (List ℕ → List ℕ) → ℕ → Which → List ℕ → List Test
-bundle-tests code n asked ws =
-    test (bundle-fits n ws) malformed
-    ∷ test (question-fits asked (main-of ws) (certificate-of ws)) other-question
-    ∷ test (all-verify code (statements ws (place-of 0) (suc (count-in ws)))) wrong-code
-    ∷ test (rule n (main-of ws) (certificate-of ws)) no-certificate
-    ∷ []
+module _ (form : Form) where
+  -- "all codes verified", the main statement's too
+  abbrev pub all-verify : (List ℕ → List ℕ) → List Statement → Bool
+  all-verify code c = every (verifies form code) c
 
--- "The validity check alone tests 2 (n), 3, 4, 5, 6 and answers 0."
-abbrev pub check-tests : (List ℕ → List ℕ) → ℕ → Which → List ℕ → List Test
-check-tests code n asked ws = test (size-fits n) out-of-range ∷ bundle-tests code n asked ws
+  -- for a code function: what is tested of a bundle, in this order; a station that is given one tests the same
+  abbrev pub bundle-tests : (List ℕ → List ℕ) → ℕ → Which → List ℕ → List Test
+  bundle-tests code n asked ws =
+      test (bundle-fits form n ws) malformed
+      ∷ test (question-fits asked (main-of form ws) (certificate-of form ws)) other-question
+      ∷ test (all-verify code (statements form ws 1 (suc (count-in ws)))) wrong-code
+      ∷ test (rule n (main-of form ws) (certificate-of form ws)) no-certificate
+      ∷ []
 
-unfoldable pub check-by : (List ℕ → List ℕ) → ℕ → Which → List ℕ → ℕ
-check-by code n asked ws = first-failed (check-tests code n asked ws)
+  -- "The validity check alone tests 2 (n), 3, 4, 5, 6 and answers 0."
+  abbrev pub check-tests : (List ℕ → List ℕ) → ℕ → Which → List ℕ → List Test
+  check-tests code n asked ws = test (size-fits form n) out-of-range ∷ bundle-tests code n asked ws
 
--- the answer under a group's key and n, of bundles of one question or of any
-unfoldable pub judged : List ℕ → ℕ → Which → List ℕ → ℕ
-judged key n asked ws = check-by (hmac-code key) n asked ws
+  unfoldable pub check-by : (List ℕ → List ℕ) → ℕ → Which → List ℕ → ℕ
+  check-by code n asked ws = first-failed (check-tests code n asked ws)
 
-unfoldable pub checked : List ℕ → ℕ → List ℕ → ℕ
-checked key n ws = judged key n Any ws
+  -- the answer under a group's key and n, of bundles of one question or of any
+  unfoldable pub judged : List ℕ → ℕ → Which → List ℕ → ℕ
+  judged key n asked ws = check-by (hmac-code key) n asked ws
+
+  unfoldable pub checked : List ℕ → ℕ → List ℕ → ℕ
+  checked key n ws = judged key n Any ws

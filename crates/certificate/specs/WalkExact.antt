@@ -6,16 +6,16 @@ use mathlib.Core.Path.{_≡_, refl, sym, ap, _∙_}
 use lib.Dec.{eqb}
 use Rattle.laws.specs.Pick.{pick}
 use Rattle.laws.specs.Refusals.{first-failed}
-use Rattle.format.specs.Numbers.{place-of}
-use Rattle.format.specs.Group.{size-fits}
-use Rattle.format.specs.Statement.{Statement, statements, verifies}
-use Rattle.format.specs.Bundle.{laid-out, all-formed, bundle-fits, count-in, main-of, certificate-of}
+use Rattle.format.specs.Statement.{Statement}
+use Rattle.format.specs.Bundle.{count-in}
+use Rattle.format.specs.Present.{place-of, size-fits, statements, verifies, laid-out, all-formed, bundle-fits, main-of, certificate-of}
 use Rattle.rules.specs.declared.Which.{Which}
 use Rattle.rules.specs.Rules.{which, some, rule}
 use Rattle.walk.specs.declared.Findings.{Findings}
 use Rattle.walk.specs.Walk.{findings, answer, walk}
 use Rattle.walk.specs.WalkFinds.{Found, answered, walk-finds}
-use Rattle.certificate.specs.Check.{every, question-fits, all-verify, bundle-tests, check-by}
+use Rattle.certificate.specs.Check.{every, question-fits}
+use Rattle.certificate.specs.Present.{all-verify, bundle-tests, check-by}
 
 -- some statement fails a test exactly if not every one passes it
 some-not : (p : Statement → Bool) (c : List Statement) → some (λ s. not (p s)) c ≡ not (every p c)
@@ -47,11 +47,11 @@ module _ (code : List ℕ → List ℕ) (n : ℕ) (asked : Which) (ws : List ℕ
     wrong h q = found .wrong h (other h ∙ ap not q) ∙ some-not (verifies code) (statements ws 1 (suc (count-in ws)))
 
     laid : laid-out ws ≡ true → bundle-fits n ws ≡ all-formed n ws (place-of 0) (suc (count-in ws))
-    unfolding bundle-fits
+    unfolding Rattle.format.specs.Bundle.bundle-fits
     laid l = rw l
 
     check-is : size-fits n ≡ true → check-by code n asked ws ≡ first-failed (bundle-tests code n asked ws)
-    unfolding check-by first-failed pick
+    unfolding Rattle.certificate.specs.Check.check-by first-failed pick
     check-is a = rw a
 
     found-exact : size-fits n ≡ true → laid-out ws ≡ true → answer r ≡ check-by code n asked ws
@@ -70,7 +70,7 @@ module _ (code : List ℕ → List ℕ) (n : ℕ) (asked : Which) (ws : List ℕ
 
   -- the theorem: for every code function, n, question asked for and list of words
   pub walk-exact : walk code n asked ws ≡ check-by code n asked ws
-  unfolding walk check-by first-failed pick bundle-fits
+  unfolding walk Rattle.certificate.specs.Check.check-by first-failed pick Rattle.format.specs.Bundle.bundle-fits
   walk-exact = go (size-fits n) (laid-out ws) refl refl
     where
       go : (s l : Bool) → size-fits n ≡ s → laid-out ws ≡ l → walk code n asked ws ≡ check-by code n asked ws

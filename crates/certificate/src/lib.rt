@@ -14,13 +14,11 @@ ghost use lib.ListN.{length};
 ghost use Rattle.laws.specs.Least.{least};
 ghost use Rattle.hmac.specs.Hmac.{code-from};
 ghost use Rattle.hmac.specs.Code.{hmac-code};
-ghost use Rattle.format.specs.Numbers.{most-statements, place-of, statement-words};
-ghost use Rattle.format.specs.Group.{size-fits};
-ghost use Rattle.format.specs.Statement.{words-at};
-ghost use Rattle.format.specs.Bundle.{count-in, laid-out};
+ghost use Rattle.format.specs.Bundle.{count-in};
+ghost use Rattle.format.specs.Present.{most-statements, place-of, statement-words, size-fits, words-at, laid-out};
 ghost use Rattle.walk.specs.Walk.{through as Through, answer as Answer};
 ghost use Rattle.glance.specs.Glance.{glanced};
-ghost use Rattle.certificate.specs.Check.{judged, checked};
+ghost use Rattle.certificate.specs.Present.{judged, checked};
 
 // The statement at word `at`, read into a struct: what is looked at of it is looked at there.
 fn take_up(ws: &[u32], at: usize) -> Taken

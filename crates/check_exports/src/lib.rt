@@ -4,7 +4,7 @@ use rules::Which;
 ghost use mathlib.Core.Path.{_≡_};
 ghost use Rattle.compression.specs.Compression.{compressed};
 ghost use Rattle.rules.specs.declared.Which.the-variants.{Only};
-ghost use Rattle.certificate.specs.Check.{judged, checked};
+ghost use Rattle.certificate.specs.Present.{judged, checked};
 
 // The validity check of the words under a key and n.
 #[no_mangle]

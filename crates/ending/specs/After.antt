@@ -8,15 +8,16 @@ use native.Mathlib.Omega.{arith}
 use lib.Dec.{eqb, ltb}
 use borrow.Author.Tests.{eqb-false, lt-ltb, le-ltb}
 use Rattle.laws.specs.Pick.{pick, here, skip}
-use Rattle.format.specs.Numbers.{kind-P, kind-V, none, D-GET, R-GET, last-round}
+use Rattle.format.specs.Numbers.{kind-P, kind-V, none, D-GET, R-GET}
 use Rattle.format.specs.Group.{backing}
 use Rattle.format.specs.Statement.{Statement}
+use Rattle.format.specs.Present.{last-round}
 use Rattle.rules.specs.declared.Which.the-variants.{Any, Only}
 use Rattle.rules.specs.Rules.{some-D-GET, has-second}
 use Rattle.station.specs.declared.Stage.{Stage}
 use Rattle.station.specs.declared.Stage.the-variants.{Gathering, Proposing, Voting}
 use Rattle.station.specs.Machine.{State, Next, next, proposing, voting, round-in, first-value, vote-value, carried, follows, closes}
-use Rattle.station.specs.Words.{sites, held-in}
+use Rattle.station.specs.Present.{sites, held-in}
 use Rattle.held.specs.Scan.{scan, such, lowest}
 use Rattle.held.specs.Laws.Held.{scan-some}
 use Rattle.ending.specs.declared.Kept.{Kept}

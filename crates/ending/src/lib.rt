@@ -8,9 +8,10 @@ use station::SLOTS_WORDS;
 use station::Stage;
 ghost use mathlib.Core.Path.{_≡_};
 ghost use Rattle.laws.specs.Pick.{pick};
-ghost use Rattle.format.specs.Numbers.{none, last-round};
+ghost use Rattle.format.specs.Numbers.{none};
+ghost use Rattle.format.specs.Present.{last-round};
 ghost use Rattle.station.specs.Machine.{first-value as FirstValue, vote-value as VoteValue, carried as Carried, decision-after, decision-at, closes as Closes};
-ghost use Rattle.station.specs.Words.{held-in, sites};
+ghost use Rattle.station.specs.Present.{held-in, sites};
 ghost use Rattle.ending.specs.After.{round-after, second-group, inits-next, proposals-next, votes-next, next-by};
 
 // The kept group that stands in a certificate: none, or the one for a value, which in round 1 is INITs, or the one for a none vote.

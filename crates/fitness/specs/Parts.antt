@@ -7,14 +7,13 @@ use lib.Dec.{eqb, leb}
 use lib.ListN.{getD}
 use borrow.Author.Tests.{leb-true, not-true, not-false}
 use Rattle.laws.specs.Bools.{both}
-use Rattle.format.specs.Numbers.{none, most-stations, statement-words}
-use Rattle.format.specs.Group.{size-fits}
+use Rattle.format.specs.Numbers.{none}
+use Rattle.format.specs.Present.{most-stations, statement-words, size-fits}
 use Rattle.modules.specs.declared.Module.{Module}
-use Rattle.modules.specs.Counter.{module-fits}
+use Rattle.modules.specs.Present.{module-fits}
 use Rattle.station.specs.declared.Station.{Station}
 use Rattle.station.specs.Machine.{stage-step, kept-for-value, kept-for-none}
-use Rattle.station.specs.Words.{held-by}
-use Rattle.station.specs.Fit.{stage-fits, group-fits, held-fits, rest-fits, fits}
+use Rattle.station.specs.Present.{held-by, stage-fits, group-fits, held-fits, rest-fits, fits}
 use Rattle.held_fitness.specs.Parts.{held-words-fit}
 use Rattle.kept_fitness.specs.Parts.{groups-fit}
 
@@ -39,11 +38,11 @@ module _ (n number : ℕ) (t : Station) where
       let g = group-fits n (t .identity .question) (kept-for-value n (t .stage) (held-by t)) (t .groups .value) in
       let h = group-fits n (t .identity .question) (kept-for-none n (t .stage) (held-by t)) (t .groups .none) in
       rw (p, q, r, e, w)
-      (λ i. held-fits n number t && and-assoc (stage-fits (t .stage) (getD (t .held .slots) ((number - 1) * 10) 0)) (leb (t .decision) none) g h i)
+      (λ i. held-fits n number t && and-assoc (stage-fits (t .stage) (getD (t .held .slots) ((number - 1) * statement-words) 0)) (leb (t .decision) none) g h i)
 
   pub whole : (a : Bool) → a ≡ words-fit n number t
       → (eqb (t .identity .n) n && eqb (t .identity .station) number && (t .closed || a)) ≡ fits n number t
-  unfolding words-fit fits
+  unfolding words-fit Rattle.station.specs.Fit.fits
   whole a e = rw e
 
 module _ (m : Module) (r : Bool) (e : r ≡ module-fits m) where
@@ -53,7 +52,7 @@ module _ (m : Module) (r : Bool) (e : r ≡ module-fits m) where
       let s = both (leb 2 (m .n)) _ (p .0) in
       let g = both (leb 1 (m .station)) _ (p .1) in
       let a : m .station ≤ m .n = leb-true _ _ (g .1) in
-      let b : m .n ≤ 31 = leb-true _ _ (s .1) in
+      let b : m .n ≤ most-stations = leb-true _ _ (s .1) in
       (leb-true _ _ (g .0), omega (arith, a, b), p .0)
 
   pub refused : (b : Bool) → not r ≡ true → false ≡ (module-fits m && b)

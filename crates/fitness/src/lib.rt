@@ -10,11 +10,10 @@ use station::Station;
 ghost use mathlib.Core.Path.{_≡_};
 ghost use mathlib.Core.Bool.{true, _&&_};
 ghost use Prim.Native.Nat.{_≤_};
-ghost use Rattle.format.specs.Numbers.{most-stations};
-ghost use Rattle.format.specs.Group.{size-fits};
-ghost use Rattle.modules.specs.Counter.{module-fits};
+ghost use Rattle.format.specs.Present.{most-stations, size-fits};
+ghost use Rattle.modules.specs.Present.{module-fits};
 ghost use Rattle.station.specs.Machine.{stage-step};
-ghost use Rattle.station.specs.Fit.{stage-fits, fits};
+ghost use Rattle.station.specs.Present.{stage-fits, fits};
 ghost use Rattle.fitness.specs.Parts.{words-fit};
 
 // The step of a stage.

@@ -4,9 +4,8 @@ use mathlib.Core.Bool.{Bool, true, _&&_}
 use mathlib.Core.List.{List, [], _∷_, _++_}
 use lib.Dec.{eqb, leb}
 use lib.ListN.{getD, length, drop}
-use Rattle.format.specs.Numbers.{most-statements, statement-words, bundle-words, place-of}
-use Rattle.format.specs.Words.{formed}
-use Rattle.format.specs.Statement.{Statement, statement, statements, fields-at, written}
+use Rattle.format.specs.Form.{Form, most-statements, head-bits, fields-at, statement-words, bundle-words}
+use Rattle.format.specs.Statement.{Statement, formed, statement, statements, written}
 
 -- "a head word (bits 31..30 are 3, bits 29..16 zero, bits 15..0 the count of certificate statements, 0 to 32)"
 abbrev pub head-mark : ℕ
@@ -15,48 +14,50 @@ head-mark = 3
 abbrev pub mark-bit : ℕ
 mark-bit = 30
 
-abbrev pub zero-bits : ℕ
-zero-bits = 14
+abbrev pub middle-bits : ℕ
+middle-bits = 14
 
 abbrev pub count-bits : ℕ
 count-bits = 16
 
-abbrev pub head-fits : ℕ → Bool
-head-fits h = eqb (h / 2 ^ mark-bit) head-mark && eqb (h / 2 ^ count-bits % 2 ^ zero-bits) 0 && leb (h % 2 ^ count-bits) most-statements
-
 abbrev pub count-in : List ℕ → ℕ
 count-in ws = getD ws 0 0 % 2 ^ count-bits
-
--- "It has 1 + 10 × (1 + count) words, at most 331."
-unfoldable pub laid-out : List ℕ → Bool
-laid-out ws = head-fits (getD ws 0 0) && eqb (length ws) (bundle-words (count-in ws))
-
--- "one main statement, then the certificate"
-abbrev pub main-of : List ℕ → Statement
-main-of ws = statement ws (place-of 0)
-
-abbrev pub certificate-of : List ℕ → List Statement
-certificate-of ws = statements ws (place-of 1) (count-in ws)
-
--- k statements from a place on, each with its fields in place
-unfoldable pub all-formed : ℕ → List ℕ → ℕ → ℕ → Bool
-all-formed n ws at zero = true
-all-formed n ws at (suc k) = formed n (fields-at ws at) && all-formed n ws (at + statement-words) k
-
--- the words are a bundle, and its statements are well-formed
-unfoldable pub bundle-fits : ℕ → List ℕ → Bool
-bundle-fits n ws = laid-out ws && all-formed n ws (place-of 0) (suc (count-in ws))
-
--- ---- writing
--- statements, one behind the other
-unfoldable pub all-written : List Statement → List ℕ
-all-written [] = []
-all-written (s ∷ c) = written s ++ all-written c
-
--- "a head word, one main statement, then the certificate"
-unfoldable pub bundle-of : Statement → List Statement → List ℕ
-bundle-of s c = (head-mark * 2 ^ mark-bit + length c) ∷ (written s ++ all-written c)
 
 -- "words behind the bundle are untouched"
 abbrev pub over : List ℕ → List ℕ → List ℕ
 over ws out = ws ++ drop (length ws) out
+
+module _ (form : Form) where
+  -- the head in a form: bits 29..16 are as it says, zero in the first
+  abbrev pub head-fits : ℕ → Bool
+  head-fits h = eqb (h / 2 ^ mark-bit) head-mark && eqb (h / 2 ^ count-bits % 2 ^ middle-bits) (head-bits form) && leb (h % 2 ^ count-bits) (most-statements form)
+
+  -- "It has 1 + 10 × (1 + count) words, at most 331.": so in the first form
+  unfoldable pub laid-out : List ℕ → Bool
+  laid-out ws = head-fits (getD ws 0 0) && eqb (length ws) (bundle-words form (count-in ws))
+
+  -- "one main statement, then the certificate"
+  abbrev pub main-of : List ℕ → Statement
+  main-of ws = statement form ws 1
+
+  abbrev pub certificate-of : List ℕ → List Statement
+  certificate-of ws = statements form ws (1 + statement-words form) (count-in ws)
+
+  -- k statements from a place on, each with its fields in place
+  unfoldable pub all-formed : ℕ → List ℕ → ℕ → ℕ → Bool
+  all-formed n ws at zero = true
+  all-formed n ws at (suc k) = formed form n (fields-at form ws at) && all-formed n ws (at + statement-words form) k
+
+  -- the words are a bundle, and its statements are well-formed
+  unfoldable pub bundle-fits : ℕ → List ℕ → Bool
+  bundle-fits n ws = laid-out ws && all-formed n ws 1 (suc (count-in ws))
+
+  -- ---- writing
+  -- statements, one behind the other
+  unfoldable pub all-written : List Statement → List ℕ
+  all-written [] = []
+  all-written (s ∷ c) = written form s ++ all-written c
+
+  -- "a head word, one main statement, then the certificate"
+  unfoldable pub bundle-of : Statement → List Statement → List ℕ
+  bundle-of s c = (head-mark * 2 ^ mark-bit + head-bits form * 2 ^ count-bits + length c) ∷ (written form s ++ all-written c)

@@ -1,18 +1,13 @@
 -- The group and its thresholds, for any n, with the laws that they are chosen for.
 use mathlib.Core.Path.{_≡_, refl}
-use mathlib.Core.Bool.{Bool, true, false, not, _&&_}
+use mathlib.Core.Bool.{Bool, true, false, not}
 use mathlib.Core.List.{List, [], _∷_}
 use Prim.Native.Nat.{ℕ, _+_, _-_, _*_, _/_, _≤_, _<_}
 use native.Mathlib.Omega.{arith}
-use lib.Dec.{leb, eqb}
+use lib.Dec.{eqb}
 use Rattle.laws.specs.Pick.{pick}
-use Rattle.format.specs.Numbers.{least-stations, most-stations}
 use Rattle.laws.specs.All.{All}
 use Rattle.laws.specs.Count.{count, Shared, meet, count-not}
-
--- "A group has n stations, 2 to 31, numbered 1 to n."
-abbrev pub size-fits : ℕ → Bool
-size-fits n = leb least-stations n && leb n most-stations
 
 -- "At most (n − 1)/2 rounded down are faulty."
 abbrev pub most-faulty : ℕ → ℕ

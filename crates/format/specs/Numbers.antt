@@ -1,5 +1,5 @@
--- The numbers of document 01: kinds, values, flags, limits, and the table of returns.
-use Prim.Native.Nat.{ℕ, _+_, _*_}
+-- The numbers of document 01 that no form of the words changes: kinds, values, flags, the smallest group, the words of a code, and the table of returns.
+use Prim.Native.Nat.{ℕ}
 
 -- "bits 31..30 kind (0 INIT, 1 P, 2 V; 3 never)"
 abbrev pub kind-INIT : ℕ
@@ -26,36 +26,9 @@ R-GET = 1
 abbrev pub least-stations : ℕ
 least-stations = 2
 
-abbrev pub most-stations : ℕ
-most-stations = 31
-
--- "round 1 to 65,535"
-abbrev pub last-round : ℕ
-last-round = 65535
-
--- "the count of certificate statements, 0 to 32"
-abbrev pub most-statements : ℕ
-most-statements = 32
-
--- "A statement has 10 words."
-abbrev pub statement-words : ℕ
-statement-words = 10
-
--- "over the 8 bytes of words 0 and 1": the words that a code covers, the first of a statement
-abbrev pub covered-words : ℕ
-covered-words = 2
-
 -- "Words 2 to 9: the code", behind the covered words
 abbrev pub code-words : ℕ
 code-words = 8
-
--- "A bundle is a head word …, one main statement, then the certificate": where its statement k begins, the main statement being statement 0
-abbrev pub place-of : ℕ → ℕ
-place-of k = 1 + k * statement-words
-
--- "It has 1 + 10 × (1 + count) words"
-abbrev pub bundle-words : ℕ → ℕ
-bundle-words count = 1 + statement-words * (1 + count)
 
 -- the table of returns
 abbrev pub valid : ℕ
@@ -111,7 +84,3 @@ station-closed = 11
 
 abbrev pub not-above : ℕ
 not-above = 12
-
--- "lent output below 331 words"
-abbrev pub output-words : ℕ
-output-words = bundle-words most-statements

@@ -2,8 +2,9 @@
 ghost use mathlib.Core.Path.{_≡_};
 ghost use Prim.Native.Nat.{_+_, _/_};
 ghost use lib.ListN.{getD};
-ghost use Rattle.format.specs.Group.{size-fits as SizeFits, quorum as Quorum, backing as Backing};
-ghost use Rattle.format.specs.Words.{fields-of, word-of, formed, step-in};
+ghost use Rattle.format.specs.Group.{quorum as Quorum, backing as Backing};
+ghost use Rattle.format.specs.Words.{fields-of, word-of, step-in};
+ghost use Rattle.format.specs.Present.{size-fits as SizeFits, formed};
 
 // "Group: n from 2 to 31", "round 1 to 65,535".
 pub const LEAST_STATIONS: u32 = 2;

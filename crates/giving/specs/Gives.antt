@@ -5,13 +5,14 @@ use mathlib.Core.List.{List}
 use lib.Count.{ones}
 use lib.Dec.{ltb}
 use Rattle.laws.specs.Pick.{pick}
-use Rattle.format.specs.Numbers.{kept, closed-now, last-round}
+use Rattle.format.specs.Numbers.{kept, closed-now}
 use Rattle.format.specs.Group.{quorum}
+use Rattle.format.specs.Present.{last-round}
 use Rattle.modules.specs.declared.Module.{Module}
 use Rattle.station.specs.declared.Station.{Station}
 use Rattle.station.specs.Machine.{closes, decision-at}
-use Rattle.station.specs.Words.{empty-station, held-by}
 use Rattle.station.specs.Calls.{Returned}
+use Rattle.station.specs.Present.{empty-station, held-by}
 use Rattle.ending.specs.After.{next-by}
 use Rattle.moving.specs.Moves.{with-no-bundle, moving}
 

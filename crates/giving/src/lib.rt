@@ -3,8 +3,8 @@ use modules::Module;
 use station::Station;
 ghost use mathlib.Core.Path.{_≡_};
 ghost use Rattle.hmac.specs.Code.{hmac-code};
-ghost use Rattle.station.specs.Calls.{giving};
 ghost use Rattle.station.specs.Answers.{Answers};
+ghost use Rattle.station.specs.Present.{giving};
 ghost use Rattle.jumping.specs.Jumps.{jumping};
 ghost use Rattle.giving.specs.Gives.{ending-words, after-words};
 

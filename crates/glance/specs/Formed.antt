@@ -6,7 +6,8 @@ use native.Mathlib.Omega.{arith}
 use lib.Dec.{eqb, leb}
 use borrow.Author.Tests.{eqb-true, eqb-false, le-leb}
 use Rattle.laws.specs.Bools.{never, both, or-nothing}
-use Rattle.format.specs.Words.{spare-of, station-of, round-of, fields-of, of-group, shaped, formed}
+use Rattle.format.specs.Words.{spare-of, station-of, round-of, fields-of, of-group}
+use Rattle.format.specs.Present.{shaped, formed}
 
 -- bits 31..27 of a word: kind, value and flag
 abbrev pub top : ℕ → ℕ
@@ -71,7 +72,7 @@ by-round k r low high = go (eqb r 0) refl
 
 pub formed-word : (n w : ℕ) → w < 2 ^ 32
     → (eqb (spare-of w) 0 && (of-group n (station-of w) && ((eqb (round-of w) 0 && of-init (top w)) || (leb 1 (round-of w) && of-later (top w))))) ≡ formed n (fields-of w)
-unfolding formed fields-of
+unfolding Rattle.format.specs.Statement.formed fields-of
 formed-word n w h =
     let a : w / 2 ^ 30 ≡ w / 2 ^ 27 / 8 = omega arith in
     let b : w / 2 ^ 28 % 4 ≡ w / 2 ^ 27 / 2 % 4 = omega arith in

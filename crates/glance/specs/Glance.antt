@@ -10,10 +10,9 @@ use lib.ListN.{length, getD}
 use borrow.Author.Tests.{leb-true, leb-false, not-true}
 use Rattle.laws.specs.Pick.{pick}
 use Rattle.laws.specs.Bools.{both, or-nothing}
-use Rattle.format.specs.Numbers.{place-of, statement-words}
 use Rattle.format.specs.declared.Fields.{Fields}
-use Rattle.format.specs.Words.{station-of, fields-of, formed}
-use Rattle.format.specs.Statement.{fields-at}
+use Rattle.format.specs.Words.{station-of, fields-of}
+use Rattle.format.specs.Present.{place-of, statement-words, formed, fields-at}
 use Rattle.rules.specs.declared.Group.{Group}
 use Rattle.walk.specs.declared.Findings.{Findings}
 use Rattle.walk.specs.Walk.{noted, turned, walked, answer}

@@ -5,7 +5,8 @@ use format::STATEMENT_WORDS;
 use format::STATION;
 use walk::Findings;
 ghost use mathlib.Core.Path.{_≡_};
-ghost use Rattle.format.specs.Words.{fields-of, formed};
+ghost use Rattle.format.specs.Words.{fields-of};
+ghost use Rattle.format.specs.Present.{formed};
 ghost use Rattle.walk.specs.Walk.{answer};
 ghost use Rattle.glance.specs.Glance.{glanced, left};
 

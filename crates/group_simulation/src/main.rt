@@ -21,7 +21,7 @@ use station::Station;
 ghost use mathlib.Core.Path.{_≡_};
 ghost use Prim.Native.Nat.{_+_, _*_, _≤_, _<_};
 ghost use lib.ListN.{length};
-ghost use Rattle.format.specs.Numbers.{most-stations, output-words};
+ghost use Rattle.format.specs.Present.{most-stations, output-words};
 
 // The sites of the largest group.
 const SITES: usize = format::MOST_STATIONS as usize;

@@ -6,11 +6,11 @@ use lib.Count.{ones}
 use lib.Dec.{ltb}
 use Rattle.laws.specs.Count.{one-if}
 use Rattle.laws.specs.Sets.{bit}
-use Rattle.format.specs.Numbers.{statement-words}
-use Rattle.format.specs.Statement.{Statement, statement}
+use Rattle.format.specs.Statement.{Statement}
+use Rattle.format.specs.Present.{statement-words, statement}
 use Rattle.rules.specs.declared.Which.{Which}
 use Rattle.rules.specs.Rules.{which}
-use Rattle.station.specs.Words.{sites}
+use Rattle.station.specs.Present.{sites}
 
 -- of m numbers from i on, those that a test takes, as the bits of a word: the lowest is that of i
 unfoldable pub gathered : (ℕ → Bool) → ℕ → ℕ → ℕ

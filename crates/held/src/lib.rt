@@ -19,7 +19,7 @@ ghost use Rattle.laws.specs.Count.{one-if};
 ghost use Rattle.format.specs.Numbers.{D-GET, R-GET};
 ghost use Rattle.laws.specs.Sets.{bit};
 ghost use Rattle.station.specs.Machine.{supplies-for-value, supplies-for-none};
-ghost use Rattle.station.specs.Words.{empty-station, sites};
+ghost use Rattle.station.specs.Present.{empty-station, sites};
 ghost use Rattle.held.specs.Scan.{such, scan as Scan, lowest as Lowest};
 
 // The first set with a bit behind that of the last station.

@@ -10,9 +10,9 @@ use lib.Dec.{ltb}
 use Rattle.laws.specs.Pick.{pick, and-pick}
 use Rattle.laws.specs.Sets.{bit}
 use Rattle.format.specs.Group.{quorum}
-use Rattle.format.specs.Numbers.{statement-words}
-use Rattle.station.specs.Words.{sites}
-use Rattle.station.specs.Fit.{zeros, slot-fits, slots-fit}
+use Rattle.format.specs.Present.{statement-words}
+use Rattle.station.specs.Fit.{zeros}
+use Rattle.station.specs.Present.{sites, slot-fits, slots-fit}
 
 -- a slot is as its bit says
 unfoldable pub slot-right : ℕ → ℕ → ℕ → ℕ → List ℕ → ℕ → Bool
@@ -26,7 +26,7 @@ held-words-fit n i question step set slots =
 module _ (n question step set : ℕ) (slots : List ℕ) where
   pub slots-turn : (i : ℕ) → i < sites
       → slots-fit n question step set slots i (sites - i) ≡ pick (not (slot-right n question step set slots i)) false (slots-fit n question step set slots (i + 1) (sites - (i + 1)))
-  unfolding slots-fit slot-right
+  unfolding Rattle.station.specs.Fit.slots-fit slot-right
   slots-turn i h =
       let e : sites - i ≡ suc (sites - (i + 1)) = omega arith in
       let r : Bool = slot-right n question step set slots i in
@@ -35,7 +35,7 @@ module _ (n question step set : ℕ) (slots : List ℕ) where
       ∙ ap (λ (j : ℕ). pick (not r) false (slots-fit n question step set slots j (sites - (i + 1)))) (sym (add-one i)))
 
   pub slots-end : (i : ℕ) → sites ≤ i → true ≡ slots-fit n question step set slots i (sites - i)
-  unfolding slots-fit
+  unfolding Rattle.station.specs.Fit.slots-fit
   slots-end i h =
       let e : sites - i ≡ 0 = omega arith in
       rw e

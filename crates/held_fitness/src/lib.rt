@@ -5,9 +5,9 @@ use format::Step;
 use station::SLOTS_WORDS;
 ghost use mathlib.Core.Path.{_≡_};
 ghost use Prim.Native.Nat.{_*_, _<_};
-ghost use Rattle.format.specs.Numbers.{statement-words};
-ghost use Rattle.station.specs.Words.{sites};
-ghost use Rattle.station.specs.Fit.{zeros, slot-fits, slots-fit};
+ghost use Rattle.format.specs.Present.{statement-words};
+ghost use Rattle.station.specs.Fit.{zeros};
+ghost use Rattle.station.specs.Present.{sites, slot-fits, slots-fit};
 ghost use Rattle.held_fitness.specs.Parts.{slot-right, held-words-fit};
 
 // Whether the ten words of slot i are zero.

@@ -6,8 +6,9 @@ use lib.Dec.{eqb}
 use lib.ListN.{length, getD}
 use Rattle.laws.specs.Pick.{pick}
 use Rattle.format.specs.declared.Fields.{Fields}
-use Rattle.format.specs.Numbers.{kind-P, R-GET, jumped, not-above, place-of}
+use Rattle.format.specs.Numbers.{kind-P, R-GET, jumped, not-above}
 use Rattle.format.specs.Words.{fields-of, step-of}
+use Rattle.format.specs.Present.{place-of}
 use Rattle.modules.specs.declared.Module.{Module}
 use Rattle.modules.specs.Counter.{above, last-for}
 use Rattle.station.specs.declared.Stage.{Stage}

@@ -11,21 +11,21 @@ use Rattle.laws.specs.Pick.{pick, skip}
 use Rattle.laws.specs.Bools.{join}
 use Rattle.laws.specs.Sets.{bit}
 use Rattle.laws.specs.All.{All}
-use Rattle.format.specs.Numbers.{most-statements, most-stations}
+use Rattle.format.specs.Form.{present-form}
 use Rattle.format.specs.Group.{quorum}
-use Rattle.format.specs.Statement.{Statement, statements}
-use Rattle.format.specs.Bundle.{main-of, certificate-of, all-formed, bundle-of}
+use Rattle.format.specs.Statement.{Statement}
 use Rattle.rules.specs.declared.Group.{Group}
 use Rattle.certificate.specs.Check.{every}
 use Rattle.station.specs.declared.Stage.{Stage}
 use Rattle.station.specs.declared.Station.{Station}
 use Rattle.rules.specs.Rules.{some, holds, in-order}
 use Rattle.station.specs.Machine.{State, stage-step, keeping, insert, held-of, began, supplies-for-value, supplies-for-none, kept-for-value, kept-for-none, no-group}
-use Rattle.station.specs.Words.{empty-station, state-of, held-in, held-by, Lengths, kept-words, slots-words}
-use Rattle.station.specs.Words as W
+use Rattle.station.specs.Present as W
 use Rattle.format.specs.Laws.ReadBack.{Proper}
+use Rattle.format.specs.Present.{most-statements, most-stations, statements, main-of, certificate-of, bundle-of}
 use Rattle.station.specs.Laws.Bundles.{main-is, certificate-is, bundle-there}
-use Rattle.station.specs.Fit.{slots-fit, zeros, group-fits}
+use Rattle.station.specs.Fit.{zeros}
+use Rattle.station.specs.Present.{empty-station, state-of, held-in, held-by, kept-words, slots-words, slots-fit, group-fits, Lengths}
 use Rattle.laws.specs.Below.{Below}
 use Rattle.held.specs.Laws.Sets.{no-bit}
 use Rattle.keeping.specs.Laws.One.{LowWords, Fit}
@@ -58,18 +58,18 @@ zeros-there m zero at = refl
 zeros-there m (suc k) at = join (eqb (getD (replicate m 0) at 0) 0) _ (eq-eqb _ 0 (zero-at m at)) (zeros-there m k (suc at))
 
 none-held : (slots : List ℕ) (k i : ℕ) → held-in 0 slots i k ≡ []
-unfolding held-in
+unfolding Rattle.station.specs.Words.held-in
 none-held slots zero i = refl
 none-held slots (suc k) i = sym (skip _ _ _ _ (no-bit i) refl) ∙ none-held slots k (suc i)
 
 none-fit : (n question st k i : ℕ) → slots-fit n question st 0 (replicate slots-words 0) i k ≡ true
-unfolding slots-fit
+unfolding Rattle.station.specs.Fit.slots-fit
 none-fit n question st zero i = refl
 none-fit n question st (suc k) i =
     join (pick (bit 0 i) _ _) _ (sym (skip _ _ _ _ (no-bit i) refl) ∙ zeros-there 310 10 (i * 10)) (none-fit n question st k (suc i))
 
 no-group-fits : (n question : ℕ) → group-fits n question no-group (replicate kept-words 0) ≡ true
-unfolding holds in-order all-formed statements every
+unfolding holds in-order Rattle.format.specs.Bundle.all-formed Rattle.format.specs.Statement.statements every
 no-group-fits n question = zeros-there 160 160 0
 
 module _ (n number question : ℕ) (jump : Bool) (g : Stage) (d : ℕ) where
@@ -106,7 +106,7 @@ module _ (n number question : ℕ) (jump : Bool) (g : Stage) (d : ℕ) where
       }
 
   blank-state : state-of (blank n number question jump g d) ≡ empty question jump g d
-  unfolding blank state-of statements
+  unfolding blank Rattle.station.specs.Words.state-of Rattle.format.specs.Statement.statements
   blank-state =
       λ i.
       record {
@@ -140,15 +140,15 @@ module _ (n number question : ℕ) (jump : Bool) (g : Stage) (d : ℕ) where
         for-none = group-kept (supplies-for-none g s) (take (quorum n) c) i;
       }
 
-  pub begun : (s : Statement) (c : List Statement) → n ≤ most-stations → Proper n s → All (Proper n) c → length c ≤ most-statements → Below (bundle-of s c)
+  pub begun : (s : Statement) (c : List Statement) → n ≤ most-stations → Proper present-form n s → All (Proper present-form n) c → length c ≤ most-statements → Below (bundle-of s c)
       → with-bundle (blank n number question jump g d) (bundle-of s c) ≡ W.as-station n number (began n question jump g d s c)
-  unfolding bundle-of some
+  unfolding Rattle.format.specs.Bundle.bundle-of some
   begun s c top p a few low =
-      kept-is n number (blank n number question jump g d) (bundle-of s c) top blank-lengths blank-low low blank-fit (bundle-there n s c top p a few) new
+      kept-is n number (blank n number question jump g d) (bundle-of s c) top blank-lengths blank-low low blank-fit (bundle-there present-form n s c top p a few) new
       ∙ ap (W.as-station n number)
       (ap (λ (t : State). keeping n t (main-of (bundle-of s c)) (certificate-of (bundle-of s c))) blank-state
-      ∙ ap (λ (m : Statement). keeping n (empty question jump g d) m (certificate-of (bundle-of s c))) (main-is n s c top p a few)
-      ∙ ap (keeping n (empty question jump g d) s) (certificate-is n s c top p a few)
+      ∙ ap (λ (m : Statement). keeping n (empty question jump g d) m (certificate-of (bundle-of s c))) (main-is present-form n s c top p a few)
+      ∙ ap (keeping n (empty question jump g d) s) (certificate-is present-form n s c top p a few)
       ∙ state-begun s c)
     where
       new : held-of (main-of (bundle-of s c) .station) (held-by (blank n number question jump g d)) ≡ false

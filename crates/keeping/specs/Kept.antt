@@ -7,16 +7,16 @@ use lib.ListN.{length, getD, take, drop, replicate}
 use lib.Seq.{paste}
 use Rattle.laws.specs.Pick.{pick}
 use Rattle.laws.specs.Sets.{bit}
-use Rattle.format.specs.Numbers.{most-stations, statement-words, place-of}
 use Rattle.format.specs.Group.{quorum}
-use Rattle.format.specs.Statement.{Statement, fields-at}
+use Rattle.format.specs.Statement.{Statement}
+use Rattle.format.specs.Present.{most-stations, statement-words, place-of, fields-at}
 use Rattle.laws.specs.Least.{least}
 use Rattle.station.specs.declared.Stage.{Stage}
 use Rattle.station.specs.declared.Held.{Held}
 use Rattle.station.specs.declared.Groups.{Groups}
 use Rattle.station.specs.declared.Station.{Station}
 use Rattle.station.specs.Machine.{supplies-for-value, supplies-for-none}
-use Rattle.station.specs.Words.{kept-words}
+use Rattle.station.specs.Present.{kept-words}
 use Rattle.held.specs.Scan.{scan, lowest}
 
 -- a set with station s's bit; a number that is no station's, or is in the set, changes nothing

@@ -13,8 +13,8 @@ ghost use Prim.Native.Nat.{_+_, _≤_, _<_};
 ghost use lib.ListN.{length, drop};
 ghost use lib.Seq.{paste};
 ghost use Rattle.laws.specs.Pick.{pick};
-ghost use Rattle.station.specs.Words.{slots-words};
-ghost use Rattle.format.specs.Numbers.{place-of, statement-words};
+ghost use Rattle.format.specs.Present.{place-of, statement-words};
+ghost use Rattle.station.specs.Present.{slots-words};
 ghost use Rattle.keeping.specs.Kept.{with-station, with-slot, words-kept, group-from, is-lowest, held-with, groups-with, with-bundle};
 
 // The set with a station's bit, where it is a station's number and the bit is clear.

@@ -10,18 +10,15 @@ use lib.ListN.{getD}
 use borrow.Author.Tests.{leb-true, lt-ltb, not-true, not-false}
 use Rattle.laws.specs.Pick.{here, skip}
 use Rattle.laws.specs.Bools.{both}
-use Rattle.format.specs.Numbers.{most-stations, statement-words}
-use Rattle.format.specs.Group.{size-fits}
 use Rattle.format.specs.declared.Fields.{Fields}
 use Rattle.format.specs.Words.{fields-of}
-use Rattle.format.specs.Statement.{statement}
+use Rattle.format.specs.Present.{most-stations, statement-words, size-fits, statement}
 use Rattle.rules.specs.declared.Group.{Group}
 use Rattle.rules.specs.Rules.{none-votes}
 use Rattle.station.specs.declared.Groups.{Groups}
 use Rattle.station.specs.declared.Stage.{Stage}
 use Rattle.station.specs.Machine.{round-in, supplies-for-value, supplies-for-none, leading, kept-for-value, kept-for-none, value-group, no-group}
-use Rattle.station.specs.Words.{sites, held-in}
-use Rattle.station.specs.Fit.{group-fits}
+use Rattle.station.specs.Present.{sites, held-in, group-fits}
 use Rattle.held.specs.Scan.{scan}
 use Rattle.held.specs.Laws.Held.{scan-some, scan-first}
 
@@ -45,7 +42,7 @@ module _ (n : ℕ) (g : Stage) (set : ℕ) (slots : List ℕ) (found : ℕ) (k :
     unfolding kept-for-value fields-of
     for-value-found f h r q =
         let v : f .value ≡ leading (supplies-for-value g) (held-in set slots 0 sites)
-        = ap (λ (x : Fields). x .value) r ∙ ap (λ (x : ℕ). statement slots (trailingZeros 32 x * 10) .value) e ∙ sym (scan-first (supplies-for-value g) set slots (there h) .1) in
+        = ap (λ (x : Fields). x .value) r ∙ ap (λ (x : ℕ). statement slots (trailingZeros 32 x * statement-words) .value) e ∙ sym (scan-first (supplies-for-value g) set slots (there h) .1) in
         q ∙ ap (value-group n g) v ∙ here _ _ _ (sym (scan-some (supplies-for-value g) set slots) ∙ lt-ltb 0 _ (there h))
 
     pub for-value-missing : found ≡ 0 → k ≡ no-group → k ≡ kept-for-value n g (held-in set slots 0 sites)
@@ -66,7 +63,7 @@ module _ (n : ℕ) (g : Stage) (set : ℕ) (slots : List ℕ) (found : ℕ) (k :
 -- ---- the whole
 module _ (n : ℕ) (r : Bool) (e : r ≡ size-fits n) where
   pub few : not r ≡ false → n ≤ most-stations
-  few h = leb-true n 31 (both (leb 2 n) _ (sym e ∙ not-false r h) .1)
+  few h = leb-true n most-stations (both (leb 2 n) _ (sym e ∙ not-false r h) .1)
 
   pub refused : (b : Bool) → not r ≡ true → false ≡ (size-fits n && b)
   refused b h = rw (sym e ∙ not-true r h)

@@ -11,15 +11,13 @@ ghost use mathlib.Core.Path.{_≡_};
 ghost use mathlib.Core.Bool.{_&&_};
 ghost use Prim.Native.Nat.{_-_, _*_, _≤_};
 ghost use lib.Dec.{eqb};
-ghost use Rattle.format.specs.Numbers.{statement-words};
-ghost use Rattle.format.specs.Group.{size-fits, quorum};
-ghost use Rattle.format.specs.Statement.{statements};
-ghost use Rattle.format.specs.Bundle.{all-formed};
+ghost use Rattle.format.specs.Group.{quorum};
+ghost use Rattle.format.specs.Present.{statement-words, size-fits, statements, all-formed};
 ghost use Rattle.rules.specs.Rules.{holds};
 ghost use Rattle.certificate.specs.Check.{every};
 ghost use Rattle.station.specs.Machine.{round-in, no-group, value-group, kept-for-value as KeptForValue, kept-for-none as KeptForNone};
-ghost use Rattle.station.specs.Words.{held-in, sites, kept-words};
-ghost use Rattle.station.specs.Fit.{zeros, group-fits};
+ghost use Rattle.station.specs.Fit.{zeros};
+ghost use Rattle.station.specs.Present.{held-in, sites, kept-words, group-fits};
 ghost use Rattle.kept_fitness.specs.Parts.{groups-fit};
 
 // The group that asks for nothing.

@@ -9,10 +9,11 @@ use lib.Dec.{eqb}
 use Rattle.laws.specs.Count.{count}
 use Rattle.format.specs.Numbers.{kind-P, kind-V, none, D-GET}
 use Rattle.format.specs.Group.{backing}
-use Rattle.agreement.specs.Demand.{opens, codes, Call, call, proposed, log, Sound, JumpOff, Decides}
+use Rattle.agreement.specs.Demand.{opens, codes, Call, call}
 use Rattle.agreement.specs.Computed.{computes, off-out}
 use Rattle.agreement.specs.Example.{toy, out, give, bundle, lent, of-3}
 use Rattle.agreement.specs.Unbacked.{unbacked-none, facts, Unbacked, unbacked, enough-0}
+use Rattle.agreement.specs.Present.{proposed, log, Sound, JumpOff, Decides}
 
 -- ---- the list
 -- 20, 20: sites 1 and 2 open on question 1 with 1, site 2 with jump on

@@ -5,14 +5,15 @@ use mathlib.Core.List.{List}
 use mathlib.Core.Path.{_≡_}
 use Rattle.laws.specs.Pick.{pick}
 use Rattle.format.specs.Numbers.{out-of-range}
-use Rattle.format.specs.Group.{size-fits}
 use Rattle.format.specs.Words.{of-group}
-use Rattle.modules.specs.Counter.{making, fresh, no-module}
+use Rattle.format.specs.Present.{size-fits}
+use Rattle.modules.specs.Counter.{fresh, no-module}
+use Rattle.modules.specs.Present.{making}
 
 pub makes : (key : List ℕ) (n number : ℕ) → (size-fits n && of-group n number) ≡ true → making key n number ≡ record { number = 0; made = fresh key n number }
-unfolding making pick
+unfolding Rattle.modules.specs.Counter.making pick
 makes key n number h = rw h
 
 pub makes-none : (key : List ℕ) (n number : ℕ) → (size-fits n && of-group n number) ≡ false → making key n number ≡ record { number = out-of-range; made = no-module }
-unfolding making pick
+unfolding Rattle.modules.specs.Counter.making pick
 makes-none key n number h = rw h

@@ -5,8 +5,8 @@ use mathlib.Core.List.{List}
 use lib.Dec.{eqb, ltb}
 use lib.ListN.{replicate}
 use Rattle.laws.specs.Pick.{pick}
+use Rattle.format.specs.Form.{Form, size-fits}
 use Rattle.format.specs.Numbers.{out-of-range}
-use Rattle.format.specs.Group.{size-fits}
 use Rattle.format.specs.Words.{of-group}
 use Rattle.modules.specs.declared.Last.{Last}
 use Rattle.modules.specs.declared.Module.{Module}
@@ -31,11 +31,7 @@ last-for m question = m .last
 abbrev pub advanced : Module → ℕ → ℕ → Module
 advanced m question step = record { key = m .key; n = m .n; station = m .station; last = pair question step }
 
--- a module whose n and station number are in range: 2 is returned for any other
-abbrev pub module-fits : Module → Bool
-module-fits m = size-fits (m .n) && of-group (m .n) (m .station)
-
--- ---- making: "Making a module tests 2."
+-- ---- making
 pub record Made : Type 0 where
   pub number : ℕ
   pub made : Module
@@ -47,6 +43,12 @@ fresh key n number = record { key = key; n = n; station = number; last = no-pair
 abbrev pub no-module : Module
 no-module = fresh (replicate 32 0) 0 0
 
-unfoldable pub making : List ℕ → ℕ → ℕ → Made
-making key n number =
-    pick (size-fits n && of-group n number) (record { number = 0; made = fresh key n number }) (record { number = out-of-range; made = no-module })
+module _ (form : Form) where
+  -- a module whose n and station number are in range: 2 is returned for any other
+  abbrev pub module-fits : Module → Bool
+  module-fits m = size-fits form (m .n) && of-group (m .n) (m .station)
+
+  -- "Making a module tests 2."
+  unfoldable pub making : List ℕ → ℕ → ℕ → Made
+  making key n number =
+      pick (size-fits form n && of-group n number) (record { number = 0; made = fresh key n number }) (record { number = out-of-range; made = no-module })

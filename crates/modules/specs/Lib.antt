@@ -1,2 +1,3 @@
 pub mod Counter
 pub mod Above
+pub mod Present

@@ -4,7 +4,8 @@ use format::LEAST_STATIONS;
 use format::MOST_STATIONS;
 use format::Step;
 ghost use mathlib.Core.Path.{_≡_};
-ghost use Rattle.modules.specs.Counter.{above, last-for, module-fits, making};
+ghost use Rattle.modules.specs.Counter.{above, last-for};
+ghost use Rattle.modules.specs.Present.{module-fits, making};
 
 // The last pair that a module coded, or none.
 pub struct Last {

@@ -6,16 +6,17 @@ use mathlib.Core.List.{List, _∷_}
 use mathlib.Core.Path.{_≡_}
 use lib.ListN.{replicate}
 use Rattle.laws.specs.Count.{count}
-use Rattle.format.specs.Numbers.{none, last-round, output-words, least-stations, most-stations}
+use Rattle.format.specs.Numbers.{none, least-stations}
 use Rattle.format.specs.Group.{quorum}
 use Rattle.format.specs.Statement.{step}
-use Rattle.format.specs.Bundle.{main-of}
+use Rattle.format.specs.Present.{last-round, output-words, most-stations, main-of}
 use Rattle.modules.specs.Counter.{last-for}
 use Rattle.station.specs.declared.Station.{Station}
 use Rattle.station.specs.Machine.{round-in, stage-step}
 use Rattle.station.specs.Returns.{unrefused, wrote}
 use Rattle.station.specs.Demand.{message}
-use Rattle.agreement.specs.Demand.{Call, call, gives, site, modules, answer, Presents, Sound, FewFaulty, Given, Decides}
+use Rattle.agreement.specs.Demand.{Call, call, gives, site}
+use Rattle.agreement.specs.Present.{modules, answer, Presents, Sound, FewFaulty, Given, Decides}
 
 -- the lent output of the givings that the list goes on by
 abbrev pub room : List ℕ

@@ -7,19 +7,21 @@ use mathlib.Core.List.{List, [], _∷_, _++_}
 use mathlib.Core.Path.{_≡_, refl, ap}
 use native.Mathlib.Omega.{arith}
 use lib.Dec.{eqb, leb}
-use lib.ListN.{length, take, drop, replicate}
+use lib.ListN.{length, replicate}
 use borrow.Author.Tests.{not-true, eqb-true, leb-true}
 use Rattle.laws.specs.Bools.{both}
 use Rattle.laws.specs.Count.{count}
 use Rattle.format.specs.Numbers.{kind-P, kind-V, none, code-words}
+use Rattle.format.specs.Present.{words-at}
 use Rattle.rules.specs.Rules.{some}
 use Rattle.modules.specs.Counter.{last-for}
 use Rattle.station.specs.Machine.{round-in, has-value}
-use Rattle.station.specs.Words.{state-of}
-use Rattle.agreement.specs.Demand.{opens, gives, codes, Call, call, modules, lineage}
+use Rattle.station.specs.Present.{state-of}
+use Rattle.agreement.specs.Demand.{opens, gives, codes, Call, call}
 use Rattle.agreement.specs.Computed.{computes, last, written, numbers, there, there-out, present, line, given, given-out, sound, sound-out, few, few-out, below, below-out}
 use Rattle.agreement.specs.Example.{toy, out}
 use Rattle.agreement.specs.Unbacked.{both-7}
+use Rattle.agreement.specs.Present.{modules, lineage}
 use Rattle.never_stuck.specs.Claim.{Ready, CanDecide}
 use Rattle.never_stuck.specs.Theorem.{never-stuck-by}
 
@@ -151,7 +153,7 @@ none-voted = call 4 (codes (of-4 kind-V none)) ∷ unbacked
 -- the none vote, with a certificate that mixes the P 0 of sites 1 and 2 with site 4's P 1
 abbrev pub unbacked-none : List ℕ
 unbacked-none =
-    (3 * 2 ^ 30 + 3) ∷ (last toy [] 4 none-voted .lent ++ (take 10 (drop 1 (bundle proposed-1)) ++ (take 10 (drop 1 (bundle proposed-2)) ++ last toy [] 4 unbacked .lent)))
+    (3 * 2 ^ 30 + 3) ∷ (last toy [] 4 none-voted .lent ++ (words-at (bundle proposed-1) 1 ++ (words-at (bundle proposed-2) 1 ++ last toy [] 4 unbacked .lent)))
 
 -- 0: site 1 is given it, and holds it
 abbrev pub unbacked-held : List Call

@@ -9,14 +9,17 @@ use native.Mathlib.Omega.{arith}
 use lib.Dec.{eqb}
 use lib.ListN.{length}
 use borrow.Author.Tests.{eqb-true, eqb-false}
-use Rattle.format.specs.Numbers.{last-round, code-words, least-stations, most-stations}
+use Rattle.format.specs.Form.{present-form}
+use Rattle.format.specs.Numbers.{code-words, least-stations}
+use Rattle.format.specs.Present.{last-round, most-stations}
 use Rattle.hmac.specs.Code.{hmac-code, hmac-eight}
 use Rattle.station.specs.declared.Station.{Station}
 use Rattle.station.specs.Machine.{stage-step}
-use Rattle.station.specs.Words.{state-of}
+use Rattle.station.specs.Present.{state-of}
 use Rattle.agreement.specs.Theorem.{claim}
-use Rattle.agreement.specs.Demand.{Call, log, Decides}
+use Rattle.agreement.specs.Demand.{Call}
 use Rattle.agreement.specs.Laws.Line.{reads}
+use Rattle.agreement.specs.Present.{log, Decides}
 use Rattle.never_stuck.specs.Claim.{Quorate, Waits, Ready, HasDecided, CanDecideByLast, Never-stuck-by-last}
 use Rattle.never_stuck.specs.Theorem.{decides}
 use Rattle.never_stuck.specs.Laws.Spoken.{Premises}
@@ -35,7 +38,7 @@ module _ (mac : List ℕ → List ℕ → List ℕ) (eight : (key ws : List ℕ)
       → HasDecided mac key n cs q (d .station .decision) y
   has-decided cs P y z c d =
       let same : c .station .decision ≡ d .station .decision
-      = claim mac eight key n low top cs (P .given) (P .few) .agreement y z (c .opening) (d .opening) q (c .station .decision) (d .station .decision) (c .waits .sound) (d .waits .sound)
+      = claim present-form mac eight key n low top cs (P .given) (P .few) .agreement y z (c .opening) (d .opening) q (c .station .decision) (d .station .decision) (c .waits .sound) (d .waits .sound)
       (decision y c) (decision z d) in
       record {
         opening = c .opening;
@@ -112,7 +115,7 @@ module _ (mac : List ℕ → List ℕ → List ℕ) (eight : (key ws : List ℕ)
         let A = follow mac eight key n low top q team enough (L .at) f 0 any 0 (L .low) (L .high) (L .of-team) (omega arith) (λ s s' e o. refl) cs P (λ y a b c. sort f L y a (L .under y a b c)) in
         let B = climb mac eight key n low top q team enough (L .at) (2 * r + 1) (L .low) (L .high) (L .of-team) (omega arith) (omega arith) (2 * r + 1) f (omega arith) upto (A .list) (A .premises) (A .each) in
         let v = coin mac eight key n low top q team 0 enough r (B .list) (B .premises) in
-        let C = relay mac eight key n low top q team enough v (coin-low n (reads (log mac key n (B .list))) q r) (L .at) r (L .low) (L .high) (L .of-team) last (B .list) (B .premises)
+        let C = relay mac eight key n low top q team enough v (coin-low n (reads present-form (log mac key n (B .list))) q r) (L .at) r (L .low) (L .high) (L .of-team) last (B .list) (B .premises)
         (λ y a b c. calmed r (B .list) (B .premises) y (B .each y a b c)) in
         then-brought mac eight key n low top q team enough cs (λ c y. Stood mac eight key n low top q team enough c y f any 0) (Names mac eight key n low top q team enough) A
         (then-brought mac eight key n low top q team enough (A .list) (λ c y. Stood mac eight key n low top q team enough c y (2 * r + 1) any 0) (Names mac eight key n low top q team enough) B C)

@@ -8,13 +8,16 @@ use native.Mathlib.Omega.{arith}
 use lib.ListN.{length}
 use Rattle.laws.specs.Bools.{never}
 use Rattle.laws.specs.Count.{meet}
-use Rattle.format.specs.Numbers.{none, last-round, code-words, least-stations, most-stations}
+use Rattle.format.specs.Form.{present-form}
+use Rattle.format.specs.Numbers.{none, code-words, least-stations}
+use Rattle.format.specs.Present.{last-round, most-stations}
 use Rattle.hmac.specs.Code.{hmac-code, hmac-eight}
 use Rattle.station.specs.declared.Station.{Station}
 use Rattle.station.specs.Machine.{stage-step}
 use Rattle.agreement.specs.Theorem.{every-one, claim}
-use Rattle.agreement.specs.Demand.{Call, log, Presents, Sound, FewFaulty, Given, Decides}
+use Rattle.agreement.specs.Demand.{Call}
 use Rattle.agreement.specs.Laws.Line.{reads}
+use Rattle.agreement.specs.Present.{log, Presents, Sound, FewFaulty, Given, Decides}
 use Rattle.never_stuck.specs.Claim.{Quorate, Waits, Ready, Decided, CanDecide, Never-stuck}
 use Rattle.never_stuck.specs.Laws.Spoken.{Premises, Spoke}
 use Rattle.never_stuck.specs.Laws.Heard.{up-of, same-waiting}
@@ -38,14 +41,14 @@ module _ (mac : List ℕ → List ℕ → List ℕ) (eight : (key ws : List ℕ)
       → Decides mac key n cs y k q (t .decision)
   decides cs P q y k t s p asked named =
       subst (λ (z : ℕ). Decides mac key n cs y k z (t .decision)) (ap (λ (u : Station). u .identity .question) (p .now) ∙ asked)
-      (claim mac eight key n low top cs (P .given) (P .few) .names y k (t .decision) (p .line) s (p .is) named (ap (λ (u : Station). u .decision) (p .now)))
+      (claim present-form mac eight key n low top cs (P .given) (P .few) .names y k (t .decision) (p .line) s (p .is) named (ap (λ (u : Station). u .decision) (p .now)))
 
   -- all of them the same
   all-decided : (cs : List Call) → Premises mac key n cs → (q : ℕ) (team : ℕ → Bool) (floor : ℕ) (enough : Quorate n team) (r y z : ℕ) → Done mac eight key n low top q team floor enough cs r y
       → (d : Done mac eight key n low top q team floor enough cs r z) → Decided mac key n cs q r (d .station .decision) y
   all-decided cs P q team floor enough r y z c d =
       let same : c .station .decision ≡ d .station .decision
-      = claim mac eight key n low top cs (P .given) (P .few) .agreement y z (c .opening) (d .opening) q (c .station .decision) (d .station .decision) (c .sound) (d .sound)
+      = claim present-form mac eight key n low top cs (P .given) (P .few) .agreement y z (c .opening) (d .opening) q (c .station .decision) (d .station .decision) (c .sound) (d .sound)
       (decision y c) (decision z d) in
       record {
         opening = c .opening;
@@ -68,7 +71,7 @@ module _ (mac : List ℕ → List ℕ → List ℕ) (eight : (key ws : List ℕ)
         → (jump ≡ true → (y k : ℕ) (t : Station) → 1 ≤ y → y ≤ n → team y ≡ true → Waits mac key n cs q y k t → stage-step (t .stage) ≤ floor)
         → Arrived mac eight key n low top q team floor cs (λ c y. Voting q team floor enough c y r) → CanDecide mac key n cs q (r + 1) team jump
     ended jump floor fl last-enough A =
-        let B = unanimous mac eight key n low top q team floor enough r (coin mac eight key n low top q team floor enough r (A .list) (A .premises)) fl from last (coin-low n (reads (log mac key n (A .list))) q r) (A .list) (A .premises)
+        let B = unanimous mac eight key n low top q team floor enough r (coin mac eight key n low top q team floor enough r (A .list) (A .premises)) fl from last (coin-low n (reads present-form (log mac key n (A .list))) q r) (A .list) (A .premises)
         (λ y a b c. let o = A .each y a b c in calmed mac eight key n low top q team floor enough r (A .list) (A .premises) (o .jump) y (o .waiting)) in
         let s = meet team (λ i. true) n (omega (arith, every-one n)) in
         let d = B .each (s .at) (s .low) (s .high) (s .in-first) in

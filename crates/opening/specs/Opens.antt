@@ -10,15 +10,18 @@ use borrow.Author.Tests.{leb-true}
 use Rattle.laws.specs.Pick.{pick}
 use Rattle.laws.specs.Bools.{both}
 use Rattle.laws.specs.Refusals.{Test, test, first-failed, all-passed}
-use Rattle.format.specs.Numbers.{output-words, short-output, out-of-range, not-above}
+use Rattle.format.specs.Numbers.{short-output, out-of-range, not-above}
 use Rattle.format.specs.Statement.{step}
 use Rattle.hmac.specs.Code.{hmac-code}
 use Rattle.format.specs.Words.{step-of}
+use Rattle.format.specs.Present.{output-words}
 use Rattle.modules.specs.declared.Module.{Module}
-use Rattle.modules.specs.Counter.{module-fits, above, last-for}
+use Rattle.modules.specs.Counter.{above, last-for}
+use Rattle.modules.specs.Present.{module-fits}
 use Rattle.station.specs.declared.Station.{Station}
-use Rattle.station.specs.Calls.{Returned, returned, opening, no-station}
+use Rattle.station.specs.Calls.{Returned}
 use Rattle.station.specs.Answers.{Answers}
+use Rattle.station.specs.Present.{opening, no-station}
 
 -- "Opening tests 1, 2, 12."
 abbrev pub tests : Bool → Bool → Bool → List Test
@@ -32,7 +35,7 @@ module _ (m : Module) (question proposal jump : ℕ) (out : List ℕ) where
   by-tests : (a b c : Bool) → leb output-words (length out) ≡ a → (module-fits m && ltb proposal 2 && ltb jump 2) ≡ b → above (last-for m question) question 0 ≡ c
       → (first-failed (tests a b c) ≡ 0 → ⊥)
       → opening hmac-code m question proposal jump out ≡ record { number = first-failed (tests a b c); count = 0; station = no-station; after = m; lent = out }
-  unfolding opening returned first-failed pick step step-of
+  unfolding Rattle.station.specs.Calls.opening Rattle.station.specs.Calls.returned first-failed pick step step-of
   by-tests false b c x y z no-0 = rw x
   by-tests true false c x y z no-0 = rw (x, y)
   by-tests true true false x y z no-0 = rw (x, y, z)

@@ -12,8 +12,8 @@ use station::Station;
 ghost use mathlib.Core.Path.{_≡_};
 ghost use Rattle.laws.specs.Refusals.{first-failed};
 ghost use Rattle.hmac.specs.Code.{hmac-code};
-ghost use Rattle.station.specs.Calls.{opening, no-station};
 ghost use Rattle.station.specs.Answers.{Answers};
+ghost use Rattle.station.specs.Present.{opening, no-station};
 ghost use Rattle.opening.specs.Opens.{tests, open-refusal};
 
 // What opening answers: the returned number, the word count, the station and the module. The output words are lent.

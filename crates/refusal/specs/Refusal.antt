@@ -11,8 +11,8 @@ use Rattle.format.specs.Numbers.{D-GET, too-late, too-early, already-held, conf
 use Rattle.format.specs.declared.Fields.{Fields}
 use Rattle.format.specs.Words.{fields-of, step-of}
 use Rattle.format.specs.Statement.{Statement, step}
+use Rattle.format.specs.Present.{main-of}
 use Rattle.hmac.specs.Code.{hmac-code}
-use Rattle.format.specs.Bundle.{main-of}
 use Rattle.rules.specs.declared.Which.{Which}
 use Rattle.rules.specs.declared.Which.the-variants.{Any, Only}
 use Rattle.rules.specs.Rules.{which, some}
@@ -21,8 +21,7 @@ use Rattle.station.specs.declared.Stage.{Stage}
 use Rattle.station.specs.declared.Stage.the-variants.{Gathering, Proposing, Voting}
 use Rattle.station.specs.declared.Station.{Station}
 use Rattle.station.specs.Machine.{stage-step, held-of, has-value, jumps, conflict, step-tests}
-use Rattle.station.specs.Words.{state-of, held-by}
-use Rattle.station.specs.Calls.{give-tests}
+use Rattle.station.specs.Present.{state-of, held-by, give-tests}
 use Rattle.held.specs.Scan.{such}
 
 -- the number of the first test that a giving fails, where the lent output has so many words; or 0
@@ -70,7 +69,7 @@ unfoldable pub jumps-by : Stage → Bool → Fields → Bool
 jumps-by g jump f = jump && ltb (stage-step g) (step-of (f .kind) (f .round .0))
 
 pub jumps-is : (t : Station) (ws : List ℕ) (f : Fields) → f ≡ fields-of (getD ws 1 0) → jumps-by (t .stage) (t .jump) f ≡ jumps (state-of t) (main-of ws)
-unfolding jumps-by state-of step fields-of
+unfolding jumps-by Rattle.station.specs.Words.state-of step fields-of
 jumps-is t ws f e = rw e
 
 -- the station's own tests, of a statement with these fields
@@ -87,7 +86,7 @@ step-refused g jump set h f =
 pub step-refused-is : (t : Station) (ws : List ℕ) (f : Fields) → f ≡ fields-of (getD ws 1 0)
     → bit (t .held .heard) (f .station - 1) ≡ held-of (f .station) (held-by t)
     → step-refused (t .stage) (t .jump) (t .held .heard) (held-by t) f ≡ first-failed (step-tests (state-of t) (main-of ws))
-unfolding step-refused jumps-by state-of step fields-of
+unfolding step-refused jumps-by Rattle.station.specs.Words.state-of step fields-of
 step-refused-is t ws f e b =
     let c : conflicting (t .stage) (main-of ws .value) (main-of ws .flag) (held-by t) ≡ conflict (t .stage) (main-of ws ∷ held-by t)
     = conflict-is (t .stage) (main-of ws) (held-by t) in

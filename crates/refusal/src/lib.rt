@@ -10,7 +10,7 @@ ghost use mathlib.Core.List.{[], _∷_};
 ghost use Prim.Native.Nat.{_-_, _≤_};
 ghost use Rattle.laws.specs.Refusals.{test, first-failed};
 ghost use Rattle.format.specs.Numbers.{too-late, too-early, already-held, conflicting as conflicting-number};
-ghost use Rattle.station.specs.Words.{held-in, sites};
+ghost use Rattle.station.specs.Present.{held-in, sites};
 ghost use Rattle.refusal.specs.Refusal.{both-values as BothValues, conflicting, jumps-by, step-refused, first-refusal};
 
 // Whether the held statements and one more, with this value and flag, have both values with such a flag.

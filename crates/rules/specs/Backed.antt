@@ -12,6 +12,7 @@ use borrow.Author.Tests.{eqb-true, eqb-false, eq-eqb, ne-eqb, ltb-true, ltb-fals
 use Rattle.laws.specs.Pick.{pick}
 use Rattle.laws.specs.Bools.{never, both, join, either, left, right, is-false}
 use Rattle.laws.specs.All.{All}
+use Rattle.format.specs.Form.{Form}
 use Rattle.format.specs.Numbers.{kind-INIT, kind-P, kind-V, none, D-GET, R-GET}
 use Rattle.format.specs.Group.{quorum, backing, backing-most}
 use Rattle.format.specs.Statement.{Statement}
@@ -317,10 +318,10 @@ module _ (n : ℕ) (m : Statement) (c : List Statement) where
           seven a b (apart n m (proposals n (m .round) Any Any) c (rw (first-7 n (m .value) (m .flag) (m .round) (m .kind) k a b) at e))
 
 -- the test holds: a rule backs the statement
-pub rule-backed : (n : ℕ) (m : Statement) (c : List Statement) → Shape m → rule n m c ≡ true → Backed n m c
-rule-backed n m c (init k z v g) h = out-init n m c k h
-rule-backed n m c (proposal k r l v f) h = out-P n m c k r f (rw (not-init n m c (λ e. omega arith)) at h)
-rule-backed n m c (vote k r l v g) h = out-V n m c k r v (rw (not-init n m c (λ e. omega arith)) at h)
+pub rule-backed : (form : Form) (n : ℕ) (m : Statement) (c : List Statement) → Shape form m → rule n m c ≡ true → Backed n m c
+rule-backed form n m c (init k z v g) h = out-init n m c k h
+rule-backed form n m c (proposal k r l v f) h = out-P n m c k r f (rw (not-init n m c (λ e. omega arith)) at h)
+rule-backed form n m c (vote k r l v g) h = out-V n m c k r v (rw (not-init n m c (λ e. omega arith)) at h)
 
 in-rest : (n : ℕ) (m : Statement) (c : List Statement) (g : Group) → (m .kind ≡ kind-INIT → ⊥) → early-toss (m .kind) (m .flag) (m .round) ≡ false
     → first-group n (m .kind) (m .value) (m .flag) (m .round) ≡ g → groups-hold n m g c ≡ true → rule n m c ≡ true

@@ -14,14 +14,17 @@ use Rattle.laws.specs.Refusals.{test, first-failed, all-passed}
 use Rattle.laws.specs.All.{All}
 use Rattle.format.specs.declared.Fields.{Fields}
 use Rattle.format.specs.declared.Step.{Step}
-use Rattle.format.specs.Numbers.{statement-words, out-of-range, malformed, wrong-code, not-above}
-use Rattle.format.specs.Words.{formed, fields-of, step-in}
-use Rattle.format.specs.Statement.{Statement, statement, written, step}
+use Rattle.format.specs.Numbers.{out-of-range, malformed, wrong-code, not-above}
+use Rattle.format.specs.Words.{fields-of, step-in}
+use Rattle.format.specs.Statement.{Statement, step}
+use Rattle.format.specs.Present.{statement-words, formed, statement, written}
 use Rattle.hmac.specs.Code.{hmac-code}
 use Rattle.modules.specs.declared.Module.{Module}
-use Rattle.modules.specs.Counter.{above, last-for, module-fits, advanced}
-use Rattle.sealed.specs.Sealed.{Coded, by-plain, by-coin, signed, with-value, tossed, coding, coding-tests, coding-plain, coding-coin}
+use Rattle.modules.specs.Counter.{above, last-for, advanced}
+use Rattle.modules.specs.Present.{module-fits}
+use Rattle.sealed.specs.Sealed.{Coded, by-plain, by-coin, with-value, tossed}
 use Rattle.sealed.specs.Answers.{Answered, Tested, word-with, lent-with}
+use Rattle.sealed.specs.Present.{signed, coding, coding-tests, coding-plain, coding-coin}
 
 -- the same, by its words
 pub lent-words : (key ws : List ℕ) (v : ℕ)
@@ -101,7 +104,7 @@ pub plain-is : (m : Module) (ws : List ℕ) (w : ℕ) (f : Fields) (fit way : Bo
     → w ≡ getD ws 0 0 → f ≡ fields-of w → fit ≡ module-fits m → way ≡ by-plain (f .kind) (f .flag)
     → number ≡ first-failed (test fit out-of-range ∷ coding-tests m ws way)
     → coding (hmac-code (m .key)) m (with-value (f .value) (statement ws 0)) ws number ≡ coding-plain hmac-code m ws
-unfolding coding-plain fields-of
+unfolding Rattle.sealed.specs.Sealed.coding-plain fields-of
 plain-is m ws w f fit way number w-is f-is fit-is way-is n-is =
     let fe : f ≡ fields-of (getD ws 0 0) = f-is ∙ ap fields-of w-is in
     let te : way ≡ by-plain (statement ws 0 .kind) (statement ws 0 .flag) = way-is ∙ (λ i. by-plain (fe i .kind) (fe i .flag)) in
@@ -113,7 +116,7 @@ pub coin-is : (m : Module) (ws : List ℕ) (coin w : ℕ) (f : Fields) (fit way 
     → w ≡ getD ws 0 0 → f ≡ fields-of w → fit ≡ module-fits m → way ≡ by-coin (f .kind) (f .flag)
     → number ≡ first-failed (test (fit && ltb coin 2) out-of-range ∷ coding-tests m ws way)
     → coding (hmac-code (m .key)) m (tossed coin (statement ws 0)) ws number ≡ coding-coin hmac-code m ws coin
-unfolding coding-coin fields-of
+unfolding Rattle.sealed.specs.Sealed.coding-coin fields-of
 coin-is m ws coin w f fit way number w-is f-is fit-is way-is n-is =
     let fe : f ≡ fields-of (getD ws 0 0) = f-is ∙ ap fields-of w-is in
     let te : way ≡ by-coin (statement ws 0 .kind) (statement ws 0 .flag) = way-is ∙ (λ i. by-coin (fe i .kind) (fe i .flag)) in

@@ -5,12 +5,13 @@ use mathlib.Core.List.{List, _∷_}
 use mathlib.Core.Path.{_≡_}
 use lib.ListN.{length}
 use Rattle.laws.specs.Refusals.{test, first-failed}
-use Rattle.format.specs.Numbers.{statement-words, out-of-range}
+use Rattle.format.specs.Numbers.{out-of-range}
 use Rattle.format.specs.Words.{kind-of, flag-of, station-of, round-of, word-of}
-use Rattle.format.specs.Statement.{statement, written}
+use Rattle.format.specs.Present.{statement-words, statement, written}
 use Rattle.hmac.specs.Code.{hmac-code}
 use Rattle.modules.specs.declared.Module.{Module}
-use Rattle.sealed.specs.Sealed.{Coded, coding-tests, signed, with-value}
+use Rattle.sealed.specs.Sealed.{Coded, with-value}
+use Rattle.sealed.specs.Present.{coding-tests, signed}
 
 -- the returned number, the module and the lent words are those of a defined answer
 pub record Answered (x : Coded) (number : ℕ) (after : Module) (lent : List ℕ) : Type 0 where

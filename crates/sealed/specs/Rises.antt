@@ -9,11 +9,14 @@ use borrow.Author.Tests.{eqb-true, eqb-false}
 use Rattle.laws.specs.Pick.{pick}
 use Rattle.laws.specs.Refusals.{test, first-failed, all-passed}
 use Rattle.format.specs.Numbers.{out-of-range}
-use Rattle.format.specs.Statement.{Statement, statement, written, step}
+use Rattle.format.specs.Statement.{Statement, step}
+use Rattle.format.specs.Present.{statement, written}
 use Rattle.modules.specs.declared.Module.{Module}
-use Rattle.modules.specs.Counter.{pair, module-fits, advanced, last-for}
+use Rattle.modules.specs.Counter.{pair, advanced, last-for}
 use Rattle.modules.specs.Above.{Above, above-out}
-use Rattle.sealed.specs.Sealed.{Coded, by-plain, by-coin, tossed, signed, coding, coding-plain, coding-coin, coding-tests}
+use Rattle.modules.specs.Present.{module-fits}
+use Rattle.sealed.specs.Sealed.{Coded, by-plain, by-coin, tossed}
+use Rattle.sealed.specs.Present.{signed, coding, coding-plain, coding-coin, coding-tests}
 
 -- what a coding of a statement did: it was answered 0, the pair rose above the last, and the module's new last pair is the statement's; or it was
 -- refused, and module and lent words are as they were
@@ -40,9 +43,9 @@ did code m ws s range way same-question same-step = go (eqb tests 0) refl
 
 module _ (mac : List ℕ → List ℕ → List ℕ) (m : Module) (ws : List ℕ) where
   pub plain-rises : Did m ws (statement ws 0) (coding-plain mac m ws)
-  unfolding coding-plain
+  unfolding Rattle.sealed.specs.Sealed.coding-plain
   plain-rises = did (mac (m .key)) m ws (statement ws 0) (module-fits m) (by-plain (statement ws 0 .kind) (statement ws 0 .flag)) refl refl
 
   pub coin-rises : (coin : ℕ) → Did m ws (tossed coin (statement ws 0)) (coding-coin mac m ws coin)
-  unfolding coding-coin step
+  unfolding Rattle.sealed.specs.Sealed.coding-coin step
   coin-rises coin = did (mac (m .key)) m ws (tossed coin (statement ws 0)) (module-fits m && ltb coin 2) (by-coin (statement ws 0 .kind) (statement ws 0 .flag)) refl refl

@@ -7,11 +7,12 @@ ghost use mathlib.Core.Path.{_≡_};
 ghost use mathlib.Core.List.{[], _∷_};
 ghost use lib.ListN.{length, getD};
 ghost use Rattle.laws.specs.Refusals.{test, first-failed};
-ghost use Rattle.format.specs.Numbers.{statement-words, out-of-range, malformed, wrong-code, not-above};
-ghost use Rattle.format.specs.Statement.{statement};
+ghost use Rattle.format.specs.Numbers.{out-of-range, malformed, wrong-code, not-above};
+ghost use Rattle.format.specs.Present.{statement-words, statement};
 ghost use Rattle.hmac.specs.Code.{hmac-code};
-ghost use Rattle.sealed.specs.Sealed.{coding, coding-plain, coding-coin, with-value};
+ghost use Rattle.sealed.specs.Sealed.{with-value};
 ghost use Rattle.sealed.specs.Answers.{Answered, Tested, lent-with};
+ghost use Rattle.sealed.specs.Present.{coding, coding-plain, coding-coin};
 
 // What coding answers: the returned number and the module after the call. The statement's words are lent.
 pub struct Coded {

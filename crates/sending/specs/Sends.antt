@@ -12,22 +12,26 @@ use borrow.Author.Tests.{eqb-true, ne-eqb, le-leb}
 use Rattle.laws.specs.Pick.{pick}
 use Rattle.laws.specs.Bools.{both, join}
 use Rattle.laws.specs.All.{All, all-append}
+use Rattle.format.specs.Form.{present-form}
 use Rattle.format.specs.declared.Fields.{Fields}
-use Rattle.format.specs.Numbers.{kind-P, bundle-words, code-words, most-stations, most-statements, output-words}
+use Rattle.format.specs.Numbers.{kind-P, code-words}
 use Rattle.format.specs.Words.{word-of}
-use Rattle.format.specs.Statement.{Statement, written, well-formed, step, statement-code}
+use Rattle.format.specs.Statement.{Statement, step}
 use Rattle.hmac.specs.Code.{hmac-code}
 use Rattle.format.specs.Laws.Shape.{Shape, init, proposal, vote, formed-out}
 use Rattle.modules.specs.declared.Module.{Module}
-use Rattle.modules.specs.Counter.{above, last-for, advanced, module-fits}
-use Rattle.sealed.specs.Sealed.{is-toss, Coded, coding-plain, coding-coin}
+use Rattle.modules.specs.Counter.{above, last-for, advanced}
+use Rattle.modules.specs.Present.{module-fits}
+use Rattle.sealed.specs.Sealed.{is-toss, Coded}
 use Rattle.sealed.specs.Ways.{with-code, coded-as, own-plain, own-coin}
+use Rattle.sealed.specs.Present.{coding-plain, coding-coin}
 use Rattle.station.specs.declared.Stage.{Stage}
 use Rattle.station.specs.Machine.{own, began}
 use Rattle.station.specs.Words.{set-of}
-use Rattle.format.specs.Bundle.{all-written, bundle-of, over}
-use Rattle.station.specs.Words as W
+use Rattle.format.specs.Bundle.{over}
+use Rattle.station.specs.Present as W
 use Rattle.format.specs.Laws.ReadBack.{Proper, length-written}
+use Rattle.format.specs.Present.{bundle-words, most-stations, most-statements, output-words, written, statement-code, all-written, bundle-of}
 use Rattle.station.specs.Laws.Bundles.{ws-length}
 use Rattle.station.specs.Seal.{main-words}
 use Rattle.writer.specs.Written.{with-word, copyable, copy-after, copy-count}
@@ -53,7 +57,7 @@ own-statement m question kind value flag round = own (statement-code (hmac-code 
 
 -- where the lent words have the bundle of the statement, with any eight words in its code's place, the module's call leaves the machine's `sends`
 module _ (m : Module) (question kind value flag round : ℕ) (jump : Bool) (g : Stage) (d : ℕ) (c : List Statement) (out : List ℕ) (top : m .n ≤ most-stations)
-    (p : Proper (m .n) (own-statement m question kind value flag round)) (proper : All (Proper (m .n)) c) (few : length c ≤ most-statements) (fit : module-fits m ≡ true)
+    (p : Proper present-form (m .n) (own-statement m question kind value flag round)) (proper : All (Proper present-form (m .n)) c) (few : length c ≤ most-statements) (fit : module-fits m ≡ true)
     (later : above (last-for m question) question (step (own-statement m question kind value flag round)) ≡ true) (x : List ℕ) (eight : length x ≡ code-words) (count : ℕ) (draft : List ℕ)
     (counted : count ≡ bundle-words (length c)) (draft-is : draft ≡ over (bundle-of (with-code x (own-statement m question kind value flag round)) c) out) where
   abbrev s : Statement
@@ -65,8 +69,8 @@ module _ (m : Module) (question kind value flag round : ℕ) (jump : Bool) (g : 
   abbrev uncoded : Statement
   uncoded = with-code x s
 
-  proper-uncoded : Proper (m .n) uncoded
-  unfolding well-formed
+  proper-uncoded : Proper present-form (m .n) uncoded
+  unfolding Rattle.format.specs.Statement.well-formed
   proper-uncoded = record { formed = p .formed; eight = eight }
 
   later-uncoded : above (last-for m question) question (step uncoded) ≡ true
@@ -82,9 +86,9 @@ module _ (m : Module) (question kind value flag round : ℕ) (jump : Bool) (g : 
       go true t = own-coin hmac-code m uncoded fit proper-uncoded refl later-uncoded t (toss-bit t)
         where
           toss-bit : is-toss uncoded ≡ true → value < 2
-          toss-bit t = by (formed-out (m .n) s (p .formed) .shape)
+          toss-bit t = by (formed-out present-form (m .n) s (p .formed) .shape)
             where
-              by : Shape s → value < 2
+              by : Shape present-form s → value < 2
               by (init k r v g) = v
               by (proposal k l r v g) = v
               by (vote k l r v g) = absurd (omega (arith, k, eqb-true kind kind-P (both (eqb kind kind-P) _ t .0)))
@@ -98,28 +102,28 @@ module _ (m : Module) (question kind value flag round : ℕ) (jump : Bool) (g : 
 
   -- the coded statement put in the place of the uncoded one
   put-in : with-main (written s) (over (bundle-of uncoded c) out) ≡ over (bundle-of s c) out
-  unfolding bundle-of
+  unfolding Rattle.format.specs.Bundle.bundle-of
   put-in =
       let w = all-written c in
       let same-length : length (bundle-of uncoded c) ≡ length (bundle-of s c)
-      = ap suc (length-append (written uncoded) w ∙ omega (arith, length-written (m .n) uncoded proper-uncoded, length-written (m .n) s p) ∙ sym (length-append (written s) w)) in
+      = ap suc (length-append (written uncoded) w ∙ omega (arith, length-written present-form (m .n) uncoded proper-uncoded, length-written present-form (m .n) s p) ∙ sym (length-append (written s) w)) in
       ap (λ (l : List ℕ). (3 * 2 ^ 30 + length c) ∷ (written s ++ l)) (behind (drop (length (bundle-of uncoded c)) out))
       ∙ ap (λ (k : ℕ). (3 * 2 ^ 30 + length c) ∷ (written s ++ (w ++ drop k out))) same-length
       ∙ ap (λ (l : List ℕ). (3 * 2 ^ 30 + length c) ∷ l) (sym (append-assoc (written s) w (drop (length (bundle-of s c)) out)))
     where
       behind : (r : List ℕ) → drop 10 (written uncoded ++ all-written c ++ r) ≡ all-written c ++ r
-      behind r = ap (drop 10) (append-assoc (written uncoded) (all-written c) r) ∙ drop-at (written uncoded) (all-written c ++ r) 10 (length-written (m .n) uncoded proper-uncoded)
+      behind r = ap (drop 10) (append-assoc (written uncoded) (all-written c) r) ∙ drop-at (written uncoded) (all-written c ++ r) 10 (length-written present-form (m .n) uncoded proper-uncoded)
 
   pub coded-lent-is : coded-lent m f count draft ≡ over (bundle-of s c) out
   unfolding coded-lent pick
   coded-lent-is = rw wrote-some (ap (λ (y : Coded). with-main (y .lent) draft) asked-then) ∙ ap (with-main (written s)) draft-is ∙ put-in
 
   bundle-is : take count (coded-lent m f count draft) ≡ bundle-of s c
-  unfolding bundle-of
+  unfolding Rattle.format.specs.Bundle.bundle-of
   bundle-is =
       ap (λ (k : ℕ). take k (coded-lent m f count draft)) counted
       ∙ ap (take (bundle-words (length c))) coded-lent-is
-      ∙ take-at (bundle-of s c) (drop (length (bundle-of s c)) out) (bundle-words (length c)) (ws-length (m .n) s c top p proper few)
+      ∙ take-at (bundle-of s c) (drop (length (bundle-of s c)) out) (bundle-words (length c)) (ws-length present-form (m .n) s c top p proper few)
 
   pub coded-station-is : Below (coded-lent m f count draft)
       → sent-station m question jump g d (take count (coded-lent m f count draft)) ≡ W.as-station (m .n) (m .station) (began (m .n) question jump g d s c)
@@ -135,7 +139,7 @@ module _ (m : Module) (question kind value flag round : ℕ) (jump : Bool) (g : 
 -- where the certificate's statements stand in the slots and in the kept group
 module _ (m : Module) (question kind value flag round : ℕ) (jump : Bool) (g : Stage) (d : ℕ) (first second : List Statement) (slots group : List ℕ)
     (C : Certificate (m .n) first second slots group) (c : List Statement) (same : first ++ second ≡ c) (out : List ℕ) (room : output-words ≤ length out)
-    (p : Proper (m .n) (own-statement m question kind value flag round)) (fit : module-fits m ≡ true)
+    (p : Proper present-form (m .n) (own-statement m question kind value flag round)) (fit : module-fits m ≡ true)
     (later : above (last-for m question) question (step (own-statement m question kind value flag round)) ≡ true) where
   abbrev own-s : Statement
   own-s = own-statement m question kind value flag round
@@ -155,8 +159,8 @@ module _ (m : Module) (question kind value flag round : ℕ) (jump : Bool) (g : 
   unfolding sent-count
   count-is = count-bundle (m .n) first second slots group C (length out) room ∙ ap (λ (l : List Statement). bundle-words (length l)) same
 
-  all-proper : All (Proper (m .n)) c
-  all-proper = subst (λ (l : List Statement). All (Proper (m .n)) l) same (all-append (Proper (m .n)) first second (C .proper) (C .more-proper))
+  all-proper : All (Proper present-form (m .n)) c
+  all-proper = subst (λ (l : List Statement). All (Proper present-form (m .n)) l) same (all-append (Proper present-form (m .n)) first second (C .proper) (C .more-proper))
 
   all-few : length c ≤ most-statements
   all-few = omega (arith, ap length (sym same) ∙ length-append first second, C .few)
@@ -176,8 +180,8 @@ module _ (m : Module) (question kind value flag round : ℕ) (jump : Bool) (g : 
 
 -- where the given bundle's words are copied
 module _ (m : Module) (question kind value flag round : ℕ) (jump : Bool) (g : Stage) (d : ℕ) (given : Statement) (c : List Statement) (ws : List ℕ) (whole : ws ≡ bundle-of given c)
-    (asked-for : given .question ≡ question) (out : List ℕ) (room : output-words ≤ length out) (top : m .n ≤ most-stations) (q : Proper (m .n) given)
-    (p : Proper (m .n) (own-statement m question kind value flag round)) (proper : All (Proper (m .n)) c) (few : length c ≤ most-statements) (fit : module-fits m ≡ true)
+    (asked-for : given .question ≡ question) (out : List ℕ) (room : output-words ≤ length out) (top : m .n ≤ most-stations) (q : Proper present-form (m .n) given)
+    (p : Proper present-form (m .n) (own-statement m question kind value flag round)) (proper : All (Proper present-form (m .n)) c) (few : length c ≤ most-statements) (fit : module-fits m ≡ true)
     (later : above (last-for m question) question (step (own-statement m question kind value flag round)) ≡ true) where
   abbrev copy-s : Statement
   copy-s = own-statement m question kind value flag round
@@ -186,8 +190,8 @@ module _ (m : Module) (question kind value flag round : ℕ) (jump : Bool) (g : 
   copy-f = own-fields m kind value flag round
 
   long : length ws ≡ bundle-words (length c)
-  unfolding bundle-of
-  long = ap length whole ∙ ws-length (m .n) given c top q proper few
+  unfolding Rattle.format.specs.Bundle.bundle-of
+  long = ap length whole ∙ ws-length present-form (m .n) given c top q proper few
 
   can : copyable (length ws) (length out) ≡ true
   unfolding copyable
@@ -198,7 +202,7 @@ module _ (m : Module) (question kind value flag round : ℕ) (jump : Bool) (g : 
   copy-count-is = rw can long
 
   copied-draft : copy-after (word-of copy-f) ws out ≡ over (bundle-of (with-code (given .code) copy-s) c) out
-  unfolding copy-after pick with-word bundle-of
+  unfolding copy-after pick with-word Rattle.format.specs.Bundle.bundle-of
   copied-draft =
       rw can (ap (λ (l : List ℕ). over (set l 1 (word-of copy-f)) out) whole)
       ∙ ap (λ (z : ℕ). over ((3 * 2 ^ 30 + length c) ∷ ((word-of copy-f ∷ z ∷ given .code) ++ all-written c)) out) asked-for

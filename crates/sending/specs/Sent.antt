@@ -6,10 +6,13 @@ use lib.Dec.{eqb}
 use lib.ListN.{length, take, drop, replicate}
 use Rattle.laws.specs.Pick.{pick}
 use Rattle.format.specs.declared.Fields.{Fields}
+use Rattle.format.specs.Numbers.{code-words}
 use Rattle.format.specs.Words.{word-of}
+use Rattle.format.specs.Present.{statement-words}
 use Rattle.hmac.specs.Code.{hmac-code}
 use Rattle.modules.specs.declared.Module.{Module}
-use Rattle.sealed.specs.Sealed.{Coded, by-coin, coding-plain, coding-coin}
+use Rattle.sealed.specs.Sealed.{Coded, by-coin}
+use Rattle.sealed.specs.Present.{coding-plain, coding-coin}
 use Rattle.station.specs.declared.Stage.{Stage}
 use Rattle.station.specs.declared.Station.{Station}
 use Rattle.writer.specs.Written.{lent-after, count-after, copy-after, copy-count}
@@ -23,18 +26,18 @@ sent-count set k out = count-after (length out) set k
 -- the lent words with the statement of these fields, not coded yet: zeros stand where its code will; behind it the held statements of the set, and k
 -- statements of a kept group
 unfoldable pub drafted : ℕ → Fields → List ℕ → ℕ → List ℕ → ℕ → List ℕ → List ℕ
-drafted question f slots set group k out = lent-after (word-of f) question (replicate 8 0) slots set group k out
+drafted question f slots set group k out = lent-after (word-of f) question (replicate code-words 0) slots set group k out
 
--- the module's call on the statement's ten words, by the way that is for it: with its value as the coin where it is an R-GET, else plain
+-- the module's call on the statement's words, by the way that is for it: with its value as the coin where it is an R-GET, else plain
 unfoldable pub asked : Module → Fields → List ℕ → Coded
 asked m f ws = pick (by-coin (f .kind) (f .flag)) (coding-coin hmac-code m ws (f .value)) (coding-plain hmac-code m ws)
 
--- the statement's words within the lent ones: ten behind the head
+-- the statement's words within the lent ones: those behind the head
 abbrev pub main-part : List ℕ → List ℕ
-main-part ws = take 10 (drop 1 ws)
+main-part ws = take statement-words (drop 1 ws)
 
 abbrev pub with-main : List ℕ → List ℕ → List ℕ
-with-main main ws = take 1 ws ++ (main ++ drop 10 (drop 1 ws))
+with-main main ws = take 1 ws ++ (main ++ drop statement-words (drop 1 ws))
 
 -- where words were written their part is lent to the module; else it is not asked
 unfoldable pub coded-lent : Module → Fields → ℕ → List ℕ → List ℕ

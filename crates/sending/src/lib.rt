@@ -10,7 +10,7 @@ use station::Station;
 ghost use mathlib.Core.Path.{_≡_};
 ghost use Prim.Native.Nat.{_≤_};
 ghost use lib.ListN.{length, take};
-ghost use Rattle.format.specs.Numbers.{place-of};
+ghost use Rattle.format.specs.Present.{place-of};
 ghost use Rattle.writer.specs.Written.{copy-count};
 ghost use Rattle.sending.specs.Sent.{coded-lent, coded-after, sent-count, sent-lent, sent-bundle, sent-station, sent-after, copy-lent, copy-module, copy-bundle};
 

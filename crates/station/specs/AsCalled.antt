@@ -12,23 +12,24 @@ use Rattle.laws.specs.Pick.{pick}
 use Rattle.laws.specs.Bools.{join}
 use Rattle.laws.specs.Refusals.{Test, test, passed-front}
 use Rattle.laws.specs.All.{All}
-use Rattle.format.specs.Numbers.{kept, output-words, no-certificate, last-round, code-words}
-use Rattle.format.specs.Statement.{statements, statement-code}
-use Rattle.format.specs.Bundle.{count-in, main-of, certificate-of, bundle-fits}
+use Rattle.format.specs.Form.{present-form}
+use Rattle.format.specs.Numbers.{kept, no-certificate, code-words}
+use Rattle.format.specs.Bundle.{count-in}
+use Rattle.format.specs.Present.{output-words, last-round, statements, statement-code, main-of, certificate-of, bundle-fits}
 use Rattle.rules.specs.declared.Which.the-variants.{Only}
 use Rattle.rules.specs.Rules.{rule}
-use Rattle.certificate.specs.Check.{question-fits, all-verify}
+use Rattle.certificate.specs.Check.{question-fits}
+use Rattle.certificate.specs.Present.{all-verify}
 use Rattle.modules.specs.declared.Module.{Module}
-use Rattle.modules.specs.Counter.{module-fits, last-for}
+use Rattle.modules.specs.Counter.{last-for}
+use Rattle.modules.specs.Present.{module-fits}
 use Rattle.station.specs.declared.Station.{Station}
 use Rattle.station.specs.Machine.{State, Outcome, refused, keeps, sends, answered, step-tests}
-use Rattle.station.specs.Words.{Lengths, state-of}
-use Rattle.station.specs.Fit.{fits}
-use Rattle.station.specs.Calls.{returned, station-tests, giving, giving-outcome}
 use Rattle.station.specs.Marked.{_by_, given}
 use Rattle.station.specs.Laws.Views.{after, Gives, refuses, holds-on, shuts, goes-on, enters, gives-view}
 use Rattle.station.specs.Laws.Sane.{state-back}
 use Rattle.station.specs.Laws.Fits.{kept-sane}
+use Rattle.station.specs.Present.{state-of, fits, returned, station-tests, giving, giving-outcome, Lengths}
 
 module _ (mac : List ℕ → List ℕ → List ℕ) (m : Module) (t : Station) (ws : List ℕ) (coin : ℕ) (out : List ℕ) where
   -- where the tests 1, 2, 11, 3, 4 and 5 pass, giving is what the table's rows use
@@ -74,13 +75,13 @@ state-in d (sends k s c u) = u
 -- the station of a call that kept the bundle is read as the state that the next call goes on with
 pub kept-as-read : (mac : List ℕ → List ℕ → List ℕ) → ((key ws : List ℕ) → length (mac key ws) ≡ code-words) → (m : Module) (t : Station) (ws : List ℕ) (coin : ℕ) (out : List ℕ)
     → Lengths t → (u : State) → giving-outcome mac m t ws coin out ≡ keeps kept u → state-of (giving mac m t ws coin out .station) ≡ u
-unfolding giving returned kept-number state-in
-kept-as-read mac eight m t ws coin out L u = go (giving-outcome mac m t ws coin out) (gives-view mac m t ws coin out L)
+unfolding Rattle.station.specs.Calls.giving Rattle.station.specs.Calls.returned kept-number state-in
+kept-as-read mac eight m t ws coin out L u = go (giving-outcome mac m t ws coin out) (gives-view present-form mac m t ws coin out L)
   where
-    go : (o : Outcome) → Gives mac m t ws coin out o → o ≡ keeps kept u → state-of (returned m t out o .station) ≡ u
+    go : (o : Outcome) → Gives present-form mac m t ws coin out o → o ≡ keeps kept u → state-of (returned m t out o .station) ≡ u
     go _ (refuses e) z = absurd (omega (arith, ap kept-number z))
     go _ (holds-on A few) z =
-        state-back (m .n) (m .station) (after mac m t ws coin out) (A .range .at-most-31) (A .range .low) (A .range .high) (kept-sane mac eight m t ws coin out L A few)
+        state-back present-form (m .n) (m .station) (after present-form mac m t ws coin out) (A .range .at-most) (A .range .low) (A .range .high) (kept-sane present-form mac eight m t ws coin out L A few)
         ∙ ap (state-in u) z
     go _ (shuts A size c) z = absurd (omega (arith, ap kept-number z))
     go _ (goes-on A size c later k) z = absurd (omega (arith, ap kept-number z))

@@ -6,7 +6,8 @@ use lib.Dec.{eqb, ltb, leb}
 use lib.ListN.{length}
 use Rattle.laws.specs.Pick.{pick}
 use Rattle.laws.specs.Refusals.{Test, test, first-failed}
-use Rattle.format.specs.Numbers.{none, short-output, output-words, out-of-range, station-closed, bundle-words, last-round}
+use Rattle.format.specs.Form.{Form, last-round, bundle-words, output-words}
+use Rattle.format.specs.Numbers.{none, short-output, out-of-range, station-closed}
 use Rattle.format.specs.Statement.{step, statement-code}
 use Rattle.format.specs.Bundle.{main-of, certificate-of, bundle-of, over}
 use Rattle.rules.specs.declared.Which.the-variants.{Only}
@@ -27,60 +28,61 @@ pub record Returned : Type 0 where
   pub after : Module
   pub lent : List ℕ
 
--- "Where no bundle is written the word count is zero. At a refusal station, module and lent words keep their values."
-unfoldable pub returned : Module → Station → List ℕ → Outcome → Returned
-returned m t out (refused k) = record { number = k; count = 0; station = t; after = m; lent = out }
-returned m t out (keeps k s) = record { number = k; count = 0; station = as-station (m .n) (m .station) s; after = m; lent = out }
-returned m t out (sends k s c u) =
-    record {
-      number = k;
-      count = bundle-words (length c);
-      station = as-station (m .n) (m .station) u;
-      after = advanced m (s .question) (step s);
-      lent = over (bundle-of s c) out;
-    }
-
 -- what is done unless a test fails
 abbrev pub unless : List Test → Outcome → Outcome
 unless l o = pick (eqb (first-failed l) 0) o (refused (first-failed l))
 
--- a refused opening returns this station: of no group, closed, undecided and otherwise zero. Every call refuses it
-unfoldable pub no-station : Station
-no-station = empty-station (record { n = 0; station = 0; question = 0 }) Gathering true false none
+module _ (form : Form) where
+  -- "Where no bundle is written the word count is zero. At a refusal station, module and lent words keep their values."
+  unfoldable pub returned : Module → Station → List ℕ → Outcome → Returned
+  returned m t out (refused k) = record { number = k; count = 0; station = t; after = m; lent = out }
+  returned m t out (keeps k s) = record { number = k; count = 0; station = as-station form (m .n) (m .station) s; after = m; lent = out }
+  returned m t out (sends k s c u) =
+      record {
+        number = k;
+        count = bundle-words form (length c);
+        station = as-station form (m .n) (m .station) u;
+        after = advanced m (s .question) (step s);
+        lent = over (bundle-of form s c) out;
+      }
 
--- what a giving tests before it looks at the words: 1, 2, 11
-abbrev pub station-tests : Module → Station → ℕ → List ℕ → List Test
-station-tests m t coin out =
-    test (leb output-words (length out)) short-output
-    ∷ test (module-fits m && ltb coin 2 && fits (m .n) (m .station) t) out-of-range
-    ∷ test (not (t .closed)) station-closed
-    ∷ []
+  -- a refused opening returns this station: of no group, closed, undecided and otherwise zero. Every call refuses it
+  unfoldable pub no-station : Station
+  no-station = empty-station form (record { n = 0; station = 0; question = 0 }) Gathering true false none
 
-module _ (mac : List ℕ → List ℕ → List ℕ) where
-  -- "Opening tests 1, 2, 12."; "a jump setting outside 0 and 1 is 2" (Job 3 of document 02)
-  abbrev pub open-tests : Module → ℕ → ℕ → List ℕ → List Test
-  open-tests m proposal jump out =
-      test (leb output-words (length out)) short-output ∷ test (module-fits m && ltb proposal 2 && ltb jump 2) out-of-range ∷ []
+  -- what a giving tests before it looks at the words: 1, 2, 11
+  abbrev pub station-tests : Module → Station → ℕ → List ℕ → List Test
+  station-tests m t coin out =
+      test (leb (output-words form) (length out)) short-output
+      ∷ test (module-fits form m && ltb coin 2 && fits form (m .n) (m .station) t) out-of-range
+      ∷ test (not (t .closed)) station-closed
+      ∷ []
 
-  -- "Opening gains a setting, jump off (0) or on (1)."
-  abbrev pub opening-outcome : Module → ℕ → ℕ → ℕ → List ℕ → Outcome
-  opening-outcome m question proposal jump out =
-      unless (open-tests m proposal jump out)
-      (opened (statement-code (mac (m .key))) last-round (m .n) (m .station) (last-for m question) question proposal (eqb jump 1))
+  module _ (mac : List ℕ → List ℕ → List ℕ) where
+    -- "Opening tests 1, 2, 12."; "a jump setting outside 0 and 1 is 2" (Job 3 of document 02)
+    abbrev pub open-tests : Module → ℕ → ℕ → List ℕ → List Test
+    open-tests m proposal jump out =
+        test (leb (output-words form) (length out)) short-output ∷ test (module-fits form m && ltb proposal 2 && ltb jump 2) out-of-range ∷ []
 
-  unfoldable pub opening : Module → ℕ → ℕ → ℕ → List ℕ → Returned
-  opening m question proposal jump out = returned m no-station out (opening-outcome m question proposal jump out)
+    -- "Opening gains a setting, jump off (0) or on (1)."
+    abbrev pub opening-outcome : Module → ℕ → ℕ → ℕ → List ℕ → Outcome
+    opening-outcome m question proposal jump out =
+        unless (open-tests m proposal jump out)
+        (opened (statement-code form (mac (m .key))) (last-round form) (m .n) (m .station) (last-for m question) question proposal (eqb jump 1))
 
-  -- "A station given a bundle tests 1, 2, 11, 3, 4, 5, 6, 7, 8, 9, 10 and, only where a bundle would be written, 12."; "12 follows the checks up to 7"
-  -- where it jumps
-  abbrev pub give-tests : Module → Station → List ℕ → ℕ → List ℕ → List Test
-  give-tests m t ws coin out =
-      station-tests m t coin out ++ (bundle-tests (mac (m .key)) (m .n) (Only (t .identity .question)) ws ++ step-tests (state-of t) (main-of ws))
+    unfoldable pub opening : Module → ℕ → ℕ → ℕ → List ℕ → Returned
+    opening m question proposal jump out = returned m no-station out (opening-outcome m question proposal jump out)
 
-  abbrev pub giving-outcome : Module → Station → List ℕ → ℕ → List ℕ → Outcome
-  giving-outcome m t ws coin out =
-      unless (give-tests m t ws coin out)
-      (answered (statement-code (mac (m .key))) last-round (m .n) (m .station) (last-for m (t .identity .question)) (state-of t) (main-of ws) (certificate-of ws) coin)
+    -- "A station given a bundle tests 1, 2, 11, 3, 4, 5, 6, 7, 8, 9, 10 and, only where a bundle would be written, 12."; "12 follows the checks up to 7"
+    -- where it jumps
+    abbrev pub give-tests : Module → Station → List ℕ → ℕ → List ℕ → List Test
+    give-tests m t ws coin out =
+        station-tests m t coin out ++ (bundle-tests form (mac (m .key)) (m .n) (Only (t .identity .question)) ws ++ step-tests (state-of form t) (main-of form ws))
 
-  unfoldable pub giving : Module → Station → List ℕ → ℕ → List ℕ → Returned
-  giving m t ws coin out = returned m t out (giving-outcome m t ws coin out)
+    abbrev pub giving-outcome : Module → Station → List ℕ → ℕ → List ℕ → Outcome
+    giving-outcome m t ws coin out =
+        unless (give-tests m t ws coin out)
+        (answered (statement-code form (mac (m .key))) (last-round form) (m .n) (m .station) (last-for m (t .identity .question)) (state-of form t) (main-of form ws) (certificate-of form ws) coin)
+
+    unfoldable pub giving : Module → Station → List ℕ → ℕ → List ℕ → Returned
+    giving m t ws coin out = returned m t out (giving-outcome m t ws coin out)

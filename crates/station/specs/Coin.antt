@@ -10,11 +10,12 @@ use borrow.Author.Tests.{eqb-true}
 use Rattle.laws.specs.Pick.{pick}
 use Rattle.laws.specs.Bools.{never}
 use Rattle.laws.specs.Refusals.{first-failed}
-use Rattle.format.specs.Numbers.{kind-P, none, D-GET, R-GET, kept, sent, sent-decided, closed-now, jumped, not-above, last-round}
+use Rattle.format.specs.Numbers.{kind-P, none, D-GET, R-GET, kept, sent, sent-decided, closed-now, jumped, not-above}
 use Rattle.format.specs.Group.{quorum}
 use Rattle.format.specs.Words.{step-of}
-use Rattle.format.specs.Statement.{Statement, step, statement-code}
-use Rattle.format.specs.Bundle.{main-of, certificate-of, bundle-of, over}
+use Rattle.format.specs.Statement.{Statement, step}
+use Rattle.format.specs.Bundle.{over}
+use Rattle.format.specs.Present.{last-round, statement-code, main-of, certificate-of, bundle-of}
 use Rattle.rules.specs.Rules.{some, some-value}
 use Rattle.certificate.specs.Check.{every}
 use Rattle.modules.specs.declared.Last.{Last}
@@ -24,9 +25,8 @@ use Rattle.station.specs.declared.Stage.{Stage}
 use Rattle.station.specs.declared.Stage.the-variants.{Gathering, Proposing, Voting}
 use Rattle.station.specs.declared.Station.{Station}
 use Rattle.station.specs.Machine.{State, Outcome, refused, keeps, sends, Next, next, proposing, insert, has-value, vote-value, decided, carried, decision-after, keeping, follows, decision-at, closes, shut, moved, own, began, ended, taken, voting, jumps, entered, answered}
-use Rattle.station.specs.Words.{state-of}
-use Rattle.station.specs.Calls.{returned, give-tests, giving}
-use Rattle.station.specs.Demand.{one-of, tossing, CoinEffect, no-effect, tossed}
+use Rattle.station.specs.Demand.{one-of, tossing, no-effect, tossed}
+use Rattle.station.specs.Present.{state-of, returned, give-tests, giving, CoinEffect}
 
 -- no vote for 0 or 1 among some: none is decided, and no call first decides
 no-votes : (s : Statement) (h : List Statement) → ltb (carried (s ∷ h)) none ≡ false → decided (s ∷ h) ≡ none
@@ -169,11 +169,11 @@ module _ (mac : List ℕ → List ℕ → List ℕ) (m : Module) (t : Station) (
   pub tossed-says : (answer r d : ℕ) (votes : List Statement) (coin : ℕ)
       → let x = returned m t out (tossing (statement-code (mac (m .key))) (m .n) (m .station) (t .jump) (t .identity .question) answer r d votes coin) in
       (x .number ≡ answer) × (x .lent ≡ over (bundle-of (own (statement-code (mac (m .key))) (m .station) (t .identity .question) kind-P coin R-GET r) votes) out)
-  unfolding returned
+  unfolding Rattle.station.specs.Calls.returned
   tossed-says answer r d votes coin = (refl, refl)
 
   pub coin-effect : CoinEffect mac m t ws out
-  unfolding giving pick state-of
+  unfolding Rattle.station.specs.Calls.giving pick Rattle.station.specs.Words.state-of
   coin-effect = go (eqb (first-failed (give-tests mac m t ws 0 out)) 0) refl refl
     where
       k : ℕ

@@ -7,19 +7,21 @@ use lib.Dec.{eqb, ltb, leb}
 use lib.ListN.{length}
 use Rattle.laws.specs.Pick.{pick}
 use Rattle.laws.specs.Refusals.{first-failed}
-use Rattle.format.specs.Numbers.{kind-INIT, none, D-GET, kept, sent, sent-decided, closed-now, jumped, not-above, output-words, bundle-words, last-round}
+use Rattle.format.specs.Numbers.{kind-INIT, none, D-GET, kept, sent, sent-decided, closed-now, jumped, not-above}
 use Rattle.format.specs.Group.{quorum}
 use Rattle.format.specs.Words.{step-of}
-use Rattle.format.specs.Statement.{Statement, step, statement-code}
-use Rattle.format.specs.Bundle.{main-of, certificate-of, bundle-of, over}
+use Rattle.format.specs.Statement.{Statement, step}
+use Rattle.format.specs.Bundle.{over}
+use Rattle.format.specs.Present.{output-words, bundle-words, last-round, statement-code, main-of, certificate-of, bundle-of}
 use Rattle.modules.specs.declared.Module.{Module}
-use Rattle.modules.specs.Counter.{module-fits, last-for, above, advanced}
+use Rattle.modules.specs.Counter.{last-for, above, advanced}
+use Rattle.modules.specs.Present.{module-fits}
 use Rattle.station.specs.declared.Stage.{Stage}
 use Rattle.station.specs.declared.Stage.the-variants.{Gathering, Proposing, Voting}
 use Rattle.station.specs.declared.Station.{Station}
 use Rattle.station.specs.Machine.{State, Outcome, refused, keeps, sends, Next, own, began, shut, moved, keeping, follows, decision-at, closes, ended, taken, stage-of, jumps, copied-value, entered, answered}
-use Rattle.station.specs.Words.{state-of, as-station}
-use Rattle.station.specs.Calls.{Returned, returned, opening, give-tests, giving}
+use Rattle.station.specs.Calls.{Returned}
+use Rattle.station.specs.Present.{state-of, as-station, returned, opening, give-tests, giving}
 
 -- 20, eleven words, and a station that gathers, holds its INIT alone and names no decision
 abbrev pub opened-with : (List ℕ → List ℕ → List ℕ) → Module → ℕ → ℕ → ℕ → List ℕ → Returned
@@ -36,12 +38,12 @@ opened-with mac m question proposal jump out =
 pub opens : (mac : List ℕ → List ℕ → List ℕ) (m : Module) (question proposal jump : ℕ) (out : List ℕ) → leb output-words (length out) ≡ true
     → module-fits m ≡ true → ltb proposal 2 ≡ true → ltb jump 2 ≡ true → above (last-for m question) question 0 ≡ true
     → opening mac m question proposal jump out ≡ opened-with mac m question proposal jump out
-unfolding opening returned first-failed pick step step-of
+unfolding Rattle.station.specs.Calls.opening Rattle.station.specs.Calls.returned first-failed pick step step-of
 opens mac m question proposal jump out room fit bit setting later = rw (room, fit, bit, setting, later)
 
 pub opened-undecided : (mac : List ℕ → List ℕ → List ℕ) (m : Module) (question proposal jump : ℕ) (out : List ℕ)
     → opened-with mac m question proposal jump out .station .decision ≡ none
-unfolding as-station
+unfolding Rattle.station.specs.Words.as-station
 opened-undecided mac m question proposal jump out = refl
 
 -- a decision that is there stays
@@ -56,7 +58,7 @@ module _ (mac : List ℕ → List ℕ → List ℕ) (m : Module) (t : Station) (
   Keeps o = returned m t out o .station .decision ≡ t .decision
 
   pub first-kept : giving mac m t ws coin out .station .decision ≡ t .decision
-  unfolding giving returned taken ended as-station state-of pick Keeps
+  unfolding Rattle.station.specs.Calls.giving Rattle.station.specs.Calls.returned taken ended Rattle.station.specs.Words.as-station Rattle.station.specs.Words.state-of pick Keeps
   first-kept = go (eqb (first-failed (give-tests mac m t ws coin out)) 0)
     where
       k : State

@@ -12,7 +12,8 @@ use Rattle.laws.specs.Pick.{pick}
 use Rattle.laws.specs.Bools.{never}
 use Rattle.laws.specs.Refusals.{Test, first-failed, passed-front}
 use Rattle.laws.specs.All.{All}
-use Rattle.format.specs.Numbers.{none, kept, sent, sent-decided, closed-now, not-above, too-early, last-round}
+use Rattle.format.specs.Form.{Form, last-round}
+use Rattle.format.specs.Numbers.{none, kept, sent, sent-decided, closed-now, not-above, too-early}
 use Rattle.format.specs.Group.{quorum}
 use Rattle.format.specs.Statement.{Statement, step, statement-code}
 use Rattle.format.specs.Bundle.{main-of, certificate-of}
@@ -30,24 +31,6 @@ use Rattle.station.specs.Fit.{fits}
 use Rattle.station.specs.Calls.{Returned, returned, station-tests, give-tests, giving, giving-outcome}
 use Rattle.station.specs.Demand.{as-given}
 use Rattle.station.specs.Laws.Views.{Gives, refuses, holds-on, shuts, goes-on, enters, gives-view}
-
--- ---- with jump off a later step is 8, where the tests before pass
-pub off-is-8 : (mac : List ℕ → List ℕ → List ℕ) (m : Module) (t : Station) (ws : List ℕ) (coin : ℕ) (out : List ℕ) → t .jump ≡ false
-    → All (λ x. x .ok ≡ true) (station-tests m t coin out) → All (λ x. x .ok ≡ true) (bundle-tests (mac (m .key)) (m .n) (Only (t .identity .question)) ws)
-    → stage-step (t .stage) < step (main-of ws) → giving mac m t ws coin out ≡ as-given too-early m t out
-unfolding giving returned state-of first-failed pick
-off-is-8 mac m t ws coin out off ready valid up =
-    ap (λ (k : ℕ). returned m t out (pick (eqb k 0) whole (refused k)))
-    (passed-front (station-tests m t coin out) (bundle ++ step-tests (state-of t) (main-of ws)) ready ∙ passed-front bundle (step-tests (state-of t) (main-of ws)) valid ∙ eight)
-  where
-    bundle : List Test
-    bundle = bundle-tests (mac (m .key)) (m .n) (Only (t .identity .question)) ws
-
-    whole : Outcome
-    whole = answered (statement-code (mac (m .key))) last-round (m .n) (m .station) (last-for m (t .identity .question)) (state-of t) (main-of ws) (certificate-of ws) coin
-
-    eight : first-failed (step-tests (state-of t) (main-of ws)) ≡ too-early
-    eight = rw (off, le-leb (stage-step (t .stage)) (step (main-of ws)) (omega arith), lt-leb (step (main-of ws)) (stage-step (t .stage)) up)
 
 -- ---- the setting alone
 abbrev pub set-jump : Bool → Station → Station
@@ -128,45 +111,64 @@ module _ (code : Statement → List ℕ) (top n number : ℕ) (last : Last) wher
       go true = refl
       go false = ended-same k coin
 
-returned-same : (m : Module) (t : Station) (out : List ℕ) (b : Bool) (o : Outcome) → but-setting (returned m (set-jump b t) out o) ≡ but-setting (returned m (set-jump false t) out (but-jump o))
-unfolding returned as-station
-returned-same m t out b (refused k) = refl
-returned-same m t out b (keeps k u) = refl
-returned-same m t out b (sends k s c u) = refl
-
--- ---- two stations alike but for the setting get the same outcome but for the setting, where the bundle's step is not above theirs
-module _ (mac : List ℕ → List ℕ → List ℕ) (m : Module) (t : Station) (ws : List ℕ) (coin : ℕ) (out : List ℕ) (here : step (main-of ws) ≤ stage-step (t .stage)) where
-  outcome-same : but-jump (giving-outcome mac m (set-jump true t) ws coin out) ≡ but-jump (giving-outcome mac m (set-jump false t) ws coin out)
-  unfolding fits state-of pick
-  outcome-same = rw (le-ltb (stage-step (t .stage)) (step (main-of ws)) here) (go (eqb (first-failed (give-tests mac m (set-jump false t) ws coin out)) 0))
+module _ (form : Form) where
+  -- ---- with jump off a later step is 8, where the tests before pass
+  pub off-is-8 : (mac : List ℕ → List ℕ → List ℕ) (m : Module) (t : Station) (ws : List ℕ) (coin : ℕ) (out : List ℕ) → t .jump ≡ false
+      → All (λ x. x .ok ≡ true) (station-tests form m t coin out) → All (λ x. x .ok ≡ true) (bundle-tests form (mac (m .key)) (m .n) (Only (t .identity .question)) ws)
+      → stage-step (t .stage) < step (main-of form ws) → giving form mac m t ws coin out ≡ as-given too-early m t out
+  unfolding giving returned state-of first-failed pick
+  off-is-8 mac m t ws coin out off ready valid up =
+      ap (λ (k : ℕ). returned form m t out (pick (eqb k 0) whole (refused k)))
+      (passed-front (station-tests form m t coin out) (bundle ++ step-tests (state-of form t) (main-of form ws)) ready ∙ passed-front bundle (step-tests (state-of form t) (main-of form ws)) valid ∙ eight)
     where
-      k : ℕ
-      k = first-failed (give-tests mac m (set-jump false t) ws coin out)
+      bundle : List Test
+      bundle = bundle-tests form (mac (m .key)) (m .n) (Only (t .identity .question)) ws
 
-      whole : Bool → Outcome
-      whole b = taken (statement-code (mac (m .key))) last-round (m .n) (m .station) (last-for m (t .identity .question)) (with-jump b (state-of t)) (main-of ws) (certificate-of ws) coin
+      whole : Outcome
+      whole = answered (statement-code form (mac (m .key))) (last-round form) (m .n) (m .station) (last-for m (t .identity .question)) (state-of form t) (main-of form ws) (certificate-of form ws) coin
 
-      go : (b : Bool) → but-jump (pick b (whole true) (refused k)) ≡ but-jump (pick b (whole false) (refused k))
-      go true = taken-same (statement-code (mac (m .key))) last-round (m .n) (m .station) (last-for m (t .identity .question)) (state-of t) (main-of ws) (certificate-of ws) coin
-      go false = refl
+      eight : first-failed (step-tests (state-of form t) (main-of form ws)) ≡ too-early
+      eight = rw (off, le-leb (stage-step (t .stage)) (step (main-of form ws)) (omega arith), lt-leb (step (main-of form ws)) (stage-step (t .stage)) up)
 
-  pub same-but-setting : but-setting (giving mac m (set-jump true t) ws coin out) ≡ but-setting (giving mac m (set-jump false t) ws coin out)
-  unfolding giving
-  same-but-setting =
-      returned-same m t out true (giving-outcome mac m (set-jump true t) ws coin out)
-      ∙ ap (λ (o : Outcome). but-setting (returned m (set-jump false t) out o)) outcome-same
-      ∙ sym (returned-same m t out false (giving-outcome mac m (set-jump false t) ws coin out))
+  returned-same : (m : Module) (t : Station) (out : List ℕ) (b : Bool) (o : Outcome) → but-setting (returned form m (set-jump b t) out o) ≡ but-setting (returned form m (set-jump false t) out (but-jump o))
+  unfolding returned as-station
+  returned-same m t out b (refused k) = refl
+  returned-same m t out b (keeps k u) = refl
+  returned-same m t out b (sends k s c u) = refl
 
--- ---- a giving leaves question and setting, but for closing, which clears the setting
-pub setting-kept : (mac : List ℕ → List ℕ → List ℕ) (m : Module) (t : Station) (ws : List ℕ) (coin : ℕ) (out : List ℕ) → Lengths t
-    → (giving mac m t ws coin out .station .identity .question ≡ t .identity .question) × (giving mac m t ws coin out .station .jump ≡ true → t .jump ≡ true)
-unfolding giving returned as-station state-of
-setting-kept mac m t ws coin out L = go (giving-outcome mac m t ws coin out) (gives-view mac m t ws coin out L)
-  where
-    go : (o : Outcome) → Gives mac m t ws coin out o
-        → (returned m t out o .station .identity .question ≡ t .identity .question) × (returned m t out o .station .jump ≡ true → t .jump ≡ true)
-    go _ (refuses e) = (refl, λ j. j)
-    go _ (holds-on A few) = (refl, λ j. j)
-    go _ (shuts A size c) = (refl, λ j. never false refl j)
-    go _ (goes-on A size c later k) = (refl, λ j. j)
-    go _ (enters J later) = (refl, λ j. j)
+  -- ---- two stations alike but for the setting get the same outcome but for the setting, where the bundle's step is not above theirs
+  module _ (mac : List ℕ → List ℕ → List ℕ) (m : Module) (t : Station) (ws : List ℕ) (coin : ℕ) (out : List ℕ) (here : step (main-of form ws) ≤ stage-step (t .stage)) where
+    outcome-same : but-jump (giving-outcome form mac m (set-jump true t) ws coin out) ≡ but-jump (giving-outcome form mac m (set-jump false t) ws coin out)
+    unfolding fits state-of pick
+    outcome-same = rw (le-ltb (stage-step (t .stage)) (step (main-of form ws)) here) (go (eqb (first-failed (give-tests form mac m (set-jump false t) ws coin out)) 0))
+      where
+        k : ℕ
+        k = first-failed (give-tests form mac m (set-jump false t) ws coin out)
+
+        whole : Bool → Outcome
+        whole b = taken (statement-code form (mac (m .key))) (last-round form) (m .n) (m .station) (last-for m (t .identity .question)) (with-jump b (state-of form t)) (main-of form ws) (certificate-of form ws) coin
+
+        go : (b : Bool) → but-jump (pick b (whole true) (refused k)) ≡ but-jump (pick b (whole false) (refused k))
+        go true = taken-same (statement-code form (mac (m .key))) (last-round form) (m .n) (m .station) (last-for m (t .identity .question)) (state-of form t) (main-of form ws) (certificate-of form ws) coin
+        go false = refl
+
+    pub same-but-setting : but-setting (giving form mac m (set-jump true t) ws coin out) ≡ but-setting (giving form mac m (set-jump false t) ws coin out)
+    unfolding giving
+    same-but-setting =
+        returned-same m t out true (giving-outcome form mac m (set-jump true t) ws coin out)
+        ∙ ap (λ (o : Outcome). but-setting (returned form m (set-jump false t) out o)) outcome-same
+        ∙ sym (returned-same m t out false (giving-outcome form mac m (set-jump false t) ws coin out))
+
+  -- ---- a giving leaves question and setting, but for closing, which clears the setting
+  pub setting-kept : (mac : List ℕ → List ℕ → List ℕ) (m : Module) (t : Station) (ws : List ℕ) (coin : ℕ) (out : List ℕ) → Lengths form t
+      → (giving form mac m t ws coin out .station .identity .question ≡ t .identity .question) × (giving form mac m t ws coin out .station .jump ≡ true → t .jump ≡ true)
+  unfolding giving returned as-station state-of
+  setting-kept mac m t ws coin out L = go (giving-outcome form mac m t ws coin out) (gives-view form mac m t ws coin out L)
+    where
+      go : (o : Outcome) → Gives form mac m t ws coin out o
+          → (returned form m t out o .station .identity .question ≡ t .identity .question) × (returned form m t out o .station .jump ≡ true → t .jump ≡ true)
+      go _ (refuses e) = (refl, λ j. j)
+      go _ (holds-on A few) = (refl, λ j. j)
+      go _ (shuts A size c) = (refl, λ j. never false refl j)
+      go _ (goes-on A size c later k) = (refl, λ j. j)
+      go _ (enters J later) = (refl, λ j. j)

@@ -4,6 +4,7 @@ pub mod Fit
 pub mod Returns
 pub mod Calls
 pub mod Demand
+pub mod Present
 pub mod First
 pub mod Marked
 pub mod Order

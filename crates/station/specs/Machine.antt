@@ -6,7 +6,7 @@ use lib.Dec.{eqb, ltb, leb}
 use lib.ListN.{length, take}
 use Rattle.laws.specs.Pick.{pick}
 use Rattle.laws.specs.Refusals.{Test, test}
-use Rattle.format.specs.Numbers.{kind-INIT, kind-P, kind-V, none, D-GET, R-GET, last-round, kept, sent, sent-decided, closed-now, jumped, too-early, too-late, already-held, conflicting, not-above}
+use Rattle.format.specs.Numbers.{kind-INIT, kind-P, kind-V, none, D-GET, R-GET, kept, sent, sent-decided, closed-now, jumped, too-early, too-late, already-held, conflicting, not-above}
 use Rattle.format.specs.Group.{quorum, backing}
 use Rattle.format.specs.Words.{step-of}
 use Rattle.format.specs.Statement.{Statement, step}
@@ -16,7 +16,6 @@ use Rattle.rules.specs.Rules.{group, proposals, some, some-D-GET, some-value, n
 use Rattle.certificate.specs.Check.{every}
 use Rattle.modules.specs.declared.Last.{Last}
 use Rattle.modules.specs.Counter.{above}
-use Rattle.sealed.specs.Sealed.{signed}
 use Rattle.station.specs.declared.Stage.{Stage}
 use Rattle.station.specs.declared.Stage.the-variants.{Gathering, Proposing, Voting}
 

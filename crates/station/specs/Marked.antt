@@ -9,16 +9,17 @@ use lib.ListN.{replicate}
 use Rattle.laws.specs.Pick.{pick}
 use Rattle.laws.specs.Refusals.{test, first-failed}
 use Rattle.laws.specs.All.{All}
-use Rattle.format.specs.Numbers.{kind-INIT, kind-P, kind-V, none, D-GET, R-GET, no-certificate, kept, sent, sent-decided, jumped, too-late, too-early, conflicting, not-above, last-round}
+use Rattle.format.specs.Numbers.{kind-INIT, kind-P, kind-V, none, D-GET, R-GET, no-certificate, kept, sent, sent-decided, jumped, too-late, too-early, conflicting, not-above}
 use Rattle.format.specs.Group.{quorum, backing}
-use Rattle.format.specs.Words.{fields-of, word-of, formed, step-of}
-use Rattle.format.specs.Statement.{Statement, written, step, statement-code}
+use Rattle.format.specs.Words.{fields-of, word-of, step-of}
+use Rattle.format.specs.Statement.{Statement, step}
+use Rattle.format.specs.Present.{last-round, written, statement-code}
 use Rattle.rules.specs.Rules.{rule, wanted, some, in-order, holds, d-get-group, first-group, second-group, has-second, early-toss, rest-holds, spread, groups-hold}
 use Rattle.certificate.specs.Check.{every}
 use Rattle.modules.specs.declared.Last.{Last}
 use Rattle.modules.specs.declared.Module.{Module}
 use Rattle.modules.specs.Counter.{no-pair, pair, above}
-use Rattle.sealed.specs.Sealed.{coding-plain}
+use Rattle.sealed.specs.Present.{coding-plain}
 use Rattle.station.specs.declared.Stage.{Stage}
 use Rattle.station.specs.declared.Stage.the-variants.{Gathering}
 use Rattle.station.specs.Machine.{State, Outcome, refused, keeps, sends, proposing, voting, began, insert, number-of, first-value, those, vote-value, decided, carried, follows, ended, taken, answered, conflict, step-tests}
@@ -168,7 +169,7 @@ marked =
 
 -- every row holds, whatever the code and the key
 pub marked-hold : (mac : List ℕ → List ℕ → List ℕ) (key : List ℕ) → All (Holds mac key) marked
-unfolding pick backing seen first-failed rule wanted some in-order holds d-get-group first-group second-group has-second early-toss rest-holds spread groups-hold every insert number-of first-value those vote-value decided carried follows ended taken conflict step step-of above coding-plain fields-of word-of formed
+unfolding pick backing seen first-failed rule wanted some in-order holds d-get-group first-group second-group has-second early-toss rest-holds spread groups-hold every insert number-of first-value those vote-value decided carried follows ended taken conflict step step-of above Rattle.sealed.specs.Sealed.coding-plain fields-of word-of Rattle.format.specs.Statement.formed
 marked-hold mac key =
     ((refl, (refl, refl)), ((refl, (refl, refl)), ((refl, (refl, refl)), (refl, (refl, (refl, (refl, (refl, (refl, (refl, (refl, (refl, (refl, tt)))))))))))))
 

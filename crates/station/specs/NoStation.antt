@@ -11,18 +11,20 @@ use borrow.Author.Tests.{eqb-true}
 use Rattle.laws.specs.Pick.{pick}
 use Rattle.laws.specs.Bools.{never, both, is-false}
 use Rattle.laws.specs.Refusals.{first-failed}
-use Rattle.format.specs.Numbers.{none, output-words, short-output, out-of-range}
+use Rattle.format.specs.Form.{present-form}
+use Rattle.format.specs.Numbers.{none, short-output, out-of-range}
+use Rattle.format.specs.Present.{output-words}
 use Rattle.modules.specs.declared.Module.{Module}
-use Rattle.modules.specs.Counter.{module-fits}
-use Rattle.station.specs.Fit.{fits}
+use Rattle.modules.specs.Present.{module-fits}
 use Rattle.station.specs.Returns.{unrefused}
-use Rattle.station.specs.Calls.{Returned, returned, opening, giving, no-station}
+use Rattle.station.specs.Calls.{Returned}
 use Rattle.station.specs.Laws.Views.{in-range}
 use Rattle.station.specs.Refused.{opening-refused}
+use Rattle.station.specs.Present.{fits, opening, giving, no-station}
 
 -- it names no decision, so that a refused opening never looks like a decided station
 pub no-station-undecided : no-station .decision ≡ none
-unfolding no-station
+unfolding Rattle.station.specs.Calls.no-station
 no-station-undecided = refl
 
 pub refused-undecided : (mac : List ℕ → List ℕ → List ℕ) (m : Module) (question v jump : ℕ) (out : List ℕ)
@@ -31,8 +33,8 @@ refused-undecided mac m question v jump out e = ap (λ (r : Returned). r .statio
 
 -- it fits no module that is in range
 pub no-station-fits : (m : Module) → module-fits m ≡ true → fits (m .n) (m .station) no-station ≡ false
-unfolding no-station fits
-no-station-fits m r = is-false (fits (m .n) (m .station) no-station) (λ h. omega (arith, eqb-true 0 (m .n) (both (eqb 0 (m .n)) _ (both (eqb 0 (m .n) && eqb 0 (m .station)) _ h .0) .0), in-range m r .at-least-2))
+unfolding Rattle.station.specs.Calls.no-station Rattle.station.specs.Fit.fits
+no-station-fits m r = is-false (fits (m .n) (m .station) no-station) (λ h. omega (arith, eqb-true 0 (m .n) (both (eqb 0 (m .n)) _ (both (eqb 0 (m .n) && eqb 0 (m .station)) _ h .0) .0), in-range present-form m r .at-least))
 
 -- every giving on it is answered 1 or 2
 module _ (mac : List ℕ → List ℕ → List ℕ) (m : Module) (ws : List ℕ) (coin : ℕ) (out : List ℕ) where
@@ -40,7 +42,7 @@ module _ (mac : List ℕ → List ℕ → List ℕ) (m : Module) (ws : List ℕ)
   unfit = is-false _ (λ h. let a = both (module-fits m && ltb coin 2) _ h in never _ (no-station-fits m (both (module-fits m) _ (a .0) .0)) (a .1))
 
   pub no-station-refused : (giving mac m no-station ws coin out .number ≡ short-output) ⊎ (giving mac m no-station ws coin out .number ≡ out-of-range)
-  unfolding giving returned first-failed pick
+  unfolding Rattle.station.specs.Calls.giving Rattle.station.specs.Calls.returned first-failed pick
   no-station-refused = go (leb output-words (length out)) refl
     where
       go : (b : Bool) → leb output-words (length out) ≡ b

@@ -14,8 +14,8 @@ use Rattle.modules.specs.declared.Module.{Module}
 use Rattle.station.specs.declared.Stage.the-variants.{Gathering}
 use Rattle.station.specs.declared.Station.{Station}
 use Rattle.station.specs.Machine.{proposing, insert, taken, conflict}
-use Rattle.station.specs.Calls.{open-tests, give-tests}
 use Rattle.station.specs.Marked.{init, proposal, all-of, nones, _by_, answers, seen, Row, gives, Holds}
+use Rattle.station.specs.Present.{open-tests, give-tests}
 
 abbrev pub numbers : List Test → List ℕ
 numbers [] = []

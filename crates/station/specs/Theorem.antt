@@ -11,40 +11,40 @@ use Rattle.laws.specs.Pick.{pick}
 use Rattle.laws.specs.Bools.{both, join}
 use Rattle.laws.specs.Refusals.{first-failed, all-passed, failed-one, passed-front}
 use Rattle.laws.specs.All.{All}
-use Rattle.format.specs.Numbers.{output-words, last-round, code-words}
-use Rattle.format.specs.Statement.{statement-code}
+use Rattle.format.specs.Form.{present-form}
+use Rattle.format.specs.Numbers.{code-words}
+use Rattle.format.specs.Present.{output-words, last-round, statement-code, main-of, certificate-of}
 use Rattle.hmac.specs.Code.{hmac-code, hmac-eight}
-use Rattle.format.specs.Bundle.{main-of, certificate-of}
 use Rattle.rules.specs.declared.Which.the-variants.{Any, Only}
-use Rattle.certificate.specs.Check.{one-question, bundle-tests, check-tests, check-by}
+use Rattle.certificate.specs.Check.{one-question}
+use Rattle.certificate.specs.Present.{bundle-tests, check-tests, check-by}
 use Rattle.modules.specs.declared.Module.{Module}
-use Rattle.modules.specs.Counter.{module-fits, last-for}
+use Rattle.modules.specs.Counter.{last-for}
+use Rattle.modules.specs.Present.{module-fits}
 use Rattle.station.specs.declared.Station.{Station}
 use Rattle.station.specs.Machine.{refused, answered, step-tests}
-use Rattle.station.specs.Words.{state-of}
-use Rattle.station.specs.Fit.{fits}
-use Rattle.station.specs.Calls.{returned, giving, station-tests, give-tests}
-use Rattle.station.specs.Demand.{invalid, OfGroup, ValidToAll, Demand-2}
+use Rattle.station.specs.Demand.{invalid, OfGroup}
 use Rattle.station.specs.Laws.Views.{answered-number}
 use Rattle.station.specs.Laws.Fits as Fits
 use Rattle.station.specs.Written as Written
 use Rattle.station.specs.Refused as Refused
 use Rattle.station.specs.Coin as Coin
 use Rattle.station.specs.Seal as Seal
+use Rattle.station.specs.Present.{state-of, fits, returned, giving, station-tests, give-tests, ValidToAll, Demand-2}
 
 module _ (mac : List ℕ → List ℕ → List ℕ) (key : List ℕ) (n : ℕ) (ws : List ℕ) (valid : check-by (mac key) n Any ws ≡ 0) where
   -- the check's tests of the bundle, where one question is asked for
   bundle-passed : (question : ℕ) → main-of ws .question ≡ question → All (λ t. t .ok ≡ true) (bundle-tests (mac key) n (Only question) ws)
-  unfolding check-by
+  unfolding Rattle.certificate.specs.Check.check-by
   bundle-passed question e =
       let p = all-passed (check-tests (mac key) n Any ws) (omega arith, (omega arith, (omega arith, (omega arith, (omega arith, tt))))) valid .1 in
       (p .0, (join (one-question (main-of ws) (certificate-of ws)) _ (both (one-question (main-of ws) (certificate-of ws)) _ (p .1 .0) .0) (eq-eqb _ _ e), p .1 .1))
 
   -- valid words, given to any open and fitting station of the group on their question
-  taken-everywhere : (number : ℕ) (m : Module) (t : Station) (coin : ℕ) (out : List ℕ) → OfGroup mac key n number m → module-fits m ≡ true
+  taken-everywhere : (number : ℕ) (m : Module) (t : Station) (coin : ℕ) (out : List ℕ) → OfGroup key n number m → module-fits m ≡ true
       → fits (m .n) (m .station) t ≡ true → t .closed ≡ false → main-of ws .question ≡ t .identity .question → output-words ≤ length out → coin < 2
       → invalid (giving mac m t ws coin out .number) ≡ false
-  unfolding giving returned pick
+  unfolding Rattle.station.specs.Calls.giving Rattle.station.specs.Calls.returned pick
   taken-everywhere number m t coin out G fit fitting still same room bit = go (eqb (first-failed (give-tests mac m t ws coin out)) 0) refl
     where
       ready : All (λ x. x .ok ≡ true) (station-tests m t coin out)
@@ -67,7 +67,7 @@ module _ (mac : List ℕ → List ℕ → List ℕ) (key : List ℕ) (n : ℕ) (
       go : (b : Bool) → eqb (first-failed (give-tests mac m t ws coin out)) 0 ≡ b
           → invalid (returned m t out (pick b (answered (statement-code (mac (m .key))) last-round (m .n) (m .station) (last-for m (t .identity .question)) (state-of t) (main-of ws) (certificate-of ws) coin)
           (refused (first-failed (give-tests mac m t ws coin out)))) .number) ≡ false
-      go true e = answered-number mac m t ws coin out (λ k. invalid k ≡ false) refl refl refl refl refl refl
+      go true e = answered-number present-form mac m t ws coin out (λ k. invalid k ≡ false) refl refl refl refl refl refl
       go false e =
           subst (λ (k : ℕ). invalid k ≡ false) (sym left)
           (failed-one (λ k. invalid k ≡ false) (step-tests (state-of t) (main-of ws)) (refl, (refl, (refl, (refl, tt)))) (λ z. eqb-false _ _ e (left ∙ z)))
@@ -78,16 +78,16 @@ module _ (mac : List ℕ → List ℕ → List ℕ) (key : List ℕ) (n : ℕ) (
 pub demand-2-of : (mac : List ℕ → List ℕ → List ℕ) → ((key ws : List ℕ) → length (mac key ws) ≡ code-words) → Demand-2 mac
 demand-2-of mac eight =
     record {
-      opening-written = λ key n number m question v jump out G u. valid-to-all mac key n _ (Written.opening-written mac key n eight number m question v jump out G u);
-      giving-written = λ key n number t R m ws coin out G u. valid-to-all mac key n _ (Written.giving-written mac key n eight number t R m ws coin out G u);
+      opening-written = λ key n number m question v jump out G u. valid-to-all mac key n _ (Written.opening-written present-form mac key n eight number m question v jump out G u);
+      giving-written = λ key n number t R m ws coin out G u. valid-to-all mac key n _ (Written.giving-written present-form mac key n eight number t R m ws coin out G u);
       opening-counted = λ m question v jump out. Seal.opening-counted mac eight m question v jump out;
       giving-counted = λ m t ws coin out L. Seal.giving-counted mac eight m t ws coin out L;
       opening-silent = λ m question v jump out u. Seal.opening-silent mac eight m question v jump out u;
       giving-silent = λ m t ws coin out L u. Seal.giving-silent mac eight m t ws coin out L u;
       opening-sealed = λ m question v jump out u coin. Seal.opening-sealed mac eight m question v jump out u coin;
       giving-sealed = λ m t ws coin out L u. Seal.giving-sealed mac eight m t ws coin out L u;
-      opening-fits = λ m question v jump out u. Fits.opening-fits mac eight m question v jump out u;
-      giving-fits = λ m t ws coin out L u. Fits.giving-fits mac eight m t ws coin out L u;
+      opening-fits = λ m question v jump out u. Fits.opening-fits present-form mac eight m question v jump out u;
+      giving-fits = λ m t ws coin out L u. Fits.giving-fits present-form mac eight m t ws coin out L u;
       opening-refused = λ m question v jump out u. Refused.opening-refused mac m question v jump out u;
       giving-refused = λ m t ws coin out L u. Refused.giving-refused mac m t ws coin out L u;
       coin-effect = λ m t ws out. Coin.coin-effect mac m t ws out;

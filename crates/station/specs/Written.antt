@@ -13,7 +13,8 @@ use borrow.Author.Tests.{eq-eqb}
 use Rattle.laws.specs.Pick.{pick}
 use Rattle.laws.specs.Bools.{never, join}
 use Rattle.laws.specs.All.{All, all-map, all-append}
-use Rattle.format.specs.Numbers.{kind-INIT, kind-P, kind-V, none, D-GET, R-GET, bundle-words, most-statements, last-round, code-words, most-stations}
+use Rattle.format.specs.Form.{Form, most-stations, last-round, most-statements, statement-words, bundle-words, words-mono}
+use Rattle.format.specs.Numbers.{kind-INIT, kind-P, kind-V, none, D-GET, R-GET, code-words}
 use Rattle.format.specs.Group.{quorum, backing}
 use Rattle.format.specs.Statement.{Statement, statements, covered, same-words, verifies, statement-code}
 use Rattle.hmac.specs.Code.{hmac-code, hmac-eight}
@@ -48,39 +49,11 @@ use Rattle.station.specs.Demand.{message, OfGroup, Reached, by-opening, 
 use Rattle.station.specs.Laws.Fits.{backed, own-proper, init-sane, next-ready, sent-proper, sent-sane, kept-sane, jump-proper, jump-fitting, jump-sane}
 use Rattle.station.specs.Laws.Bundles.{bundle-valid, backed-few, ws-length}
 
--- ---- the lengths of a station that is written from a state
-pub lengths-of : (n number : ℕ) (t : State) → n ≤ most-stations → Sane n number t → Lengths (W.as-station n number t)
-unfolding W.as-station
-lengths-of n number t top S =
-    record {
-      slots = slots-length n (t .held) 1 sites (S .proper);
-      for-value = group-length (t .for-value) (S .for-value .proper) (omega (arith, S .for-value .as-asked .size, for-value-size n (t .stage) (t .held) top));
-      for-none = group-length (t .for-none) (S .for-none .proper) (omega (arith, S .for-none .as-asked .size, for-none-size n (t .stage) (t .held) top));
-    }
-  where
-    group-length : (c : List Statement) → All (Proper n) c → length c ≤ quorum sites → length (group-words c) ≡ kept-words
-    group-length c p few =
-        length-append (all-written c) (replicate (160 - length c * 10) 0) ∙ omega (arith, length-all n c p, length-replicate {A = ℕ} (160 - length c * 10) 0)
-
-pub shut-lengths : (n number : ℕ) (t : State) → t .held ≡ [] → t .for-value ≡ [] → t .for-none ≡ [] → Lengths (W.as-station n number t)
-unfolding W.as-station W.slots-of W.slot-of all-written
-shut-lengths n number t a b c = record { slots = rw a; for-value = rw b; for-none = rw c }
-
 -- ---- what is held and kept verifies
 pub same-self : (l : List ℕ) → same-words l l ≡ true
 unfolding same-words
 same-self [] = refl
 same-self (x ∷ l) = join (eqb x x) _ (eq-eqb x x refl) (same-self l)
-
-pub own-verifies : (code : List ℕ → List ℕ) (number question kind value flag round : ℕ) → verifies code (own (statement-code code) number question kind value flag round) ≡ true
-unfolding verifies
-own-verifies code number question kind value flag round = same-self (code (covered (own (statement-code code) number question kind value flag round)))
-
-pub record Certain (code : List ℕ → List ℕ) (t : State) : Type 0 where
-  pub held : All (λ s. verifies code s ≡ true) (t .held)
-  pub for-value : All (λ s. verifies code s ≡ true) (t .for-value)
-  pub for-none : All (λ s. verifies code s ≡ true) (t .for-none)
-  pub given : Given (t .held)
 
 -- what holds of all that is held and kept holds of the certificate that follows
 module _ (P : Statement → Type 0) (n : ℕ) (k : State) (coin : ℕ) (h : All P (k .held)) (f : All P (k .for-value)) (s : All P (k .for-none)) where
@@ -116,248 +89,281 @@ backed-given n m _ (rule-5 k v h i s o) r p = absurd (omega arith)
 backed-given n m c (rule-6 k v a h b) r p = absurd (omega arith)
 backed-given n m _ (rule-7 k v a h b s) r p = absurd (omega arith)
 
--- the state of a station that has sent, by its own statement and its certificate
-began-certain : (code : List ℕ → List ℕ) (n question d : ℕ) (jump : Bool) (g : Stage) (s : Statement) (c : List Statement) → verifies code s ≡ true
-    → All (λ s. verifies code s ≡ true) c → Backed n s c → Certain code (began n question jump g d s c)
-unfolding pick
-began-certain code n question d jump g s c v vs b =
-    record { held = (v, tt); for-value = part (supplies-for-value g s); for-none = part (supplies-for-none g s); given = (backed-given n s c b, tt) }
-  where
-    part : (b : Bool) → All (λ s. verifies code s ≡ true) (pick b (take (quorum n) c) [])
-    part true = all-take (λ s. verifies code s ≡ true) (quorum n) c vs
-    part false = tt
-
-module _ (mac : List ℕ → List ℕ → List ℕ) (m : Module) (t : Station) (ws : List ℕ) (coin : ℕ) (out : List ℕ) (A : Accepted mac m t ws coin out) where
-  abbrev code : List ℕ → List ℕ
-  code = mac (m .key)
-
-  verified : (verifies code (main-of ws) ≡ true) × All (λ s. verifies code s ≡ true) (certificate-of ws)
-  unfolding statements
-  verified = A .codes
-
-  pub kept-certain : Certain code (state-of t) → Certain code (after mac m t ws coin out)
-  unfolding pick
-  kept-certain C =
+module _ (form : Form) where
+  -- ---- the lengths of a station that is written from a state
+  pub lengths-of : (n number : ℕ) (t : State) → n ≤ most-stations form → Sane form n number t → Lengths form (W.as-station form n number t)
+  unfolding W.as-station
+  lengths-of n number t top S =
       record {
-        held = insert-all (λ s. verifies code s ≡ true) (main-of ws) (state-of t .held) (verified .0) (C .held);
-        for-value = part (takes (supplies-for-value (state-of t .stage)) (state-of t .held) (main-of ws)) (state-of t .for-value) (C .for-value);
-        for-none = part (takes (supplies-for-none (state-of t .stage)) (state-of t .held) (main-of ws)) (state-of t .for-none) (C .for-none);
-        given = insert-all (λ s. s .round ≡ 1 → s .kind ≡ kind-P → s .flag ≡ D-GET) (main-of ws) (state-of t .held)
-            (backed-given (m .n) (main-of ws) (certificate-of ws) (A .fitting .backed)) (C .given);
+        slots = slots-length form n (t .held) 1 (sites form) (S .proper);
+        for-value = group-length (t .for-value) (S .for-value .proper) (omega (arith, S .for-value .as-asked .size, for-value-size form n (t .stage) (t .held) top));
+        for-none = group-length (t .for-none) (S .for-none .proper) (omega (arith, S .for-none .as-asked .size, for-none-size form n (t .stage) (t .held) top));
       }
     where
-      part : (b : Bool) (l : List Statement) → All (λ s. verifies code s ≡ true) l → All (λ s. verifies code s ≡ true) (pick b (take (quorum (m .n)) (certificate-of ws)) l)
-      part true l h = all-take (λ s. verifies code s ≡ true) (quorum (m .n)) (certificate-of ws) (verified .1)
-      part false l h = h
+      group-length : (c : List Statement) → All (Proper form n) c → length c ≤ quorum (sites form) → length (group-words form c) ≡ kept-words form
+      group-length c p few =
+          length-append (all-written form c) (replicate (kept-words form - length c * statement-words form) 0) ∙ omega (arith, length-all form n c p, words-mono form (length c) (quorum (sites form)) few, length-replicate {A = ℕ} (kept-words form - length c * statement-words form) 0)
 
-  module _ (eight : (key ws : List ℕ) → length (mac key ws) ≡ code-words) (L : Lengths t) (C : Certain code (state-of t))
-      (size : length (after mac m t ws coin out .held) ≡ quorum (m .n)) (more : closes last-round (t .stage) ≡ false) where
-    abbrev x : Next
-    x = follows (m .n) (t .stage) (after mac m t ws coin out) coin
+  pub shut-lengths : (n number : ℕ) (t : State) → t .held ≡ [] → t .for-value ≡ [] → t .for-none ≡ [] → Lengths form (W.as-station form n number t)
+  unfolding W.as-station W.slots-of W.slot-of all-written
+  shut-lengths n number t a b c =
+      record { slots = rw a (slots-length form n [] 1 (sites form) tt); for-value = rw b none-kept; for-none = rw c none-kept }
+    where
+      none-kept : length (replicate {A = ℕ} (kept-words form - 0 * statement-words form) 0) ≡ kept-words form
+      none-kept = length-replicate (kept-words form - 0 * statement-words form) 0 ∙ omega arith
 
-    abbrev s : Statement
-    s = sent-statement mac m t ws coin out
+  pub own-verifies : (code : List ℕ → List ℕ) (number question kind value flag round : ℕ) → verifies form code (own (statement-code form code) number question kind value flag round) ≡ true
+  unfolding verifies
+  own-verifies code number question kind value flag round = same-self (code (covered form (own (statement-code form code) number question kind value flag round)))
 
-    certain-after : Certain code (after mac m t ws coin out)
-    certain-after = kept-certain C
+  pub record Certain (code : List ℕ → List ℕ) (t : State) : Type 0 where
+    pub held : All (λ s. verifies form code s ≡ true) (t .held)
+    pub for-value : All (λ s. verifies form code s ≡ true) (t .for-value)
+    pub for-none : All (λ s. verifies form code s ≡ true) (t .for-none)
+    pub given : Given (t .held)
 
-    stage-same : after mac m t ws coin out .stage ≡ t .stage
-    unfolding state-of
-    stage-same = refl
+  -- the state of a station that has sent, by its own statement and its certificate
+  began-certain : (code : List ℕ → List ℕ) (n question d : ℕ) (jump : Bool) (g : Stage) (s : Statement) (c : List Statement) → verifies form code s ≡ true
+      → All (λ s. verifies form code s ≡ true) c → Backed n s c → Certain code (began n question jump g d s c)
+  unfolding pick
+  began-certain code n question d jump g s c v vs b =
+      record { held = (v, tt); for-value = part (supplies-for-value g s); for-none = part (supplies-for-none g s); given = (backed-given n s c b, tt) }
+    where
+      part : (b : Bool) → All (λ s. verifies form code s ≡ true) (pick b (take (quorum n) c) [])
+      part true = all-take (λ s. verifies form code s ≡ true) (quorum n) c vs
+      part false = tt
 
-    pub sent-backed : Backed (m .n) s (x .first ++ x .second)
-    sent-backed =
-        backed (m .n) (after mac m t ws coin out) (full-after mac m t ws coin out L A size) coin (A .coin-bit) (certain-after .given) (t .stage) stage-same more s refl refl refl refl
+  module _ (mac : List ℕ → List ℕ → List ℕ) (m : Module) (t : Station) (ws : List ℕ) (coin : ℕ) (out : List ℕ) (A : Accepted form mac m t ws coin out) where
+    abbrev code : List ℕ → List ℕ
+    code = mac (m .key)
 
-    parts-verify : All (λ s. verifies code s ≡ true) (x .first) × All (λ s. verifies code s ≡ true) (x .second)
-    parts-verify =
-        next-all (λ s. verifies code s ≡ true) (m .n) (after mac m t ws coin out) coin (certain-after .held) (certain-after .for-value) (certain-after .for-none) (t .stage)
+    verified : (verifies form code (main-of form ws) ≡ true) × All (λ s. verifies form code s ≡ true) (certificate-of form ws)
+    unfolding statements
+    verified = A .codes
 
-    s-verifies : verifies code s ≡ true
-    s-verifies = own-verifies code (m .station) (t .identity .question) (x .kind) (x .value) (x .flag) (x .round)
-
-    all-verify : All (λ s. verifies code s ≡ true) (x .first ++ x .second)
-    all-verify = all-append (λ y. verifies code y ≡ true) (x .first) (x .second) (parts-verify .0) (parts-verify .1)
-
-    pub sent-certain : Certain code (began (m .n) (t .identity .question) (t .jump) (x .stage) (decision-then mac m t ws coin out) s (x .first ++ x .second))
-    sent-certain = began-certain code (m .n) (t .identity .question) (decision-then mac m t ws coin out) (t .jump) (x .stage) s (x .first ++ x .second) s-verifies all-verify sent-backed
-
-    pub sent-valid : Valid code (m .n) (bundle-of s (x .first ++ x .second))
-    sent-valid =
-        let R = next-ready mac eight m t ws coin out L A size more in
-        bundle-valid (m .n) s (x .first ++ x .second) (A .range .at-most-31) (sent-proper mac eight m t ws coin out L A size more)
-        (all-append (Proper (m .n)) (x .first) (x .second) (R .proper) (R .more-proper))
-        (backed-few (m .n) s (x .first ++ x .second) (A .range .at-most-31) sent-backed) code (A .range .at-least-2)
-        (all-append (λ y. y .question ≡ t .identity .question) (x .first) (x .second) (R .alike) (R .more-alike)) s-verifies
-        all-verify sent-backed
-
--- ---- a jump: the given certificate verifies and backs the own statement
-module _ (mac : List ℕ → List ℕ → List ℕ) (eight : (key ws : List ℕ) → length (mac key ws) ≡ code-words) (m : Module) (t : Station) (ws : List ℕ) (coin : ℕ) (out : List ℕ)
-    (J : Jumping mac m t ws coin out) where
-  abbrev u : Statement
-  u = jump-statement mac m t ws coin out
-
-  given-verifies : All (λ s. verifies (mac (m .key)) s ≡ true) (certificate-of ws)
-  unfolding statements
-  given-verifies = J .codes .1
-
-  own-code : verifies (mac (m .key)) u ≡ true
-  own-code = own-verifies (mac (m .key)) (m .station) (t .identity .question) (main-of ws .kind) (copied-value (main-of ws) coin) (main-of ws .flag) (main-of ws .round)
-
-  pub jump-few : length (certificate-of ws) ≤ most-statements
-  jump-few = backed-few (m .n) u (certificate-of ws) (J .range .at-most-31) (jump-fitting mac eight m t ws coin out J .backed)
-
-  pub jump-certain : Certain (mac (m .key)) (began (m .n) (t .identity .question) (t .jump) (stage-of (main-of ws)) (t .decision) u (certificate-of ws))
-  jump-certain =
-      began-certain (mac (m .key)) (m .n) (t .identity .question) (t .decision) (t .jump) (stage-of (main-of ws)) u (certificate-of ws) own-code given-verifies
-      (jump-fitting mac eight m t ws coin out J .backed)
-
-  pub jump-valid : Valid (mac (m .key)) (m .n) (bundle-of u (certificate-of ws))
-  unfolding state-of
-  jump-valid =
-      let F = jump-fitting mac eight m t ws coin out J in
-      bundle-valid (m .n) u (certificate-of ws) (J .range .at-most-31) (F .proper) (F .certificate) jump-few (mac (m .key)) (J .range .at-least-2) (F .alike) own-code given-verifies (F .backed)
-
--- ---- stations made by opening and changed only by these calls
-module _ (mac : List ℕ → List ℕ → List ℕ) (key : List ℕ) (n : ℕ) where
-  pub record Good (number : ℕ) (t : Station) : Type 0 where
-    pub lengths : Lengths t
-    pub certain : t .closed ≡ false → Certain (mac key) (state-of t)
-
-  module _ (eight : (key ws : List ℕ) → length (mac key ws) ≡ code-words) where
-    -- a station written from a sane state of which all is certain
-    good-state : (number i : ℕ) (t : State) → i ≤ most-stations → 1 ≤ number → number ≤ i → Sane i number t → Certain (mac key) t → Good number (W.as-station i number t)
-    good-state number i t top lo hi S C =
+    pub kept-certain : Certain code (state-of form t) → Certain code (after form mac m t ws coin out)
+    unfolding pick
+    kept-certain C =
         record {
-          lengths = lengths-of i number t top S;
-          certain = λ e. subst (λ (u : State). Certain (mac key) u) (sym (state-back i number t top lo hi S)) C;
+          held = insert-all (λ s. verifies form code s ≡ true) (main-of form ws) (state-of form t .held) (verified .0) (C .held);
+          for-value = part (takes (supplies-for-value (state-of form t .stage)) (state-of form t .held) (main-of form ws)) (state-of form t .for-value) (C .for-value);
+          for-none = part (takes (supplies-for-none (state-of form t .stage)) (state-of form t .held) (main-of form ws)) (state-of form t .for-none) (C .for-none);
+          given = insert-all (λ s. s .round ≡ 1 → s .kind ≡ kind-P → s .flag ≡ D-GET) (main-of form ws) (state-of form t .held)
+              (backed-given (m .n) (main-of form ws) (certificate-of form ws) (A .fitting .backed)) (C .given);
         }
-
-    good-shut : (number i : ℕ) (t : State) → t .closed ≡ true → t .held ≡ [] → t .for-value ≡ [] → t .for-none ≡ [] → Good number (W.as-station i number t)
-    unfolding W.as-station
-    good-shut number i t c h f s = record { lengths = shut-lengths i number t h f s; certain = λ e. never (t .closed) e c }
-
-    pub good-opening : (number : ℕ) (m : Module) (question v jump : ℕ) (out : List ℕ) → OfGroup mac key n number m → unrefused (opening mac m question v jump out .number) ≡ true
-        → Good number (opening mac m question v jump out .station)
-    unfolding opening returned pick
-    good-opening number m question v jump out G = go (opening-outcome mac m question v jump out) (opens-view mac m question v jump out)
       where
-        go : (o : Outcome) → Opens mac m question v jump out o → unrefused (returned m no-station out o .number) ≡ true → Good number (returned m no-station out o .station)
-        go _ (no-opening e) u = never _ e u
-        go _ (begins room r p a) u =
-            let b = began (m .n) question (eqb jump 1) Gathering none (init-statement mac m question v out) [] in
-            subst (λ (i : ℕ). Good i (W.as-station (m .n) (m .station) b)) (G .same-number)
-            (good-state (m .station) (m .n) b (r .at-most-31) (r .low) (r .high)
-            (init-sane mac eight m question v (eqb jump 1) r p)
-            (subst (λ (c : List ℕ). Certain (mac c) b) (G .same-key)
-            (record { held = (own-verifies (mac (m .key)) (m .station) question kind-INIT v D-GET 0, tt); for-value = tt; for-none = tt; given = ((λ a b. absurd (omega arith)), tt) })))
+        part : (b : Bool) (l : List Statement) → All (λ s. verifies form code s ≡ true) l → All (λ s. verifies form code s ≡ true) (pick b (take (quorum (m .n)) (certificate-of form ws)) l)
+        part true l h = all-take (λ s. verifies form code s ≡ true) (quorum (m .n)) (certificate-of form ws) (verified .1)
+        part false l h = h
 
-    pub good-giving : (number : ℕ) (t : Station) → Good number t → (m : Module) (ws : List ℕ) (coin : ℕ) (out : List ℕ) → OfGroup mac key n number m
-        → unrefused (giving mac m t ws coin out .number) ≡ true → Good number (giving mac m t ws coin out .station)
-    unfolding giving returned
-    good-giving number t good m ws coin out G = go (giving-outcome mac m t ws coin out) (gives-view mac m t ws coin out (good .lengths))
-      where
-        C : Accepted mac m t ws coin out → Certain (mac (m .key)) (state-of t)
-        C A = subst (λ (c : List ℕ). Certain (mac c) (state-of t)) (sym (G .same-key)) (good .certain (A .still-open))
+    module _ (eight : (key ws : List ℕ) → length (mac key ws) ≡ code-words) (L : Lengths form t) (C : Certain code (state-of form t))
+        (size : length (after form mac m t ws coin out .held) ≡ quorum (m .n)) (more : closes (last-round form) (t .stage) ≡ false) where
+      abbrev x : Next
+      x = follows (m .n) (t .stage) (after form mac m t ws coin out) coin
 
-        of-key : {u : State} → Certain (mac (m .key)) u → Certain (mac key) u
-        of-key {u} c = subst (λ (x : List ℕ). Certain (mac x) u) (G .same-key) c
+      abbrev s : Statement
+      s = sent-statement form mac m t ws coin out
 
-        here : (u : State) → Good (m .station) (W.as-station (m .n) (m .station) u) → Good number (W.as-station (m .n) (m .station) u)
-        here u g = subst (λ (i : ℕ). Good i (W.as-station (m .n) (m .station) u)) (G .same-number) g
+      certain-after : Certain code (after form mac m t ws coin out)
+      certain-after = kept-certain C
 
-        go : (o : Outcome) → Gives mac m t ws coin out o → unrefused (returned m t out o .number) ≡ true → Good number (returned m t out o .station)
-        go _ (refuses e) u = never _ e u
-        go _ (holds-on A few) u =
-            here (after mac m t ws coin out) (good-state (m .station) (m .n) (after mac m t ws coin out) (A .range .at-most-31) (A .range .low) (A .range .high)
-            (kept-sane mac eight m t ws coin out (good .lengths) A few) (of-key (kept-certain mac m t ws coin out A (C A))))
-        go _ (shuts A size c) u =
-            here (shut (after mac m t ws coin out) (decision-then mac m t ws coin out))
-            (good-shut (m .station) (m .n) (shut (after mac m t ws coin out) (decision-then mac m t ws coin out)) refl refl refl refl)
-        go _ (goes-on A size c above k) u =
-            here _ (good-state (m .station) (m .n) _ (A .range .at-most-31) (A .range .low) (A .range .high)
-            (sent-sane mac eight m t ws coin out (good .lengths) A size c) (of-key (sent-certain mac m t ws coin out A eight (good .lengths) (C A) size c)))
-        go _ (enters J above) u =
-            here _ (good-state (m .station) (m .n) _ (J .range .at-most-31) (J .range .low) (J .range .high)
-            (jump-sane mac eight m t ws coin out J (good .lengths)) (of-key (jump-certain mac eight m t ws coin out J)))
+      stage-same : after form mac m t ws coin out .stage ≡ t .stage
+      unfolding state-of
+      stage-same = refl
 
-    pub reached-good : (number : ℕ) (t : Station) → Reached mac key n number t → Good number t
-    reached-good number _ (by-opening m question v jump out G u) = good-opening number m question v jump out G u
-    reached-good number _ (by-giving {t} r m ws coin out G u) = good-giving number t (reached-good number t r) m ws coin out G u
+      pub sent-backed : Backed (m .n) s (x .first ++ x .second)
+      sent-backed =
+          backed form (m .n) (after form mac m t ws coin out) (full-after form mac m t ws coin out L A size) coin (A .coin-bit) (certain-after .given) (t .stage) stage-same more s refl refl refl refl
 
-    -- the written words are the bundle's, and no more
-    pub bundle-front : (i : ℕ) (s : Statement) (c : List Statement) (out : List ℕ) → i ≤ most-stations → Proper i s → All (Proper i) c → length c ≤ most-statements
-        → take (bundle-words (length c)) (over (bundle-of s c) out) ≡ bundle-of s c
-    unfolding bundle-of
-    bundle-front i s c out top p a few =
-        take-at (bundle-of s c) (drop (length (bundle-of s c)) out) (bundle-words (length c)) (ws-length i s c top p a few)
+      parts-verify : All (λ s. verifies form code s ≡ true) (x .first) × All (λ s. verifies form code s ≡ true) (x .second)
+      parts-verify =
+          next-all (λ s. verifies form code s ≡ true) (m .n) (after form mac m t ws coin out) coin (certain-after .held) (certain-after .for-value) (certain-after .for-none) (t .stage)
 
-    pub opening-written : (number : ℕ) (m : Module) (question v jump : ℕ) (out : List ℕ) → OfGroup mac key n number m → wrote (opening mac m question v jump out .number) ≡ true
-        → check-by (mac key) n Any (message (opening mac m question v jump out)) ≡ 0
-    unfolding opening returned
-    opening-written number m question v jump out G = go (opening-outcome mac m question v jump out) (opens-view mac m question v jump out)
-      where
-        go : (o : Outcome) → Opens mac m question v jump out o → wrote (returned m no-station out o .number) ≡ true
-            → check-by (mac key) n Any (message (returned m no-station out o)) ≡ 0
-        go _ (no-opening {k} e) u = never (unrefused k) e (wrote-unrefused k u)
-        go _ (begins room r p a) u = checks
-          where
-            s : Statement
-            s = init-statement mac m question v out
+      s-verifies : verifies form code s ≡ true
+      s-verifies = own-verifies code (m .station) (t .identity .question) (x .kind) (x .value) (x .flag) (x .round)
 
-            proper : Proper (m .n) s
-            proper = own-proper mac eight m question kind-INIT v D-GET 0 r (init refl refl p refl)
+      all-verify : All (λ s. verifies form code s ≡ true) (x .first ++ x .second)
+      all-verify = all-append (λ y. verifies form code y ≡ true) (x .first) (x .second) (parts-verify .0) (parts-verify .1)
 
-            checks : check-by (mac key) n Any (take (bundle-words 0) (over (bundle-of s []) out)) ≡ 0
-            checks =
-                ap (check-by (mac key) n Any) (bundle-front (m .n) s [] out (r .at-most-31) proper tt (omega arith))
-                ∙ valid-found (mac key) n (bundle-of s [])
-                (subst (λ (i : ℕ). Valid (mac key) i (bundle-of s [])) (G .same-n)
-                (subst (λ (c : List ℕ). Valid (mac c) (m .n) (bundle-of s [])) (G .same-key)
-                (bundle-valid (m .n) s [] (r .at-most-31) proper tt (omega arith) (mac (m .key)) (r .at-least-2) tt
-                (own-verifies (mac (m .key)) (m .station) question kind-INIT v D-GET 0) tt (rule-1 refl))))
+      pub sent-certain : Certain code (began (m .n) (t .identity .question) (t .jump) (x .stage) (decision-then form mac m t ws coin out) s (x .first ++ x .second))
+      sent-certain = began-certain code (m .n) (t .identity .question) (decision-then form mac m t ws coin out) (t .jump) (x .stage) s (x .first ++ x .second) s-verifies all-verify sent-backed
 
-    pub giving-written : (number : ℕ) (t : Station) → Reached mac key n number t → (m : Module) (ws : List ℕ) (coin : ℕ) (out : List ℕ) → OfGroup mac key n number m
-        → wrote (giving mac m t ws coin out .number) ≡ true → check-by (mac key) n Any (message (giving mac m t ws coin out)) ≡ 0
-    unfolding giving returned
-    giving-written number t reached m ws coin out G = go (giving-outcome mac m t ws coin out) (gives-view mac m t ws coin out (reached-good number t reached .lengths))
-      where
-        go : (o : Outcome) → Gives mac m t ws coin out o → wrote (returned m t out o .number) ≡ true → check-by (mac key) n Any (message (returned m t out o)) ≡ 0
-        go _ (refuses {k} e) u = never (unrefused k) e (wrote-unrefused k u)
-        go _ (holds-on A few) u = never false refl u
-        go _ (shuts A size c) u = never false refl u
-        go _ (enters J above) u =
-            let c = certificate-of ws in
-            let s = jump-statement mac m t ws coin out in
-            ap (check-by (mac key) n Any) (bundle-front (m .n) s c out (J .range .at-most-31) (jump-proper mac eight m t ws coin out J) (J .fitting .certificate) (jump-few mac eight m t ws coin out J))
-            ∙ valid-found (mac key) n (bundle-of s c)
-            (subst (λ (i : ℕ). Valid (mac key) i (bundle-of s c)) (G .same-n) (subst (λ (x : List ℕ). Valid (mac x) (m .n) (bundle-of s c)) (G .same-key) (jump-valid mac eight m t ws coin out J)))
-        go _ (goes-on A size c above k) u = checks A size c
-          where
-            checks : (A : Accepted mac m t ws coin out) (size : length (after mac m t ws coin out .held) ≡ quorum (m .n)) (c : closes last-round (t .stage) ≡ false)
-                → let x = follows (m .n) (t .stage) (after mac m t ws coin out) coin in
-                check-by (mac key) n Any (take (bundle-words (length (x .first ++ x .second))) (over (bundle-of (sent-statement mac m t ws coin out) (x .first ++ x .second)) out)) ≡ 0
-            checks A size c =
-                let x = follows (m .n) (t .stage) (after mac m t ws coin out) coin in
-                let s = sent-statement mac m t ws coin out in
-                let g = reached-good number t reached in
-                let C : Certain (mac (m .key)) (state-of t) = subst (λ (c : List ℕ). Certain (mac c) (state-of t)) (sym (G .same-key)) (g .certain (A .still-open)) in
-                let R = next-ready mac eight m t ws coin out (g .lengths) A size c in
-                ap (check-by (mac key) n Any) (bundle-front (m .n) s (x .first ++ x .second) out (A .range .at-most-31) (sent-proper mac eight m t ws coin out (g .lengths) A size c)
-                (all-append (Proper (m .n)) (x .first) (x .second) (R .proper) (R .more-proper))
-                (backed-few (m .n) s (x .first ++ x .second) (A .range .at-most-31) (sent-backed mac m t ws coin out A eight (g .lengths) C size c)))
-                ∙ valid-found (mac key) n (bundle-of s (x .first ++ x .second))
-                (subst (λ (i : ℕ). Valid (mac key) i (bundle-of s (x .first ++ x .second))) (G .same-n)
-                (subst (λ (c : List ℕ). Valid (mac c) (m .n) (bundle-of s (x .first ++ x .second))) (G .same-key)
-                (sent-valid mac m t ws coin out A eight (g .lengths) C size c)))
+      pub sent-valid : Valid form code (m .n) (bundle-of form s (x .first ++ x .second))
+      sent-valid =
+          let R = next-ready form mac eight m t ws coin out L A size more in
+          bundle-valid form (m .n) s (x .first ++ x .second) (A .range .at-most) (sent-proper form mac eight m t ws coin out L A size more)
+          (all-append (Proper form (m .n)) (x .first) (x .second) (R .proper) (R .more-proper))
+          (backed-few form (m .n) s (x .first ++ x .second) (A .range .at-most) sent-backed) code (A .range .at-least)
+          (all-append (λ y. y .question ≡ t .identity .question) (x .first) (x .second) (R .alike) (R .more-alike)) s-verifies
+          all-verify sent-backed
 
--- ---- under HMAC, by the public check's own answer
-pub opening-valid : (key : List ℕ) (n number : ℕ) (m : Module) (question v jump : ℕ) (out : List ℕ) → OfGroup hmac-code key n number m
-    → wrote (opening hmac-code m question v jump out .number) ≡ true → checked key n (message (opening hmac-code m question v jump out)) ≡ 0
-unfolding checked judged
-opening-valid key n number m question v jump out G u = opening-written hmac-code key n hmac-eight number m question v jump out G u
+  -- ---- a jump: the given certificate verifies and backs the own statement
+  module _ (mac : List ℕ → List ℕ → List ℕ) (eight : (key ws : List ℕ) → length (mac key ws) ≡ code-words) (m : Module) (t : Station) (ws : List ℕ) (coin : ℕ) (out : List ℕ)
+      (J : Jumping form mac m t ws coin out) where
+    abbrev u : Statement
+    u = jump-statement form mac m t ws coin out
 
-pub giving-valid : (key : List ℕ) (n number : ℕ) (t : Station) → Reached hmac-code key n number t → (m : Module) (ws : List ℕ) (coin : ℕ) (out : List ℕ)
-    → OfGroup hmac-code key n number m → wrote (giving hmac-code m t ws coin out .number) ≡ true → checked key n (message (giving hmac-code m t ws coin out)) ≡ 0
-unfolding checked judged
-giving-valid key n number t r m ws coin out G u = giving-written hmac-code key n hmac-eight number t r m ws coin out G u
+    given-verifies : All (λ s. verifies form (mac (m .key)) s ≡ true) (certificate-of form ws)
+    unfolding statements
+    given-verifies = J .codes .1
+
+    own-code : verifies form (mac (m .key)) u ≡ true
+    own-code = own-verifies (mac (m .key)) (m .station) (t .identity .question) (main-of form ws .kind) (copied-value (main-of form ws) coin) (main-of form ws .flag) (main-of form ws .round)
+
+    pub jump-few : length (certificate-of form ws) ≤ most-statements form
+    jump-few = backed-few form (m .n) u (certificate-of form ws) (J .range .at-most) (jump-fitting form mac eight m t ws coin out J .backed)
+
+    pub jump-certain : Certain (mac (m .key)) (began (m .n) (t .identity .question) (t .jump) (stage-of (main-of form ws)) (t .decision) u (certificate-of form ws))
+    jump-certain =
+        began-certain (mac (m .key)) (m .n) (t .identity .question) (t .decision) (t .jump) (stage-of (main-of form ws)) u (certificate-of form ws) own-code given-verifies
+        (jump-fitting form mac eight m t ws coin out J .backed)
+
+    pub jump-valid : Valid form (mac (m .key)) (m .n) (bundle-of form u (certificate-of form ws))
+    unfolding state-of
+    jump-valid =
+        let F = jump-fitting form mac eight m t ws coin out J in
+        bundle-valid form (m .n) u (certificate-of form ws) (J .range .at-most) (F .proper) (F .certificate) jump-few (mac (m .key)) (J .range .at-least) (F .alike) own-code given-verifies (F .backed)
+
+  -- ---- stations made by opening and changed only by these calls
+  module _ (mac : List ℕ → List ℕ → List ℕ) (key : List ℕ) (n : ℕ) where
+    pub record Good (number : ℕ) (t : Station) : Type 0 where
+      pub lengths : Lengths form t
+      pub certain : t .closed ≡ false → Certain (mac key) (state-of form t)
+
+    module _ (eight : (key ws : List ℕ) → length (mac key ws) ≡ code-words) where
+      -- a station written from a sane state of which all is certain
+      good-state : (number i : ℕ) (t : State) → i ≤ most-stations form → 1 ≤ number → number ≤ i → Sane form i number t → Certain (mac key) t → Good number (W.as-station form i number t)
+      good-state number i t top lo hi S C =
+          record {
+            lengths = lengths-of i number t top S;
+            certain = λ e. subst (λ (u : State). Certain (mac key) u) (sym (state-back form i number t top lo hi S)) C;
+          }
+
+      good-shut : (number i : ℕ) (t : State) → t .closed ≡ true → t .held ≡ [] → t .for-value ≡ [] → t .for-none ≡ [] → Good number (W.as-station form i number t)
+      unfolding W.as-station
+      good-shut number i t c h f s = record { lengths = shut-lengths i number t h f s; certain = λ e. never (t .closed) e c }
+
+      pub good-opening : (number : ℕ) (m : Module) (question v jump : ℕ) (out : List ℕ) → OfGroup key n number m → unrefused (opening form mac m question v jump out .number) ≡ true
+          → Good number (opening form mac m question v jump out .station)
+      unfolding opening returned pick
+      good-opening number m question v jump out G = go (opening-outcome form mac m question v jump out) (opens-view form mac m question v jump out)
+        where
+          go : (o : Outcome) → Opens form mac m question v jump out o → unrefused (returned form m (no-station form) out o .number) ≡ true → Good number (returned form m (no-station form) out o .station)
+          go _ (no-opening e) u = never _ e u
+          go _ (begins room r p a) u =
+              let b = began (m .n) question (eqb jump 1) Gathering none (init-statement form mac m question v out) [] in
+              subst (λ (i : ℕ). Good i (W.as-station form (m .n) (m .station) b)) (G .same-number)
+              (good-state (m .station) (m .n) b (r .at-most) (r .low) (r .high)
+              (init-sane form mac eight m question v (eqb jump 1) r p)
+              (subst (λ (c : List ℕ). Certain (mac c) b) (G .same-key)
+              (record { held = (own-verifies (mac (m .key)) (m .station) question kind-INIT v D-GET 0, tt); for-value = tt; for-none = tt; given = ((λ a b. absurd (omega arith)), tt) })))
+
+      pub good-giving : (number : ℕ) (t : Station) → Good number t → (m : Module) (ws : List ℕ) (coin : ℕ) (out : List ℕ) → OfGroup key n number m
+          → unrefused (giving form mac m t ws coin out .number) ≡ true → Good number (giving form mac m t ws coin out .station)
+      unfolding giving returned
+      good-giving number t good m ws coin out G = go (giving-outcome form mac m t ws coin out) (gives-view form mac m t ws coin out (good .lengths))
+        where
+          C : Accepted form mac m t ws coin out → Certain (mac (m .key)) (state-of form t)
+          C A = subst (λ (c : List ℕ). Certain (mac c) (state-of form t)) (sym (G .same-key)) (good .certain (A .still-open))
+
+          of-key : {u : State} → Certain (mac (m .key)) u → Certain (mac key) u
+          of-key {u} c = subst (λ (x : List ℕ). Certain (mac x) u) (G .same-key) c
+
+          here : (u : State) → Good (m .station) (W.as-station form (m .n) (m .station) u) → Good number (W.as-station form (m .n) (m .station) u)
+          here u g = subst (λ (i : ℕ). Good i (W.as-station form (m .n) (m .station) u)) (G .same-number) g
+
+          go : (o : Outcome) → Gives form mac m t ws coin out o → unrefused (returned form m t out o .number) ≡ true → Good number (returned form m t out o .station)
+          go _ (refuses e) u = never _ e u
+          go _ (holds-on A few) u =
+              here (after form mac m t ws coin out) (good-state (m .station) (m .n) (after form mac m t ws coin out) (A .range .at-most) (A .range .low) (A .range .high)
+              (kept-sane form mac eight m t ws coin out (good .lengths) A few) (of-key (kept-certain mac m t ws coin out A (C A))))
+          go _ (shuts A size c) u =
+              here (shut (after form mac m t ws coin out) (decision-then form mac m t ws coin out))
+              (good-shut (m .station) (m .n) (shut (after form mac m t ws coin out) (decision-then form mac m t ws coin out)) refl refl refl refl)
+          go _ (goes-on A size c above k) u =
+              here _ (good-state (m .station) (m .n) _ (A .range .at-most) (A .range .low) (A .range .high)
+              (sent-sane form mac eight m t ws coin out (good .lengths) A size c) (of-key (sent-certain mac m t ws coin out A eight (good .lengths) (C A) size c)))
+          go _ (enters J above) u =
+              here _ (good-state (m .station) (m .n) _ (J .range .at-most) (J .range .low) (J .range .high)
+              (jump-sane form mac eight m t ws coin out J (good .lengths)) (of-key (jump-certain mac eight m t ws coin out J)))
+
+      pub reached-good : (number : ℕ) (t : Station) → Reached form mac key n number t → Good number t
+      reached-good number _ (by-opening m question v jump out G u) = good-opening number m question v jump out G u
+      reached-good number _ (by-giving {t} r m ws coin out G u) = good-giving number t (reached-good number t r) m ws coin out G u
+
+      -- the written words are the bundle's, and no more
+      pub bundle-front : (i : ℕ) (s : Statement) (c : List Statement) (out : List ℕ) → i ≤ most-stations form → Proper form i s → All (Proper form i) c → length c ≤ most-statements form
+          → take (bundle-words form (length c)) (over (bundle-of form s c) out) ≡ bundle-of form s c
+      unfolding bundle-of
+      bundle-front i s c out top p a few =
+          take-at (bundle-of form s c) (drop (length (bundle-of form s c)) out) (bundle-words form (length c)) (ws-length form i s c top p a few)
+
+      pub opening-written : (number : ℕ) (m : Module) (question v jump : ℕ) (out : List ℕ) → OfGroup key n number m → wrote (opening form mac m question v jump out .number) ≡ true
+          → check-by form (mac key) n Any (message (opening form mac m question v jump out)) ≡ 0
+      unfolding opening returned
+      opening-written number m question v jump out G = go (opening-outcome form mac m question v jump out) (opens-view form mac m question v jump out)
+        where
+          go : (o : Outcome) → Opens form mac m question v jump out o → wrote (returned form m (no-station form) out o .number) ≡ true
+              → check-by form (mac key) n Any (message (returned form m (no-station form) out o)) ≡ 0
+          go _ (no-opening {k} e) u = never (unrefused k) e (wrote-unrefused k u)
+          go _ (begins room r p a) u = checks
+            where
+              s : Statement
+              s = init-statement form mac m question v out
+
+              proper : Proper form (m .n) s
+              proper = own-proper form mac eight m question kind-INIT v D-GET 0 r (init refl refl p refl)
+
+              checks : check-by form (mac key) n Any (take (bundle-words form 0) (over (bundle-of form s []) out)) ≡ 0
+              checks =
+                  ap (check-by form (mac key) n Any) (bundle-front (m .n) s [] out (r .at-most) proper tt (omega arith))
+                  ∙ valid-found form (mac key) n (bundle-of form s [])
+                  (subst (λ (i : ℕ). Valid form (mac key) i (bundle-of form s [])) (G .same-n)
+                  (subst (λ (c : List ℕ). Valid form (mac c) (m .n) (bundle-of form s [])) (G .same-key)
+                  (bundle-valid form (m .n) s [] (r .at-most) proper tt (omega arith) (mac (m .key)) (r .at-least) tt
+                  (own-verifies (mac (m .key)) (m .station) question kind-INIT v D-GET 0) tt (rule-1 refl))))
+
+      pub giving-written : (number : ℕ) (t : Station) → Reached form mac key n number t → (m : Module) (ws : List ℕ) (coin : ℕ) (out : List ℕ) → OfGroup key n number m
+          → wrote (giving form mac m t ws coin out .number) ≡ true → check-by form (mac key) n Any (message (giving form mac m t ws coin out)) ≡ 0
+      unfolding giving returned
+      giving-written number t reached m ws coin out G = go (giving-outcome form mac m t ws coin out) (gives-view form mac m t ws coin out (reached-good number t reached .lengths))
+        where
+          go : (o : Outcome) → Gives form mac m t ws coin out o → wrote (returned form m t out o .number) ≡ true → check-by form (mac key) n Any (message (returned form m t out o)) ≡ 0
+          go _ (refuses {k} e) u = never (unrefused k) e (wrote-unrefused k u)
+          go _ (holds-on A few) u = never false refl u
+          go _ (shuts A size c) u = never false refl u
+          go _ (enters J above) u =
+              let c = certificate-of form ws in
+              let s = jump-statement form mac m t ws coin out in
+              ap (check-by form (mac key) n Any) (bundle-front (m .n) s c out (J .range .at-most) (jump-proper form mac eight m t ws coin out J) (J .fitting .certificate) (jump-few mac eight m t ws coin out J))
+              ∙ valid-found form (mac key) n (bundle-of form s c)
+              (subst (λ (i : ℕ). Valid form (mac key) i (bundle-of form s c)) (G .same-n) (subst (λ (x : List ℕ). Valid form (mac x) (m .n) (bundle-of form s c)) (G .same-key) (jump-valid mac eight m t ws coin out J)))
+          go _ (goes-on A size c above k) u = checks A size c
+            where
+              checks : (A : Accepted form mac m t ws coin out) (size : length (after form mac m t ws coin out .held) ≡ quorum (m .n)) (c : closes (last-round form) (t .stage) ≡ false)
+                  → let x = follows (m .n) (t .stage) (after form mac m t ws coin out) coin in
+                  check-by form (mac key) n Any (take (bundle-words form (length (x .first ++ x .second))) (over (bundle-of form (sent-statement form mac m t ws coin out) (x .first ++ x .second)) out)) ≡ 0
+              checks A size c =
+                  let x = follows (m .n) (t .stage) (after form mac m t ws coin out) coin in
+                  let s = sent-statement form mac m t ws coin out in
+                  let g = reached-good number t reached in
+                  let C : Certain (mac (m .key)) (state-of form t) = subst (λ (c : List ℕ). Certain (mac c) (state-of form t)) (sym (G .same-key)) (g .certain (A .still-open)) in
+                  let R = next-ready form mac eight m t ws coin out (g .lengths) A size c in
+                  ap (check-by form (mac key) n Any) (bundle-front (m .n) s (x .first ++ x .second) out (A .range .at-most) (sent-proper form mac eight m t ws coin out (g .lengths) A size c)
+                  (all-append (Proper form (m .n)) (x .first) (x .second) (R .proper) (R .more-proper))
+                  (backed-few form (m .n) s (x .first ++ x .second) (A .range .at-most) (sent-backed mac m t ws coin out A eight (g .lengths) C size c)))
+                  ∙ valid-found form (mac key) n (bundle-of form s (x .first ++ x .second))
+                  (subst (λ (i : ℕ). Valid form (mac key) i (bundle-of form s (x .first ++ x .second))) (G .same-n)
+                  (subst (λ (c : List ℕ). Valid form (mac c) (m .n) (bundle-of form s (x .first ++ x .second))) (G .same-key)
+                  (sent-valid mac m t ws coin out A eight (g .lengths) C size c)))
+
+  -- ---- under HMAC, by the public check's own answer
+  pub opening-valid : (key : List ℕ) (n number : ℕ) (m : Module) (question v jump : ℕ) (out : List ℕ) → OfGroup key n number m
+      → wrote (opening form hmac-code m question v jump out .number) ≡ true → checked form key n (message (opening form hmac-code m question v jump out)) ≡ 0
+  unfolding checked judged
+  opening-valid key n number m question v jump out G u = opening-written hmac-code key n hmac-eight number m question v jump out G u
+
+  pub giving-valid : (key : List ℕ) (n number : ℕ) (t : Station) → Reached form hmac-code key n number t → (m : Module) (ws : List ℕ) (coin : ℕ) (out : List ℕ)
+      → OfGroup key n number m → wrote (giving form hmac-code m t ws coin out .number) ≡ true → checked form key n (message (giving form hmac-code m t ws coin out)) ≡ 0
+  unfolding checked judged
+  giving-valid key n number t r m ws coin out G u = giving-written hmac-code key n hmac-eight number t r m ws coin out G u

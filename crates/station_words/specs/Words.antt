@@ -11,10 +11,9 @@ use Rattle.station.specs.declared.Identity.{Identity}
 use Rattle.station.specs.declared.Stage.{Stage}
 use Rattle.station.specs.declared.Stage.the-variants.{Gathering, Proposing, Voting}
 use Rattle.station.specs.declared.Station.{Station}
+use Rattle.station.specs.Present.{no-station, slots-words, kept-words}
 use Rattle.format.specs.Bundle.{over}
-use Rattle.station.specs.Calls.{no-station}
 use Rattle.station_words.specs.declared.Reading.{Reading}
-use Rattle.station.specs.Words.{slots-words, kept-words}
 
 -- ---- the layout
 -- words 0 to 7: the settings

@@ -10,12 +10,11 @@ use Rattle.laws.specs.Bools.{never, both, is-false}
 use Rattle.format.specs.Numbers.{none, out-of-range}
 use Rattle.format.specs.declared.Round.{Round}
 use Rattle.modules.specs.declared.Module.{Module}
-use Rattle.modules.specs.Counter.{module-fits}
+use Rattle.modules.specs.Present.{module-fits}
 use Rattle.station.specs.declared.Station.{Station}
 use Rattle.station.specs.Machine.{round-in}
-use Rattle.station.specs.Fit.{fits}
-use Rattle.station.specs.Calls.{no-station}
 use Rattle.station.specs.NoStation.{no-station-fits}
+use Rattle.station.specs.Present.{no-station}
 use Rattle.status.specs.declared.Status.{Status}
 use Rattle.status.specs.Status.{decision-on, readable, told, nothing, status}
 

@@ -6,11 +6,11 @@ use lib.Dec.{eqb}
 use Rattle.laws.specs.Pick.{pick}
 use Rattle.format.specs.Numbers.{none, out-of-range}
 use Rattle.modules.specs.declared.Module.{Module}
-use Rattle.modules.specs.Counter.{module-fits}
+use Rattle.modules.specs.Present.{module-fits}
 use Rattle.station.specs.declared.Stage.the-variants.{Gathering}
 use Rattle.station.specs.declared.Station.{Station}
 use Rattle.station.specs.Machine.{round-in}
-use Rattle.station.specs.Fit.{fits}
+use Rattle.station.specs.Present.{fits}
 use Rattle.status.specs.declared.Status.{Status}
 
 -- the decision on the question asked for: the station's own, or none where the station is on another question

@@ -9,12 +9,11 @@ use lib.Dec.{eqb, ltb}
 use Rattle.laws.specs.Pick.{pick}
 use Rattle.laws.specs.Least.{least}
 use Rattle.laws.specs.Refusals.{test, first-failed}
-use Rattle.format.specs.Numbers.{kind-INIT, kind-V, none, D-GET, out-of-range, malformed, other-question, wrong-code, no-certificate, place-of}
-use Rattle.format.specs.Group.{size-fits}
+use Rattle.format.specs.Numbers.{kind-INIT, kind-V, none, D-GET, out-of-range, malformed, other-question, wrong-code, no-certificate}
 use Rattle.format.specs.declared.Fields.{Fields}
-use Rattle.format.specs.Words.{formed}
-use Rattle.format.specs.Statement.{Statement, statement, fields-at, verifies}
-use Rattle.format.specs.Bundle.{laid-out, count-in, main-of}
+use Rattle.format.specs.Statement.{Statement}
+use Rattle.format.specs.Bundle.{count-in}
+use Rattle.format.specs.Present.{place-of, size-fits, formed, statement, fields-at, verifies, laid-out, main-of}
 use Rattle.rules.specs.declared.Which.{Which}
 use Rattle.rules.specs.declared.Group.{Group}
 use Rattle.rules.specs.Rules.{which, matches, first-group, second-group, has-second, early-toss}

@@ -9,10 +9,11 @@ use Rattle.laws.specs.Pick.{pick}
 use Rattle.laws.specs.Bools.{both, neither, or-assoc}
 use Rattle.laws.specs.Least.{least, least-fits}
 use Rattle.laws.specs.Refusals.{test, first-failed}
-use Rattle.format.specs.Numbers.{malformed, other-question, wrong-code, no-certificate, place-of, statement-words}
-use Rattle.format.specs.Words.{fields-of, formed}
-use Rattle.format.specs.Statement.{Statement, statement, statements, fields-at, verifies}
-use Rattle.format.specs.Bundle.{all-formed, count-in, main-of, certificate-of}
+use Rattle.format.specs.Numbers.{malformed, other-question, wrong-code, no-certificate}
+use Rattle.format.specs.Words.{fields-of}
+use Rattle.format.specs.Statement.{Statement}
+use Rattle.format.specs.Bundle.{count-in}
+use Rattle.format.specs.Present.{place-of, statement-words, formed, statements, fields-at, verifies, all-formed, main-of, certificate-of}
 use Rattle.rules.specs.declared.Which.{Which}
 use Rattle.rules.specs.Rules.{which, some, some-D-GET, in-order, spread, rule}
 use Rattle.walk.specs.declared.Findings.{Findings}
@@ -80,7 +81,7 @@ module _ (code : List ℕ → List ℕ) (n : ℕ) (asked : Which) (ws : List ℕ
   whole = omega (arith, least-fits (first-size (fields-at ws (place-of 0)) (one n ws)) (count-in ws))
 
   all-parts : all-formed n ws (place-of 0) (suc (count-in ws)) ≡ (main-formed && (formed-front && formed-rest))
-  unfolding all-formed
+  unfolding Rattle.format.specs.Bundle.all-formed
   all-parts = ap (λ (x : Bool). main-formed && x) (ap (all-formed n ws 11) (sym whole) ∙ formed-split n ws 11 have rest)
 
   -- 3 in the main statement ends both walks
@@ -144,7 +145,7 @@ module _ (code : List ℕ → List ℕ) (n : ℕ) (asked : Which) (ws : List ℕ
           ∙ ap (λ (x : Bool). o || x) (split p)
 
       end-wrong : end .other ≡ false → end .wrong ≡ some (λ s. not (verifies code s)) (statements ws (place-of 0) (suc (count-in ws)))
-      unfolding between started some statements
+      unfolding between started some Rattle.format.specs.Statement.statements
       end-wrong none =
           let p : Statement → Bool = λ s. not (verifies code s) in
           let early : front .other ≡ false = neither _ _ (sym (end-finds .other) ∙ none) .0 in

@@ -5,13 +5,16 @@ use mathlib.Core.List.{List, [], _∷_, _++_}
 use lib.Dec.{eqb, ltb, leb}
 use lib.ListN.{take, getD, set, replicate}
 use Rattle.laws.specs.Pick.{pick}
-use Rattle.format.specs.Numbers.{none, output-words}
+use Rattle.format.specs.Numbers.{none}
+use Rattle.format.specs.Present.{output-words}
 use Rattle.hmac.specs.Code.{hmac-code}
 use Rattle.modules.specs.declared.Module.{Module}
-use Rattle.modules.specs.Counter.{no-module, making}
+use Rattle.modules.specs.Counter.{no-module}
+use Rattle.modules.specs.Present.{making}
 use Rattle.station.specs.declared.Station.{Station}
 use Rattle.station.specs.Machine.{stage-step}
-use Rattle.station.specs.Calls.{Returned, no-station, opening, giving}
+use Rattle.station.specs.Calls.{Returned}
+use Rattle.station.specs.Present.{no-station, opening, giving}
 use Rattle.lines.specs.declared.Line.{Line}
 use Rattle.lines.specs.declared.Line.the-variants.{Group, Open, Give, Unreadable}
 use Rattle.lines.specs.Read.{newline, split, read-line}

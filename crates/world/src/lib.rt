@@ -7,7 +7,7 @@ ghost use mathlib.Core.Path.{_≡_};
 ghost use lib.ListN.{take};
 ghost use Rattle.modules.specs.Counter.{no-module};
 ghost use Rattle.hmac.specs.Code.{hmac-code};
-ghost use Rattle.station.specs.Calls.{no-station, giving};
+ghost use Rattle.station.specs.Present.{no-station, giving};
 ghost use Rattle.world.specs.Valley.{the-output, made-for, group-of, no-bundle, at-number, put-number, is-open, is-written, opens, gives, shown-step, shown-decision};
 ghost use Rattle.world.specs.Group.{returned-by, moved as Moved, shorter};
 

@@ -7,10 +7,11 @@ use lib.Dec.{ltb, leb}
 use lib.ListN.{length, getD, set}
 use Rattle.laws.specs.Pick.{pick}
 use Rattle.laws.specs.Sets.{bit}
-use Rattle.format.specs.Numbers.{statement-words, code-words, output-words, most-statements, bundle-words, place-of}
+use Rattle.format.specs.Numbers.{code-words}
 use Rattle.format.specs.Group.{quorum}
 use Rattle.format.specs.Bundle.{head-mark, mark-bit, over}
-use Rattle.station.specs.Words.{sites}
+use Rattle.format.specs.Present.{statement-words, output-words, most-statements, bundle-words, place-of}
+use Rattle.station.specs.Present.{sites}
 
 -- words written over the front of those lent
 unfoldable pub laid : List ℕ → List ℕ → List ℕ

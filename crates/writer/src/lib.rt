@@ -13,9 +13,9 @@ ghost use mathlib.Core.Path.{_≡_};
 ghost use Prim.Native.Nat.{_+_, _*_, _^_, _≤_, _<_};
 ghost use lib.Count.{ones};
 ghost use lib.ListN.{length};
-ghost use Rattle.format.specs.Numbers.{bundle-words, most-statements, output-words, place-of, statement-words};
 ghost use Rattle.format.specs.Group.{quorum};
-ghost use Rattle.station.specs.Words.{sites, slots-words};
+ghost use Rattle.format.specs.Present.{bundle-words, most-statements, output-words, place-of, statement-words};
+ghost use Rattle.station.specs.Present.{sites, slots-words};
 ghost use Rattle.writer.specs.Written.{laid, part, held-words, main-words, words-of, writable as Writable, lent-after, count-after, copy-after, copy-count};
 
 // As many statements as a kept group has.

@@ -5,6 +5,7 @@ use mathlib.Core.List.{List, _∷_}
 use Prim.Native.Nat.{ℕ, _≤_, _<_}
 use Rattle.laws.specs.All.{All, all-map}
 use Rattle.laws.specs.Count.{count}
+use Rattle.format.specs.Form.{Form}
 use Rattle.format.specs.Numbers.{none}
 use Rattle.format.specs.Group.{quorum}
 use Rattle.format.specs.Statement.{Statement, step}
@@ -21,10 +22,10 @@ pub record Enough (n : ℕ) (took : List Statement) (question v : ℕ) : Type 0 
   pub round : ℕ
   pub enough : quorum n ≤ count (votes took question round v) n
 
-module _ (n : ℕ) where
+module _ (form : Form) (n : ℕ) where
   -- while it is open: what it holds is what it took in its step, and the groups that it keeps were coded
   pub record Open (l : List Statement) (number : ℕ) (u : State) (took : List Statement) : Type 0 where
-    pub sane : Sane n number u
+    pub sane : Sane form n number u
     pub given : Given (u .held)
     pub among : All (λ s. In s took) (u .held)
     pub for-value-coded : All (Coded n l) (u .for-value)

@@ -12,7 +12,8 @@ use Rattle.laws.specs.Pick.{pick}
 use Rattle.laws.specs.Bools.{never, both, join, left, right}
 use Rattle.laws.specs.All.{All, all-map, all-two, all-append}
 use Rattle.laws.specs.Count.{count}
-use Rattle.format.specs.Numbers.{kind-INIT, kind-P, kind-V, none, D-GET, R-GET, last-round, least-stations}
+use Rattle.format.specs.Form.{Form, last-round}
+use Rattle.format.specs.Numbers.{kind-INIT, kind-P, kind-V, none, D-GET, R-GET, least-stations}
 use Rattle.format.specs.Group.{quorum}
 use Rattle.format.specs.Statement.{Statement, step}
 use Rattle.format.specs.Laws.ReadBack.{Proper}
@@ -67,8 +68,8 @@ kept-decision Gathering old h e = refl
 kept-decision (Proposing r f) old h e = refl
 kept-decision (Voting r) old h e = rw (lt-ltb old none e)
 
-module _ (n number : ℕ) (l : List Statement) (u : State) (took : List Statement) (K : Standing n l number u took) (still-open : u .closed ≡ false) (m : Statement) (c : List Statement)
-    (B : Fitting n (u .question) (u .stage) m c) (new : held-of (m .station) (u .held) ≡ false) (calm : conflict (u .stage) (m ∷ u .held) ≡ false)
+module _ (form : Form) (n number : ℕ) (l : List Statement) (u : State) (took : List Statement) (K : Standing form n l number u took) (still-open : u .closed ≡ false) (m : Statement) (c : List Statement)
+    (B : Fitting form n (u .question) (u .stage) m c) (new : held-of (m .station) (u .held) ≡ false) (calm : conflict (u .stage) (m ∷ u .held) ≡ false)
     (m-coded : Coded n l m) (c-coded : All (Coded n l) c) where
   abbrev k : State
   k = keeping n u m c
@@ -79,7 +80,7 @@ module _ (n number : ℕ) (l : List Statement) (u : State) (took : List Statemen
   abbrev took1 : List Statement
   took1 = m ∷ took
 
-  O : Open n l number u took
+  O : Open form n l number u took
   O = K .while-open still-open
 
   main-just : Just n l m
@@ -149,7 +150,7 @@ module _ (n number : ℕ) (l : List Statement) (u : State) (took : List Statemen
   given1 : Given (k .held)
   given1 = insert-all (λ s. s .round ≡ 1 → s .kind ≡ kind-P → s .flag ≡ D-GET) m (u .held) (backed-given n m c (B .backed)) (O .given)
 
-  pub kept-standing : length (k .held) < quorum n → Standing n l number k took1
+  pub kept-standing : length (k .held) < quorum n → Standing form n l number k took1
   kept-standing few =
       record {
         facts = facts1;
@@ -159,7 +160,7 @@ module _ (n number : ℕ) (l : List Statement) (u : State) (took : List Statemen
         names = names-kept few;
         while-open = λ e.
             record {
-              sane = keep-sane n number u m c (O .sane) B new few;
+              sane = keep-sane form n number u m c (O .sane) B new few;
               given = given1;
               among = among1;
               for-value-coded = first1;
@@ -171,8 +172,8 @@ module _ (n number : ℕ) (l : List Statement) (u : State) (took : List Statemen
 
   -- ---- the end of the step
   module _ (size : length (k .held) ≡ quorum n) where
-    F : Full n k
-    F = full-grown n number u m c (O .sane) B new calm size
+    F : Full form n k
+    F = full-grown form n number u m c (O .sane) B new calm size
 
     -- enough votes of the step: all that are held
     every-held : (v r : ℕ) → stage-step (u .stage) ≡ 2 * r + 1 → quorum n ≤ count (votes took1 (u .question) r v) n → every (has-value v) (k .held) ≡ true
@@ -211,7 +212,7 @@ module _ (n number : ℕ) (l : List Statement) (u : State) (took : List Statemen
             size,
             held-enough (u .question) r v n (k .held) took1 (F .rising)
                 (all-map (λ s p. ((p .0 .formed .low, p .0 .formed .high), (p .1 .0, (p .0 .kind ∙ ap kind-in g, (p .1 .1 .0, p .0 .round ∙ ap round-in g))))) (k .held)
-                (all-two (Known n (k .stage)) (λ s. In s took1 × ((s .question ≡ k .question) × (step s ≡ stage-step (k .stage)))) (k .held) (known n k F)
+                (all-two (Known form n (k .stage)) (λ s. In s took1 × ((s .question ≡ k .question) × (step s ≡ stage-step (k .stage)))) (k .held) (known form n k F)
                 (all-two (λ s. In s took1) (λ s. (s .question ≡ k .question) × (step s ≡ stage-step (k .stage))) (k .held) among1 (F .alike)))) all,
           );
         }
@@ -233,7 +234,7 @@ module _ (n number : ℕ) (l : List Statement) (u : State) (took : List Statemen
     low-ended = decision-low (u .stage) (u .decision) (k .held) (K .low)
 
     -- closed
-    pub shut-standing : (v : State) → v .question ≡ u .question → v .closed ≡ true → v .decision ≡ decided-then → Standing n l number v took1
+    pub shut-standing : (v : State) → v .question ≡ u .question → v .closed ≡ true → v .decision ≡ decided-then → Standing form n l number v took1
     shut-standing v q closed d =
         record {
           facts = facts1;
@@ -245,7 +246,7 @@ module _ (n number : ℕ) (l : List Statement) (u : State) (took : List Statemen
         }
 
     -- ---- sent: the station's own statement, as it follows
-    module _ (coin : ℕ) (bit : coin < 2) (more : closes last-round (u .stage) ≡ false) (big : least-stations ≤ n) (s : Statement) (p : Proper n s) (mine : s .station ≡ number) (low : 1 ≤ s .station) (high : s .station ≤ n)
+    module _ (coin : ℕ) (bit : coin < 2) (more : closes (last-round form) (u .stage) ≡ false) (big : least-stations ≤ n) (s : Statement) (p : Proper form n s) (mine : s .station ≡ number) (low : 1 ≤ s .station) (high : s .station ≤ n)
         (on : s .question ≡ u .question) (kind≡ : s .kind ≡ follows n (u .stage) k coin .kind) (value≡ : s .value ≡ follows n (u .stage) k coin .value)
         (flag≡ : s .flag ≡ follows n (u .stage) k coin .flag) (round≡ : s .round ≡ follows n (u .stage) k coin .round) where
       abbrev x : Next
@@ -254,11 +255,11 @@ module _ (n number : ℕ) (l : List Statement) (u : State) (took : List Statemen
       abbrev c2 : List Statement
       c2 = x .first ++ x .second
 
-      R : Ready n (u .question) x
-      R = ready n k F coin bit (u .stage) refl more
+      R : Ready form n (u .question) x
+      R = ready form n k F coin bit (u .stage) refl more
 
       s-backed : Backed n s c2
-      s-backed = backed n k F coin bit given1 (u .stage) refl more s kind≡ value≡ flag≡ round≡
+      s-backed = backed form n k F coin bit given1 (u .stage) refl more s kind≡ value≡ flag≡ round≡
 
       c2-coded : All (Coded n l) c2
       c2-coded = all-append (Coded n l) (x .first) (x .second) (parts-coded coin (u .stage) .0) (parts-coded coin (u .stage) .1)
@@ -278,12 +279,12 @@ module _ (n number : ℕ) (l : List Statement) (u : State) (took : List Statemen
           (subst (λ (r : ℕ). Split n l (u .question) r) (sym round≡) (go (u .stage) refl (sym kind≡ ∙ a) (sym value≡ ∙ b)))
         where
           Fact : Statement → Type 0
-          Fact y = (Coded n l y × Just n l y) × (Known n (k .stage) y × ((y .question ≡ k .question) × (step y ≡ stage-step (k .stage))))
+          Fact y = (Coded n l y × Just n l y) × (Known form n (k .stage) y × ((y .question ≡ k .question) × (step y ≡ stage-step (k .stage))))
 
           all-facts : All Fact (k .held)
           all-facts =
-              all-two (λ y. Coded n l y × Just n l y) (λ y. Known n (k .stage) y × ((y .question ≡ k .question) × (step y ≡ stage-step (k .stage)))) (k .held) held-facts
-              (all-two (Known n (k .stage)) (λ y. (y .question ≡ k .question) × (step y ≡ stage-step (k .stage))) (k .held) (known n k F) (F .alike))
+              all-two (λ y. Coded n l y × Just n l y) (λ y. Known form n (k .stage) y × ((y .question ≡ k .question) × (step y ≡ stage-step (k .stage)))) (k .held) held-facts
+              (all-two (Known form n (k .stage)) (λ y. (y .question ≡ k .question) × (step y ≡ stage-step (k .stage))) (k .held) (known form n k F) (F .alike))
 
           one : (v : ℕ) → some-value v (k .held) ≡ true → Found Fact (λ y. which (Only v) (y .value) && which Any (y .flag))
           one v e = find-some Fact (λ y. which (Only v) (y .value) && which Any (y .flag)) (k .held) all-facts e
@@ -291,7 +292,7 @@ module _ (n number : ℕ) (l : List Statement) (u : State) (took : List Statemen
           split : (r f : ℕ) → u .stage ≡ Proposing (record { 0 = r }) f → vote-value (k .held) ≡ none → Split n l (u .question) r
           split r f g e =
               let gk : k .stage ≡ Proposing (record { 0 = r }) f = g in
-              let w = both-values n k F r f gk e in
+              let w = both-values form n k F r f gk e in
               let z = one 0 (w .0) in
               let o = one 1 (w .1) in
               record {
@@ -325,15 +326,15 @@ module _ (n number : ℕ) (l : List Statement) (u : State) (took : List Statemen
       unfolding step
       s-step = λ i. Rattle.format.specs.Words.step-of ((kind≡ ∙ R .kind) i) ((round≡ ∙ R .round) i)
 
-      sent-sane : Sane n number (began n (u .question) (u .jump) (x .stage) decided-then s c2)
+      sent-sane : Sane form n number (began n (u .question) (u .jump) (x .stage) decided-then s c2)
       sent-sane =
-          began-sane n number (u .question) decided-then (u .jump) (x .stage) s c2 big p mine low on s-step (R .rounds) (R .flag s flag≡) low-ended
-          (all-append (Proper n) (x .first) (x .second) (R .proper) (R .more-proper)) c2-asked
+          began-sane form n number (u .question) decided-then (u .jump) (x .stage) s c2 big p mine low on s-step (R .rounds) (R .flag s flag≡) low-ended
+          (all-append (Proper form n) (x .first) (x .second) (R .proper) (R .more-proper)) c2-asked
           (λ e. subst (λ (c : List Statement). Holds (value-group n (x .stage) (s .value)) c) (sym (R .front))
           (subst (λ (v : ℕ). Holds (value-group n (x .stage) v) (x .first)) (sym value≡) (R .for-value s value≡ flag≡ e)))
           (λ e. subst (λ (c : List Statement). Holds (none-votes n (round-in (x .stage) - 1)) c) (sym (R .front)) (R .for-none s value≡ flag≡ e))
 
-      pub sent-standing : Standing n (bare s ∷ l) number (began n (u .question) (u .jump) (x .stage) decided-then s c2) (s ∷ took1)
+      pub sent-standing : Standing form n (bare s ∷ l) number (began n (u .question) (u .jump) (x .stage) decided-then s c2) (s ∷ took1)
       sent-standing =
-          entered-standing n number (u .question) (u .jump) l (x .stage) decided-then s c2 took1 big low high on s-step (stage-step (u .stage)) (steps-up n (u .stage) k coin) upto1 facts1 asked1 c2-coded c2-asked
+          entered-standing form n number (u .question) (u .jump) l (x .stage) decided-then s c2 took1 big low high on s-step (stage-step (u .stage)) (steps-up n (u .stage) k coin) upto1 facts1 asked1 c2-coded c2-asked
           s-backed low-ended named-ended names-ended sent-sane

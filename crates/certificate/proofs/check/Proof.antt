@@ -1,5 +1,4 @@
 -- The check is the judgement of bundles of any question.
-use Rattle.certificate.specs.Check.{checked}
 use borrow.Author.Needs.{needs}
 use Rattle.certificate.proofs.check.Statement.{statement}
 use Rattle.certificate.proofs.check.Tie as tie
@@ -8,7 +7,7 @@ judge-requires : tie.Need-judge-requires
 judge-requires c κs = search needs
 
 returns : tie.Need-returns
-unfolding checked
+unfolding Rattle.certificate.specs.Check.checked
 returns c = c .judge .ensures
 
 pub check-spec : {M : Type 1} → statement M

@@ -3,8 +3,7 @@ use Prim.Native.Nat.{_%_}
 use mathlib.Core.Bool.{true}
 use mathlib.Core.Path.{_≡_, sym, ap, _∙_}
 use borrow.Author.Tests.{not-true, not-false}
-use Rattle.format.specs.Group.{size-fits}
-use Rattle.format.specs.Bundle.{laid-out}
+use Rattle.format.specs.Present.{size-fits, laid-out}
 use Rattle.certificate.specs.Laws.Answers.{laid-by, judged-size, judged-layout}
 use borrow.Author.Needs.{needs}
 use Rattle.certificate.proofs.judge.Statement.{statement}

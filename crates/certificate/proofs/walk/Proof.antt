@@ -3,6 +3,7 @@ use Prim.Native.Nat.{_+_, _*_}
 use mathlib.Core.Path.{_≡_, ap, _∙_}
 use native.Mathlib.Omega.{arith}
 use lib.ListN.{length, getD}
+use Rattle.format.specs.Form.{present-form}
 use Rattle.format.specs.Laws.Parts.{sizes}
 use Rattle.hmac.specs.Hmac.{code-from}
 use Rattle.walk.specs.declared.Findings.{Findings}
@@ -16,7 +17,7 @@ use Rattle.certificate.proofs.walk.Tie as tie
 -- how many words there are
 counted : (s : tie.Start) → length (s .args .ws .now) ≡ 1 + (1 + s .args .count) * 10
 counted s =
-    let b = sizes _ (s .pre .1) in
+    let b = sizes present-form _ (s .pre .1) in
     omega (arith, b .1, s .pre .2)
 
 take-up-requires : tie.Need-take-up-requires
@@ -50,7 +51,7 @@ through-requires : tie.Need-through-requires
 unfolding started
 through-requires c κs =
     let s = c .before .before .before .before .before .before .before .before in
-    let z = sizes _ (s .pre .1) in
+    let z = sizes present-form _ (s .pre .1) in
     (ap (λ (r : Findings). r .place) (c .start .ensures), omega (arith, z .0, s .pre .2), omega (arith, counted s))
 
 array-read-answer-behind : tie.Need-array-read-answer-behind

@@ -8,30 +8,30 @@ use lib.ListN.{length, getD}
 use Rattle.laws.specs.Pick.{pick}
 use Rattle.laws.specs.Bools.{join}
 use Rattle.laws.specs.Refusals.{first-failed}
-use Rattle.format.specs.Numbers.{out-of-range, malformed, bundle-words, place-of}
-use Rattle.format.specs.Group.{size-fits}
+use Rattle.format.specs.Numbers.{out-of-range, malformed}
 use Rattle.format.specs.declared.Fields.{Fields}
-use Rattle.format.specs.Words.{fields-of, formed}
-use Rattle.format.specs.Statement.{statement, words-at, fields-at}
-use Rattle.format.specs.Bundle.{head-fits, count-bits, count-in, laid-out, all-formed, bundle-fits, main-of, certificate-of}
+use Rattle.format.specs.Words.{fields-of}
+use Rattle.format.specs.Bundle.{count-bits, count-in}
+use Rattle.format.specs.Present.{statement-words, bundle-words, place-of, size-fits, formed, statement, words-at, fields-at, head-fits, laid-out, all-formed, main-of, certificate-of}
 use Rattle.rules.specs.declared.Which.{Which}
 use Rattle.rules.specs.Rules.{which}
 use Rattle.hmac.specs.Code.{hmac-code}
 use Rattle.walk.specs.declared.Findings.{Findings}
-use Rattle.certificate.specs.Check.{one-question, check-by, judged}
+use Rattle.certificate.specs.Check.{one-question}
 use Rattle.walk.specs.Walk.{started, through, findings, answer, walk}
 use Rattle.certificate.specs.WalkExact.{walk-exact}
 use Rattle.certificate.specs.Laws.Read.{word-0-read, word-1-read, fields-read, statement-read}
+use Rattle.certificate.specs.Present.{check-by, judged}
 
 -- the layout, by the head word
 pub laid-by : (ws : List ℕ) (h : ℕ) (r : Bool) → h ≡ getD ws 0 0 → r ≡ (head-fits h && eqb (length ws) (bundle-words (h % 2 ^ count-bits))) → laid-out ws ≡ r
-unfolding laid-out
+unfolding Rattle.format.specs.Bundle.laid-out
 laid-by ws h r e p = sym (rw (← e) p)
 
 -- where the main statement is malformed, or not of the question asked for, no code is looked at
 pub any-code : (code other : List ℕ → List ℕ) (n : ℕ) (asked : Which) (ws : List ℕ)
     → ((formed n (fields-at ws (place-of 0)) && which asked (main-of ws .question)) ≡ true → code ≡ other) → check-by code n asked ws ≡ check-by other n asked ws
-unfolding check-by first-failed pick bundle-fits all-formed
+unfolding Rattle.certificate.specs.Check.check-by first-failed pick Rattle.format.specs.Bundle.bundle-fits Rattle.format.specs.Bundle.all-formed
 any-code code other n asked ws same = go (formed n (fields-at ws (place-of 0))) (which asked (main-of ws .question)) refl refl
   where
     no-right : (a b : Bool) → b ≡ false → (a && b) ≡ false
@@ -45,11 +45,11 @@ any-code code other n asked ws same = go (formed n (fields-at ws (place-of 0))) 
     go : (f b : Bool) → formed n (fields-at ws (place-of 0)) ≡ f → which asked (main-of ws .question) ≡ b → check-by code n asked ws ≡ check-by other n asked ws
     go true true p e = ap (λ (c : List ℕ → List ℕ). check-by c n asked ws) (same (join _ _ p e))
     go true false p e = rw (no-right (one-question (main-of ws) (certificate-of ws)) (which asked (main-of ws .question)) e)
-    go false b p e = rw (no-middle (laid-out ws) (formed n (fields-at ws (place-of 0))) (all-formed n ws (1 + 10) (count-in ws)) p)
+    go false b p e = rw (no-middle (laid-out ws) (formed n (fields-at ws (place-of 0))) (all-formed n ws (1 + statement-words) (count-in ws)) p)
 
 module _ (key : List ℕ) (n : ℕ) (asked : Which) (ws : List ℕ) where
   walk-judged : walk (hmac-code key) n asked ws ≡ judged key n asked ws
-  unfolding judged
+  unfolding Rattle.certificate.specs.Check.judged
   walk-judged = walk-exact (hmac-code key) n asked ws
 
   pub judged-size : size-fits n ≡ false → out-of-range ≡ judged key n asked ws
@@ -87,7 +87,7 @@ module _ (key : List ℕ) (n : ℕ) (asked : Which) (ws : List ℕ) where
         begins = begun ∙ rw (stated, first)
 
         any : check-by code n asked ws ≡ judged key n asked ws
-        unfolding judged
+        unfolding Rattle.certificate.specs.Check.judged
         any =
             let known : (good && fits) ≡ (formed n (fields-at ws 1) && which asked (main-of ws .question)) = rw (p, q, fields, asked-for) in
             any-code code (hmac-code key) n asked ws (λ h. same (known ∙ h))

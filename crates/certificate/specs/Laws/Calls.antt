@@ -10,10 +10,8 @@ use borrow.Author.Tests.{ltb-false}
 use Rattle.laws.specs.Pick.{pick}
 use Rattle.laws.specs.Bools.{never}
 use Rattle.laws.specs.Least.{least, least-fits}
-use Rattle.format.specs.Numbers.{place-of}
 use Rattle.format.specs.declared.Fields.{Fields}
-use Rattle.format.specs.Words.{formed}
-use Rattle.format.specs.Statement.{statement, words-at, fields-at}
+use Rattle.format.specs.Present.{place-of, formed, statement, words-at, fields-at}
 use Rattle.rules.specs.declared.Group.{Group}
 use Rattle.rules.specs.Rules.{first-group, second-group}
 use Rattle.walk.specs.declared.Findings.{Findings}

@@ -8,12 +8,12 @@ use lib.ListN.{length, length-drop, getD, set, take, drop}
 use lib.Seq.{drop-drop, getD-drop, getD-take, take-all, take-suc, take-suc-set, take-take}
 use borrow.Author.Tests.{lt-ltb}
 use Rattle.laws.specs.Pick.{here}
-use Rattle.format.specs.Numbers.{code-words, covered-words, statement-words}
+use Rattle.format.specs.Numbers.{code-words}
 use Rattle.sha256.specs.Sha256.{limit}
 use Rattle.hmac.specs.Hmac.{prepared, keyed, code-from}
 use Rattle.hmac.specs.Prepared.{code-is-hmac}
 use Rattle.format.specs.Words.{fields-of}
-use Rattle.format.specs.Statement.{statement, words-at, code-at, fields-at}
+use Rattle.format.specs.Present.{covered-words, statement-words, statement, words-at, code-at, fields-at}
 use Rattle.hmac.specs.Code.{hmac-code}
 
 -- ---- a statement read

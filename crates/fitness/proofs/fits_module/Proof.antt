@@ -1,5 +1,5 @@
 -- The module's range is tested first: what the other tests ask follows from it.
-use Rattle.station.specs.Fit as F
+use Rattle.station.specs.Present as F
 use Rattle.fitness.specs.Parts.{whole, range-out, refused, answered}
 use borrow.Author.Needs.{needs}
 use Rattle.fitness.proofs.fits_module.Statement.{statement}

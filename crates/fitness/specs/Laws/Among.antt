@@ -11,13 +11,12 @@ use borrow.Author.Tests.{eqb-true, eqb-false, eq-eqb, ne-eqb}
 use Rattle.laws.specs.Pick.{pick}
 use Rattle.laws.specs.Bools.{both}
 use Rattle.laws.specs.Sets.{bit}
-use Rattle.format.specs.Numbers.{most-stations, statement-words}
-use Rattle.format.specs.Words.{formed, fields-of, station-of}
-use Rattle.format.specs.Statement.{statement}
+use Rattle.format.specs.Words.{fields-of, station-of}
+use Rattle.format.specs.Present.{most-stations, statement-words, formed, statement}
 use Rattle.rules.specs.Rules.{some}
 use Rattle.station.specs.Machine.{held-of}
-use Rattle.station.specs.Words.{sites, held-in}
-use Rattle.station.specs.Fit.{zeros, slot-fits, slots-fit}
+use Rattle.station.specs.Fit.{zeros}
+use Rattle.station.specs.Present.{sites, held-in, slot-fits, slots-fit}
 
 module _ (n question step set : ℕ) (slots : List ℕ) where
   own-slot : (i : ℕ) → slot-fits n question step i slots ≡ true → statement slots (i * statement-words) .station ≡ suc i
@@ -28,7 +27,7 @@ module _ (n question step set : ℕ) (slots : List ℕ) where
       eqb-true _ _ (both (formed n (fields-of w)) _ (b .0) .1) ∙ add-one i
 
   below-slots : (k i j : ℕ) → slots-fit n question step set slots i k ≡ true → j < i → held-of (suc j) (held-in set slots i k) ≡ false
-  unfolding slots-fit held-in pick some
+  unfolding Rattle.station.specs.Fit.slots-fit Rattle.station.specs.Words.held-in pick some
   below-slots zero i j h l = refl
   below-slots (suc k) i j h l =
       let a = both (pick (bit set i) (slot-fits n question step i slots) (zeros slots (i * 10) 10)) _ h in
@@ -40,7 +39,7 @@ module _ (n question step set : ℕ) (slots : List ℕ) where
       go false f ih = ih
 
   among : (k i j : ℕ) → slots-fit n question step set slots i k ≡ true → i ≤ j → j < i + k → bit set j ≡ held-of (suc j) (held-in set slots i k)
-  unfolding slots-fit held-in pick some
+  unfolding Rattle.station.specs.Fit.slots-fit Rattle.station.specs.Words.held-in pick some
   among zero i j h lo hi = absurd (omega arith)
   among (suc k) i j h lo hi =
       let a = both (pick (bit set i) (slot-fits n question step i slots) (zeros slots (i * 10) 10)) _ h in

@@ -10,72 +10,73 @@ use lib.ListN.{length, getD, take, drop}
 use borrow.Author.Tests.{eqb-true, ltb-true, ltb-false, leb-true}
 use Rattle.laws.specs.Pick.{pick}
 use Rattle.laws.specs.Bools.{both}
+use Rattle.format.specs.Form.{Form, most-statements, head-bits, statement-words, place-of, bundle-words}
 use Rattle.format.specs.Statement.{Statement, statement, statements}
 use Rattle.format.specs.Bundle.{head-fits, count-in, laid-out}
-use Rattle.format.specs.Numbers.{bundle-words, most-statements, place-of, statement-words}
 use Rattle.laws.specs.Least.{least}
 
-pub parts-length : (ws : List ℕ) (at c : ℕ) → length (statements ws at c) ≡ c
-unfolding statements
-parts-length ws at zero = refl
-parts-length ws at (suc c) = ap suc (parts-length ws (at + 10) c)
+module _ (form : Form) where
+  pub parts-length : (ws : List ℕ) (at c : ℕ) → length (statements form ws at c) ≡ c
+  unfolding statements
+  parts-length ws at zero = refl
+  parts-length ws at (suc c) = ap suc (parts-length ws (at + statement-words form) c)
 
-take-few : (ws : List ℕ) (at k c : ℕ) → k ≤ c → take k (statements ws at c) ≡ statements ws at k
-unfolding statements
-take-few ws at zero c h = refl
-take-few ws at (suc k) zero h = absurd (omega arith)
-take-few ws at (suc k) (suc c) h = ap (λ (l : List Statement). statement ws at ∷ l) (take-few ws (at + 10) k c (omega arith))
+  take-few : (ws : List ℕ) (at k c : ℕ) → k ≤ c → take k (statements form ws at c) ≡ statements form ws at k
+  unfolding statements
+  take-few ws at zero c h = refl
+  take-few ws at (suc k) zero h = absurd (omega arith)
+  take-few ws at (suc k) (suc c) h = ap (λ (l : List Statement). statement form ws at ∷ l) (take-few ws (at + statement-words form) k c (omega arith))
 
-take-many : (ws : List ℕ) (at k c : ℕ) → c ≤ k → take k (statements ws at c) ≡ statements ws at c
-unfolding statements
-take-many ws at zero zero h = refl
-take-many ws at zero (suc c) h = absurd (omega arith)
-take-many ws at (suc k) zero h = refl
-take-many ws at (suc k) (suc c) h = ap (λ (l : List Statement). statement ws at ∷ l) (take-many ws (at + 10) k c (omega arith))
+  take-many : (ws : List ℕ) (at k c : ℕ) → c ≤ k → take k (statements form ws at c) ≡ statements form ws at c
+  unfolding statements
+  take-many ws at zero zero h = refl
+  take-many ws at zero (suc c) h = absurd (omega arith)
+  take-many ws at (suc k) zero h = refl
+  take-many ws at (suc k) (suc c) h = ap (λ (l : List Statement). statement form ws at ∷ l) (take-many ws (at + statement-words form) k c (omega arith))
 
-drop-few : (ws : List ℕ) (at k c : ℕ) → k ≤ c → drop k (statements ws at c) ≡ statements ws (at + k * statement-words) (c - k)
-unfolding statements
-drop-few ws at zero c h =
-    let e : at + 0 * 10 ≡ at = omega arith in
-    rw (e, sub-zero)
-drop-few ws at (suc k) zero h = absurd (omega arith)
-drop-few ws at (suc k) (suc c) h =
-    let e : at + suc k * 10 ≡ at + 10 + k * 10 = omega arith in
-    let f : suc c - suc k ≡ c - k = omega arith in
-    rw (e, f) (drop-few ws (at + 10) k c (omega arith))
+  drop-few : (ws : List ℕ) (at k c : ℕ) → k ≤ c → drop k (statements form ws at c) ≡ statements form ws (at + k * statement-words form) (c - k)
+  unfolding statements
+  drop-few ws at zero c h =
+      let e : at + 0 * statement-words form ≡ at = omega arith in
+      rw (e, sub-zero)
+  drop-few ws at (suc k) zero h = absurd (omega arith)
+  drop-few ws at (suc k) (suc c) h =
+      let e : at + suc k * statement-words form ≡ at + statement-words form + k * statement-words form = omega arith in
+      let f : suc c - suc k ≡ c - k = omega arith in
+      rw (e, f) (drop-few ws (at + statement-words form) k c (omega arith))
 
-drop-many : (ws : List ℕ) (at k c : ℕ) → c ≤ k → drop k (statements ws at c) ≡ []
-unfolding statements
-drop-many ws at zero zero h = refl
-drop-many ws at zero (suc c) h = absurd (omega arith)
-drop-many ws at (suc k) zero h = refl
-drop-many ws at (suc k) (suc c) h = drop-many ws (at + 10) k c (omega arith)
+  drop-many : (ws : List ℕ) (at k c : ℕ) → c ≤ k → drop k (statements form ws at c) ≡ []
+  unfolding statements
+  drop-many ws at zero zero h = refl
+  drop-many ws at zero (suc c) h = absurd (omega arith)
+  drop-many ws at (suc k) zero h = refl
+  drop-many ws at (suc k) (suc c) h = drop-many ws (at + statement-words form) k c (omega arith)
 
--- the first k of c statements
-pub parts-take : (ws : List ℕ) (at k c : ℕ) → take k (statements ws at c) ≡ statements ws at (least k c)
-unfolding least pick
-parts-take ws at k c = go (ltb k c) refl
-  where
-    go : (t : Bool) → ltb k c ≡ t → take k (statements ws at c) ≡ statements ws at (pick t k c)
-    go true e = take-few ws at k c (omega (arith, ltb-true k c e))
-    go false e = take-many ws at k c (omega (arith, ltb-false k c e))
+  -- the first k of c statements
+  pub parts-take : (ws : List ℕ) (at k c : ℕ) → take k (statements form ws at c) ≡ statements form ws at (least k c)
+  unfolding least pick
+  parts-take ws at k c = go (ltb k c) refl
+    where
+      go : (t : Bool) → ltb k c ≡ t → take k (statements form ws at c) ≡ statements form ws at (pick t k c)
+      go true e = take-few ws at k c (omega (arith, ltb-true k c e))
+      go false e = take-many ws at k c (omega (arith, ltb-false k c e))
 
--- the statements behind the first k of c
-pub parts-drop : (ws : List ℕ) (at k c : ℕ) → drop k (statements ws at c) ≡ statements ws (at + least k c * statement-words) (c - least k c)
-unfolding least pick statements
-parts-drop ws at k c = go (ltb k c) refl
-  where
-    go : (t : Bool) → ltb k c ≡ t → drop k (statements ws at c) ≡ statements ws (at + pick t k c * statement-words) (c - pick t k c)
-    go true e = drop-few ws at k c (omega (arith, ltb-true k c e))
-    go false e =
-        let z : c - c ≡ 0 = omega arith in
-        rw z (drop-many ws at k c (omega (arith, ltb-false k c e)))
+  -- the statements behind the first k of c
+  pub parts-drop : (ws : List ℕ) (at k c : ℕ) → drop k (statements form ws at c) ≡ statements form ws (at + least k c * statement-words form) (c - least k c)
+  unfolding least pick statements
+  parts-drop ws at k c = go (ltb k c) refl
+    where
+      go : (t : Bool) → ltb k c ≡ t → drop k (statements form ws at c) ≡ statements form ws (at + pick t k c * statement-words form) (c - pick t k c)
+      go true e = drop-few ws at k c (omega (arith, ltb-true k c e))
+      go false e =
+          let z : c - c ≡ 0 = omega arith in
+          rw z (drop-many ws at k c (omega (arith, ltb-false k c e)))
 
--- where the words are laid out as a bundle: how many statements, and how many words
-pub sizes : (ws : List ℕ) → laid-out ws ≡ true → (count-in ws ≤ most-statements) × (length ws ≡ place-of 1 + count-in ws * statement-words)
-unfolding laid-out
-sizes ws h =
-    let b = both (head-fits (getD ws 0 0)) _ h in
-    let f = both (eqb (getD ws 0 0 / 2 ^ 30) 3 && eqb (getD ws 0 0 / 2 ^ 16 % 2 ^ 14) 0) _ (b .0) in
-    let l : length ws ≡ bundle-words (count-in ws) = eqb-true _ _ (b .1) in
-    (leb-true _ _ (f .1), omega arith)
+  -- where the words are laid out as a bundle: how many statements, and how many words
+  pub sizes : (ws : List ℕ) → laid-out form ws ≡ true → (count-in ws ≤ most-statements form) × (length ws ≡ place-of form 1 + count-in ws * statement-words form)
+  unfolding laid-out
+  sizes ws h =
+      let b = both (head-fits form (getD ws 0 0)) _ h in
+      let f = both (eqb (getD ws 0 0 / 2 ^ 30) 3 && eqb (getD ws 0 0 / 2 ^ 16 % 2 ^ 14) (head-bits form)) _ (b .0) in
+      let l : length ws ≡ bundle-words form (count-in ws) = eqb-true _ _ (b .1) in
+      (leb-true _ _ (f .1), omega arith)

@@ -3,7 +3,7 @@ use Prim.Native.Nat.{ℕ}
 use mathlib.Core.Path.{sym, _∙_}
 use mir.Syntax.{w32}
 use borrow.Author.Needs.{needs, length-unmapped, elem-fits-field}
-use Rattle.station.specs.Words.{Lengths}
+use Rattle.station.specs.Present.{Lengths}
 use Rattle.keeping.specs.Laws.One.{LowWords}
 use Rattle.giving.specs.Laws.Found.{answers-none}
 use Rattle.giving.specs.Laws.Give.{give-refused, none-found, jumps-found, give-jump, give-12, give-after}

@@ -6,14 +6,15 @@ use mathlib.Core.Path.{_≡_, refl, sym, ap, _∙_, subst}
 use lib.Count.{ones}
 use borrow.Author.Tests.{lt-ltb, le-ltb}
 use Rattle.laws.specs.Pick.{here, skip}
-use Rattle.format.specs.Numbers.{closed-now, kept, last-round}
+use Rattle.format.specs.Numbers.{closed-now, kept}
 use Rattle.format.specs.Group.{quorum}
+use Rattle.format.specs.Present.{last-round}
 use Rattle.modules.specs.declared.Module.{Module}
 use Rattle.station.specs.declared.Station.{Station}
 use Rattle.station.specs.Machine.{closes, decision-at}
-use Rattle.station.specs.Words.{held-by}
 use Rattle.station.specs.Calls.{Returned}
 use Rattle.station.specs.Answers.{Answers}
+use Rattle.station.specs.Present.{held-by}
 use Rattle.ending.specs.declared.Following.{Following}
 use Rattle.ending.specs.After.{next-by}
 use Rattle.giving.specs.declared.Given.{Given}

@@ -10,22 +10,22 @@ use borrow.Author.Tests.{eq-eqb, ne-eqb}
 use Rattle.laws.specs.Pick.{pick, here, skip}
 use Rattle.laws.specs.Bools.{never}
 use Rattle.laws.specs.Refusals.{first-failed}
-use Rattle.format.specs.Numbers.{none, kept, sent, sent-decided, closed-now, not-above, last-round}
+use Rattle.format.specs.Form.{present-form}
+use Rattle.format.specs.Numbers.{none, kept, sent, sent-decided, closed-now, not-above}
 use Rattle.format.specs.Group.{quorum}
 use Rattle.format.specs.declared.Fields.{Fields}
 use Rattle.format.specs.Words.{fields-of, step-of}
-use Rattle.format.specs.Statement.{statement-code}
+use Rattle.format.specs.Present.{last-round, statement-code, main-of, certificate-of}
 use Rattle.hmac.specs.Code.{hmac-code}
-use Rattle.format.specs.Bundle.{main-of, certificate-of}
 use Rattle.modules.specs.declared.Module.{Module}
 use Rattle.modules.specs.Counter.{above, last-for}
 use Rattle.station.specs.declared.Station.{Station}
 use Rattle.station.specs.Machine.{refused, taken, jumps, entered, answered, closes, decision-at}
-use Rattle.station.specs.Words.{held-by, state-of, Lengths}
-use Rattle.station.specs.Words as W
-use Rattle.station.specs.Calls.{Returned, returned, give-tests, giving}
+use Rattle.station.specs.Present as W
+use Rattle.station.specs.Calls.{Returned}
 use Rattle.station.specs.Answers.{Answers}
 use Rattle.station.specs.Laws.Views.{Accepted, accepted, jumping as makes-jump, after}
+use Rattle.station.specs.Present.{held-by, state-of, returned, give-tests, giving, Lengths}
 use Rattle.refusal.specs.Refusal.{first-refusal, first-refusal-by-length, jumps-by, jumps-is}
 use Rattle.laws.specs.Below.{Below}
 use Rattle.keeping.specs.Laws.One.{LowWords}
@@ -42,7 +42,7 @@ use Rattle.giving.specs.Laws.Whole.{not-12, or-as-was, passed-so, given-
 
 module _ (m : Module) (t : Station) (ws : List ℕ) (coin : ℕ) (out : List ℕ) where
   pub give-refused : (k : ℕ) → k ≡ first-refusal m t ws coin (length out) → (k ≡ 0 → ⊥) → Answers (giving hmac-code m t ws coin out) k 0 t m out
-  unfolding giving returned pick
+  unfolding Rattle.station.specs.Calls.giving Rattle.station.specs.Calls.returned pick
   give-refused k e no-0 =
       let F : ℕ = first-failed (give-tests hmac-code m t ws coin out) in
       let f : k ≡ first-failed (give-tests hmac-code m t ws coin out) = e ∙ first-refusal-by-length m t ws coin out in
@@ -63,7 +63,7 @@ module _ (m : Module) (t : Station) (ws : List ℕ) (coin : ℕ) (out : List ℕ
       → jumps (state-of t) (main-of ws) ≡ true → Answers (jumping m t ws coin out) number count u after-m xs → Below xs → Answers (giving hmac-code m t ws coin out) number count u after-m xs
   unfolding pick
   give-jump L low number count u after-m xs none-failed to-jump a low-xs =
-      let J = makes-jump hmac-code m t ws coin out L to-jump none-failed in
+      let J = makes-jump present-form hmac-code m t ws coin out L to-jump none-failed in
       answers-same (jumping m t ws coin out) (giving hmac-code m t ws coin out) number count u after-m xs
       (sym (passed-so m t ws coin out none-failed
       ∙ ap (λ (b : Bool). returned m t out (pick b
@@ -98,11 +98,11 @@ module _ (m : Module) (t : Station) (ws : List ℕ) (coin : ℕ) (out : List ℕ
   module _ (L : Lengths t) (A : LowWords t) (low : Below ws) (number count : ℕ) (u kk : Station) (after-m : Module) (xs : List ℕ)
       (none-failed : first-failed (give-tests hmac-code m t ws coin out) ≡ 0) (stays : jumps (state-of t) (main-of ws) ≡ false) (ek : kk ≡ with-bundle t ws)
       (a : Answers (after-words m kk coin out) number count u after-m xs) (low-xs : Below xs) where
-    acc : Accepted hmac-code m t ws coin out
-    acc = accepted hmac-code m t ws coin out L stays none-failed
+    acc : Accepted present-form hmac-code m t ws coin out
+    acc = accepted present-form hmac-code m t ws coin out L stays none-failed
 
     k : Station
-    k = W.as-station (m .n) (m .station) (after hmac-code m t ws coin out)
+    k = W.as-station (m .n) (m .station) (after present-form hmac-code m t ws coin out)
 
     same-k : kk ≡ k
     unfolding k

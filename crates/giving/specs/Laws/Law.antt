@@ -10,7 +10,8 @@ use borrow.Author.Tests.{ltb-true, ne-eqb, eqb-false}
 use Rattle.laws.specs.Pick.{pick}
 use Rattle.laws.specs.Bools.{never, right}
 use Rattle.laws.specs.All.{All}
-use Rattle.format.specs.Numbers.{none, bundle-words, kind-P, kind-V, D-GET, R-GET, last-round, most-statements, most-stations, output-words}
+use Rattle.format.specs.Form.{present-form}
+use Rattle.format.specs.Numbers.{none, kind-P, kind-V, D-GET, R-GET}
 use Rattle.format.specs.Group.{quorum, backing}
 use Rattle.format.specs.declared.Fields.{Fields}
 use Rattle.format.specs.Statement.{Statement, step}
@@ -18,20 +19,23 @@ use Rattle.rules.specs.Rules.{some-D-GET, has-second, d-get-group}
 use Rattle.rules.specs.Backed.{d-get-size, d-get-most, two-out, two-later}
 use Rattle.certificate.specs.Check.{every}
 use Rattle.modules.specs.declared.Module.{Module}
-use Rattle.modules.specs.Counter.{above, last-for, advanced, module-fits}
+use Rattle.modules.specs.Counter.{above, last-for, advanced}
+use Rattle.modules.specs.Present.{module-fits}
 use Rattle.station.specs.declared.Groups.{Groups}
 use Rattle.station.specs.declared.Stage.{Stage}
 use Rattle.station.specs.declared.Stage.the-variants.{Gathering, Proposing, Voting}
 use Rattle.station.specs.declared.Station.{Station}
 use Rattle.station.specs.Machine.{State, Next, next, proposing, voting, began, has-value, those, first-value, vote-value, carried, follows, closes}
 use Rattle.station.specs.Calls.{Returned}
-use Rattle.station.specs.Words.{sites, set-of, slots-of, group-words, held-in}
-use Rattle.format.specs.Bundle.{bundle-of, over, all-written}
-use Rattle.station.specs.Words as W
+use Rattle.station.specs.Words.{set-of}
+use Rattle.format.specs.Bundle.{over}
+use Rattle.station.specs.Present as W
 use Rattle.format.specs.Laws.ReadBack.{Proper}
+use Rattle.format.specs.Present.{bundle-words, last-round, most-statements, most-stations, output-words, bundle-of}
 use Rattle.station.specs.Laws.Slots.{held-back}
 use Rattle.station.specs.Laws.Sane.{InRounds, Kept}
 use Rattle.station.specs.Laws.End.{Full, Ready, kept-equal, kept-none, both-values}
+use Rattle.station.specs.Present.{sites, slots-of, group-words, held-in}
 use Rattle.writer.specs.Laws.Bundle.{Certificate, all-held, some-held, kept-alone}
 use Rattle.laws.specs.Below.{Below}
 use Rattle.sending.specs.Sent.{sent-count, sent-lent, sent-bundle, sent-station, sent-after}
@@ -46,7 +50,7 @@ use Rattle.moving.specs.Moves.{group-by, count-by, answer, sending-words}
 
 -- with no statement of a kept group, the group may be any
 any-group : (n : ℕ) (c : List Statement) (slots g : List ℕ) → Certificate n c [] slots g → (other : List ℕ) → Certificate n c [] slots other
-unfolding all-written
+unfolding Rattle.format.specs.Bundle.all-written
 any-group n c slots g C other =
     record {
       top = C .top;
@@ -74,7 +78,7 @@ those-few p (s ∷ h) = go (p s) (those-few p h)
     go true e = omega arith
     go false e = omega arith
 
-module _ (n : ℕ) (K : State) (top : n ≤ most-stations) (F : Full n K) where
+module _ (n : ℕ) (K : State) (top : n ≤ most-stations) (F : Full present-form n K) where
   abbrev groups : Groups
   groups = record { value = group-words (K .for-value); none = group-words (K .for-none) }
 
@@ -91,7 +95,7 @@ module _ (n : ℕ) (K : State) (top : n ≤ most-stations) (F : Full n K) where
     pub same : held ++ more ≡ x .first ++ x .second
 
   back : held-in (set-of (K .held)) slots 0 sites ≡ K .held
-  back = held-back n (K .held) top (F .rising) (F .proper)
+  back = held-back present-form n (K .held) top (F .rising) (F .proper)
 
   few : length (K .held) + 0 ≤ most-statements
   few = omega (arith, F .size)
@@ -148,11 +152,11 @@ module _ (n : ℕ) (K : State) (top : n ≤ most-stations) (F : Full n K) where
       v : ℕ
       v = vote-value (K .held)
 
-      with-group : (c : List Statement) → All (Proper n) c → length c ≤ quorum n → Certificate n (K .held) c slots (group-words c)
+      with-group : (c : List Statement) → All (Proper present-form n) c → length c ≤ quorum n → Certificate n (K .held) c slots (group-words c)
       with-group c p q = all-held n (K .held) top (F .rising) (F .proper) c p (omega arith) (omega (arith, F .size))
 
-      for-value : has-second kind-V v r (some-D-GET (K .held)) ≡ true → ltb v none ≡ true → Kept n (K .question) (d-get-group n v r) (K .for-value)
-      for-value x y = kept-equal n K F r f e v (vote-every y) (two-out kind-V v r (some-D-GET (K .held)) (ltb-true v none y) x)
+      for-value : has-second kind-V v r (some-D-GET (K .held)) ≡ true → ltb v none ≡ true → Kept present-form n (K .question) (d-get-group n v r) (K .for-value)
+      for-value x y = kept-equal present-form n K F r f e v (vote-every y) (two-out kind-V v r (some-D-GET (K .held)) (ltb-true v none y) x)
 
       sized : (c : Bool) → eqb r 1 ≡ c → length (K .for-value) ≡ d-get-group n v r .size → pick c (backing n v) (quorum n) ≡ length (K .for-value)
       sized c z h = ap (λ (b : Bool). pick b (backing n v) (quorum n)) (sym z) ∙ sym (d-get-size n v r) ∙ sym h
@@ -167,19 +171,19 @@ module _ (n : ℕ) (K : State) (top : n ≤ most-stations) (F : Full n K) where
           let g = for-value x y in
           record { held = K .held; more = K .for-value; made = with-group (K .for-value) (g .proper) (omega (arith, g .as-asked .size, d-get-most n v r)); set = refl; size = sized false z (g .as-asked .size); same = refl }
       choose true x false y c z =
-          let w = both-values n K F r f e (vote-none y) in
-          let g = kept-none n K F r f e (two-later kind-V v r (some-D-GET (K .held)) (vote-none y) x) (w .0) (w .1) in
+          let w = both-values present-form n K F r f e (vote-none y) in
+          let g = kept-none present-form n K F r f e (two-later kind-V v r (some-D-GET (K .held)) (vote-none y) x) (w .0) (w .1) in
           record { held = K .held; more = K .for-none; made = with-group (K .for-none) (g .proper) (omega (arith, g .as-asked .size)); set = refl; size = sym (g .as-asked .size); same = refl }
       choose false x b y c z = record { held = K .held; more = []; made = any-group n (K .held) slots (group-words []) alone (group-words (K .for-value)); set = refl; size = refl; same = refl }
 
   -- a proposal: the kept group of a vote for its value, or all none votes
-  from-votes : (r : ℕ) → 1 ≤ r → r < last-round → (coin : ℕ) → Ready n (K .question) (follows n (Voting (record { 0 = r })) K coin)
+  from-votes : (r : ℕ) → 1 ≤ r → r < last-round → (coin : ℕ) → Ready present-form n (K .question) (follows n (Voting (record { 0 = r })) K coin)
       → Chosen (next-by n (Voting (record { 0 = r })) (set-of (K .held)) slots coin) (follows n (Voting (record { 0 = r })) K coin)
   unfolding next-by votes-next follows group-by count-by pick set-of
   from-votes r low high coin R = rw back (choose (ltb (carried (K .held)) none) R)
     where
       choose : (b : Bool)
-          → Ready n (K .question) (pick b (next kind-P (carried (K .held)) D-GET (r + 1) (K .for-value) [] (proposing (r + 1) D-GET)) (next kind-P coin R-GET (r + 1) (K .held) [] (proposing (r + 1) R-GET)))
+          → Ready present-form n (K .question) (pick b (next kind-P (carried (K .held)) D-GET (r + 1) (K .for-value) [] (proposing (r + 1) D-GET)) (next kind-P coin R-GET (r + 1) (K .held) [] (proposing (r + 1) R-GET)))
           → Chosen
           (pick b (following kind-P (carried (K .held)) D-GET (round-after r) 0 ForValue (proposing (round-after r) D-GET))
           (following kind-P coin R-GET (round-after r) (set-of (K .held)) Nothing (proposing (round-after r) R-GET)))
@@ -198,18 +202,18 @@ module _ (n : ℕ) (K : State) (top : n ≤ most-stations) (F : Full n K) where
           }
       choose false R = record { held = K .held; more = []; made = any-group n (K .held) slots (group-words []) alone (group-words (K .for-value)); set = refl; size = refl; same = refl }
 
-  pub chosen : (g : Stage) → K .stage ≡ g → closes last-round g ≡ false → (coin : ℕ) → Ready n (K .question) (follows n g K coin)
+  pub chosen : (g : Stage) → K .stage ≡ g → closes last-round g ≡ false → (coin : ℕ) → Ready present-form n (K .question) (follows n g K coin)
       → Chosen (next-by n g (set-of (K .held)) slots coin) (follows n g K coin)
   chosen Gathering e goes coin R = from-inits coin
   chosen (Proposing r f) e goes coin R = from-proposals (r .0) f e coin
   chosen (Voting r) e goes coin R =
-      let i : InRounds (Voting r) = subst InRounds e (F .rounds) in
+      let i : InRounds present-form (Voting r) = subst (InRounds present-form) e (F .rounds) in
       from-votes (r .0) (i .0) (omega (arith, i .1, eqb-false (r .0) last-round goes)) coin R
 
 -- what is sent, by words and by the definition
-module _ (m : Module) (K : State) (top : m .n ≤ most-stations) (F : Full (m .n) K) (d : ℕ) (out : List ℕ) (room : output-words ≤ length out) (X : Following) (x : Next)
+module _ (m : Module) (K : State) (top : m .n ≤ most-stations) (F : Full present-form (m .n) K) (d : ℕ) (out : List ℕ) (room : output-words ≤ length out) (X : Following) (x : Next)
     (ek : X .kind ≡ x .kind) (ev : X .value ≡ x .value) (ef : X .flag ≡ x .flag) (er : X .round .0 ≡ x .round) (es : X .stage ≡ x .stage)
-    (C : Chosen (m .n) K top F X x) (p : Proper (m .n) (own-statement m (K .question) (x .kind) (x .value) (x .flag) (x .round))) (fit : module-fits m ≡ true)
+    (C : Chosen (m .n) K top F X x) (p : Proper present-form (m .n) (own-statement m (K .question) (x .kind) (x .value) (x .flag) (x .round))) (fit : module-fits m ≡ true)
     (later : above (last-for m (K .question)) (K .question) (step (own-statement m (K .question) (x .kind) (x .value) (x .flag) (x .round))) ≡ true) where
   abbrev s : Statement
   s = own-statement m (K .question) (x .kind) (x .value) (x .flag) (x .round)
@@ -231,7 +235,7 @@ module _ (m : Module) (K : State) (top : m .n ≤ most-stations) (F : Full (m .n
       }
 
   pub sending-is : Below (sending-words m k X f d out .lent) → sending-words m k X f d out ≡ by-definition
-  unfolding sending-words W.as-station
+  unfolding sending-words Rattle.station.specs.Words.as-station
   sending-is low =
       let sl : List ℕ = slots-of (K .held) 1 sites in
       let gr : List ℕ = group-by (X .kept) (k .groups) in

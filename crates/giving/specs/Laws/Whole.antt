@@ -11,21 +11,22 @@ use lib.ListN.{length}
 use borrow.Author.Tests.{eq-eqb, ltb-false}
 use Rattle.laws.specs.Pick.{pick, skip}
 use Rattle.laws.specs.Refusals.{first-failed}
-use Rattle.format.specs.Numbers.{none, kept, sent, sent-decided, closed-now, not-above, last-round}
+use Rattle.format.specs.Form.{present-form}
+use Rattle.format.specs.Numbers.{none, kept, sent, sent-decided, closed-now, not-above}
 use Rattle.format.specs.Group.{quorum}
 use Rattle.format.specs.Words.{step-of}
-use Rattle.format.specs.Statement.{Statement, step, statement-code}
+use Rattle.format.specs.Statement.{Statement, step}
+use Rattle.format.specs.Present.{last-round, statement-code, main-of, certificate-of}
 use Rattle.hmac.specs.Code.{hmac-code, hmac-eight}
-use Rattle.format.specs.Bundle.{main-of, certificate-of, all-written}
 use Rattle.modules.specs.declared.Module.{Module}
 use Rattle.modules.specs.Counter.{above, last-for}
 use Rattle.station.specs.declared.Stage.{Stage}
 use Rattle.station.specs.declared.Stage.the-variants.{Gathering, Proposing, Voting}
 use Rattle.station.specs.declared.Station.{Station}
 use Rattle.station.specs.Machine.{State, Next, Outcome, refused, keeps, sends, began, moved, shut, ended, taken, jumps, entered, answered, follows, closes, decision-at, round-in}
-use Rattle.station.specs.Words.{sites, set-of, slot-of, slots-of, held-in, held-by, state-of, Lengths}
-use Rattle.station.specs.Words as W
-use Rattle.station.specs.Calls.{Returned, returned, give-tests, giving}
+use Rattle.station.specs.Words.{set-of}
+use Rattle.station.specs.Present as W
+use Rattle.station.specs.Calls.{Returned}
 use Rattle.station.specs.Laws.Slots.{ones-set, held-back}
 use Rattle.station.specs.Laws.Sane.{InRounds}
 use Rattle.station.specs.Laws.Keep.{Grown, grown}
@@ -34,6 +35,7 @@ use Rattle.station.specs.Laws.End.{Full, Ready}
 use Rattle.station.specs.Laws.Views.{Accepted, after, decision-then, sane-before, full-after}
 use Rattle.station.specs.Laws.Fits.{next-ready, sent-proper}
 use Rattle.station.specs.Seal.{range-fits}
+use Rattle.station.specs.Present.{sites, slots-of, held-in, held-by, state-of, returned, give-tests, giving, Lengths}
 use Rattle.laws.specs.Below.{Below}
 use Rattle.sending.specs.Sends.{own-fields, own-statement}
 use Rattle.ending.specs.declared.Following.{Following}
@@ -52,7 +54,7 @@ not-12 false = refl
 abbrev pub or-as-was : Module → Station → List ℕ → Returned → Returned
 or-as-was m t out r = pick (eqb (r .number) not-above) (with-no-bundle not-above t m out) r
 
-in-range-of : (g : Stage) → InRounds g → round-in g ≤ last-round
+in-range-of : (g : Stage) → InRounds present-form g → round-in g ≤ last-round
 in-range-of Gathering i = omega arith
 in-range-of (Proposing r f) i = i .1
 in-range-of (Voting r) i = i .1
@@ -61,30 +63,30 @@ in-range-of (Voting r) i = i .1
 pub passed-so : (m : Module) (t : Station) (ws : List ℕ) (coin : ℕ) (out : List ℕ) → first-failed (give-tests hmac-code m t ws coin out) ≡ 0
     → giving hmac-code m t ws coin out
     ≡ returned m t out (answered (statement-code (hmac-code (m .key))) last-round (m .n) (m .station) (last-for m (t .identity .question)) (state-of t) (main-of ws) (certificate-of ws) coin)
-unfolding giving pick
+unfolding Rattle.station.specs.Calls.giving pick
 passed-so m t ws coin out z =
     ap (λ (b : Bool). returned m t out (pick b (answered (statement-code (hmac-code (m .key))) last-round (m .n) (m .station) (last-for m (t .identity .question)) (state-of t) (main-of ws) (certificate-of ws) coin)
     (refused (first-failed (give-tests hmac-code m t ws coin out))))) (eq-eqb _ 0 z)
 
-module _ (m : Module) (t : Station) (ws : List ℕ) (coin : ℕ) (out : List ℕ) (L : Lengths t) (A : Accepted hmac-code m t ws coin out) where
+module _ (m : Module) (t : Station) (ws : List ℕ) (coin : ℕ) (out : List ℕ) (L : Lengths t) (A : Accepted present-form hmac-code m t ws coin out) where
   abbrev K : State
-  K = after hmac-code m t ws coin out
+  K = after present-form hmac-code m t ws coin out
 
   abbrev k : Station
   k = W.as-station (m .n) (m .station) K
 
-  G : Grown (m .n) (m .station) (state-of t) (main-of ws) (certificate-of ws) (sane-before hmac-code m t ws coin out L A) (A .fitting) (A .new)
-  G = grown (m .n) (m .station) (state-of t) (main-of ws) (certificate-of ws) (sane-before hmac-code m t ws coin out L A) (A .fitting) (A .new)
+  G : Grown present-form (m .n) (m .station) (state-of t) (main-of ws) (certificate-of ws) (sane-before present-form hmac-code m t ws coin out L A) (A .fitting) (A .new)
+  G = grown present-form (m .n) (m .station) (state-of t) (main-of ws) (certificate-of ws) (sane-before present-form hmac-code m t ws coin out L A) (A .fitting) (A .new)
 
   back : held-in (set-of (K .held)) (slots-of (K .held) 1 sites) 0 sites ≡ K .held
-  back = held-back (m .n) (K .held) (A .range .at-most-31) (G .rising) (G .proper)
+  back = held-back present-form (m .n) (K .held) (A .range .at-most) (G .rising) (G .proper)
 
   -- the step goes on
-  goes-on : length (K .held) ≡ quorum (m .n) → closes last-round (t .stage) ≡ false → (d : ℕ) → d ≡ decision-then hmac-code m t ws coin out
+  goes-on : length (K .held) ≡ quorum (m .n) → closes last-round (t .stage) ≡ false → (d : ℕ) → d ≡ decision-then present-form hmac-code m t ws coin out
       → Below (moving m k (next-by (m .n) (K .stage) (set-of (K .held)) (slots-of (K .held) 1 sites) coin) d out .lent)
       → returned m t out (moved (statement-code (hmac-code (m .key))) last-round (m .n) (m .station) (last-for m (t .identity .question)) K (follows (m .n) (K .stage) K coin) d)
       ≡ or-as-was m t out (moving m k (next-by (m .n) (K .stage) (set-of (K .held)) (slots-of (K .held) 1 sites) coin) d out)
-  unfolding returned moving state-of W.as-station step pick sending-words answer
+  unfolding Rattle.station.specs.Calls.returned moving Rattle.station.specs.Words.state-of Rattle.station.specs.Words.as-station step pick sending-words answer
   goes-on size goes d same-d low =
       ap (λ (z : ℕ). returned m t out (pick (above (last-for m q) q z) sent-all (refused not-above))) (sym (λ i. step-of (ek i) (er i)))
       ∙ go (above (last-for m q) q (step-of (X .kind) (X .round .0))) refl low
@@ -98,11 +100,11 @@ module _ (m : Module) (t : Station) (ws : List ℕ) (coin : ℕ) (out : List ℕ
       x : Next
       x = follows (m .n) (t .stage) K coin
 
-      F : Full (m .n) K
-      F = full-after hmac-code m t ws coin out L A size
+      F : Full present-form (m .n) K
+      F = full-after present-form hmac-code m t ws coin out L A size
 
-      R : Ready (m .n) (t .identity .question) x
-      R = next-ready hmac-code hmac-eight m t ws coin out L A size goes
+      R : Ready present-form (m .n) (t .identity .question) x
+      R = next-ready present-form hmac-code hmac-eight m t ws coin out L A size goes
 
       e : as-next X (x .first) (x .second) ≡ x
       e = next-is (m .n) (t .stage) (set-of (K .held)) (slots-of (K .held) 1 sites) coin K (sym back) goes (in-range-of (t .stage) (F .rounds))
@@ -124,21 +126,21 @@ module _ (m : Module) (t : Station) (ws : List ℕ) (coin : ℕ) (out : List ℕ
           ≡ or-as-was m t out (pick a (sending-words m k X (own-fields m (X .kind) (X .value) (X .flag) (X .round .0)) d out) (with-no-bundle not-above k m out))
       go true later low =
           skip _ _ _ _ (not-12 (ltb (t .decision) none || eqb d none))
-          (sym (sending-is m K (A .range .at-most-31) F d out (A .room) X x ek (ap (λ (y : Next). y .value) e) (ap (λ (y : Next). y .flag) e) er (ap (λ (y : Next). y .stage) e)
-          (chosen (m .n) K (A .range .at-most-31) F (t .stage) refl goes coin R) (sent-proper hmac-code hmac-eight m t ws coin out L A size goes)
+          (sym (sending-is m K (A .range .at-most) F d out (A .room) X x ek (ap (λ (y : Next). y .value) e) (ap (λ (y : Next). y .flag) e) er (ap (λ (y : Next). y .stage) e)
+          (chosen (m .n) K (A .range .at-most) F (t .stage) refl goes coin R) (sent-proper present-form hmac-code hmac-eight m t ws coin out L A size goes)
           (range-fits m (A .range)) (ap (above (last-for m q) q) (sym (λ i. step-of (ek i) (er i))) ∙ later) low))
       go false later low = refl
 
   -- the step has ended
   ends : length (K .held) ≡ quorum (m .n) → Below (ending-words m k coin out .lent)
       → returned m t out (ended (statement-code (hmac-code (m .key))) last-round (m .n) (m .station) (last-for m (t .identity .question)) K coin) ≡ or-as-was m t out (ending-words m k coin out)
-  unfolding returned ended ending-words shut-words state-of W.as-station pick set-of slots-of slot-of all-written
+  unfolding Rattle.station.specs.Calls.returned ended ending-words shut-words Rattle.station.specs.Words.state-of Rattle.station.specs.Words.as-station pick set-of Rattle.station.specs.Words.slots-of Rattle.station.specs.Words.slot-of Rattle.format.specs.Bundle.all-written
   ends size low = go (closes last-round (t .stage)) refl low
     where
       d : ℕ
-      d = decision-then hmac-code m t ws coin out
+      d = decision-then present-form hmac-code m t ws coin out
 
-      same-d : decision-at (t .stage) (t .decision) (held-in (set-of (K .held)) (slots-of (K .held) 1 sites) 0 sites) ≡ decision-then hmac-code m t ws coin out
+      same-d : decision-at (t .stage) (t .decision) (held-in (set-of (K .held)) (slots-of (K .held) 1 sites) 0 sites) ≡ decision-then present-form hmac-code m t ws coin out
       same-d = ap (decision-at (t .stage) (t .decision)) back
 
       go : (b : Bool) → closes last-round (t .stage) ≡ b
@@ -157,7 +159,7 @@ module _ (m : Module) (t : Station) (ws : List ℕ) (coin : ℕ) (out : List ℕ
 
   pub given-is : first-failed (give-tests hmac-code m t ws coin out) ≡ 0 → jumps (state-of t) (main-of ws) ≡ false → Below (after-words m k coin out .lent)
       → giving hmac-code m t ws coin out ≡ or-as-was m t out (after-words m k coin out)
-  unfolding giving taken after-words returned state-of W.as-station pick
+  unfolding Rattle.station.specs.Calls.giving taken after-words Rattle.station.specs.Calls.returned Rattle.station.specs.Words.state-of Rattle.station.specs.Words.as-station pick
   given-is z stays low =
       passed-so m t ws coin out z
       ∙ ap (λ (b : Bool). returned m t out (pick b
@@ -173,4 +175,4 @@ module _ (m : Module) (t : Station) (ws : List ℕ) (coin : ℕ) (out : List ℕ
           → returned m t out (pick b (keeps kept K) (ended (statement-code (hmac-code (m .key))) last-round (m .n) (m .station) (last-for m (t .identity .question)) K coin))
           ≡ or-as-was m t out (pick b (with-no-bundle kept k m out) (ending-words m k coin out))
       go true e low = refl
-      go false e low = ends (omega (arith, ltb-false (length (K .held)) (quorum (m .n)) e, insert-length (main-of ws) (state-of t .held), sane-before hmac-code m t ws coin out L A .few)) low
+      go false e low = ends (omega (arith, ltb-false (length (K .held)) (quorum (m .n)) e, insert-length (main-of ws) (state-of t .held), sane-before present-form hmac-code m t ws coin out L A .few)) low

@@ -5,7 +5,7 @@ use mathlib.Core.Path.{_≡_, refl, _∙_}
 use lib.Count.{ones}
 use lib.Dec.{ltb}
 use Rattle.laws.specs.Sets.{bit}
-use Rattle.station.specs.Words.{sites}
+use Rattle.station.specs.Present.{sites}
 use Rattle.held.specs.Scan.{gathered, lowest}
 use Rattle.held.specs.Laws.Sets.{gathered-room, gathered-turn, gathered-end}
 use borrow.Author.Needs.{needs}

@@ -1,7 +1,7 @@
 -- The invariant: what was gathered so far is the scan of the slots from here on. Each turn is one unfolding of the definition.
 use Prim.Native.Nat.{_+_, _-_, _*_, _^_, _≤_, _<_}
 use mathlib.Core.Path.{_≡_, refl, _∙_}
-use Rattle.station.specs.Words.{sites}
+use Rattle.station.specs.Present.{sites}
 use Rattle.held.specs.Scan.{gathered, such, scan}
 use Rattle.held.specs.Laws.Sets.{gathered-room, gathered-turn, gathered-end}
 use Rattle.held.specs.Laws.Held.{found, read-such}

@@ -12,18 +12,20 @@ use borrow.Author.Tests.{eqb-true, eqb-false, eq-eqb, ne-eqb, lt-ltb, le-ltb, lt
 use Rattle.laws.specs.Pick.{pick}
 use Rattle.laws.specs.Count.{one-if}
 use Rattle.laws.specs.Sets.{bit}
-use Rattle.format.specs.Numbers.{statement-words, D-GET, R-GET}
+use Rattle.format.specs.Form.{present-form}
+use Rattle.format.specs.Numbers.{D-GET, R-GET}
 use Rattle.format.specs.declared.Fields.{Fields}
 use Rattle.format.specs.Words.{fields-of}
-use Rattle.format.specs.Statement.{Statement, statement}
+use Rattle.format.specs.Statement.{Statement}
+use Rattle.format.specs.Present.{statement-words, statement}
 use Rattle.rules.specs.declared.Which.{Which}
 use Rattle.rules.specs.declared.Which.the-variants.{Any, Only}
 use Rattle.rules.specs.Rules.{which, some}
 use Rattle.certificate.specs.Check.{every}
 use Rattle.station.specs.Machine.{number-of, has-value, those, leading}
-use Rattle.station.specs.Words.{sites, held-in}
 use Rattle.station.specs.Laws.Pieces.{those-length}
 use Rattle.station.specs.Laws.FitSane.{held-count}
+use Rattle.station.specs.Present.{sites, held-in}
 use Rattle.held.specs.Scan.{gathered, scan, such}
 use Rattle.held.specs.Laws.Sets.{gathered-low, gathered-none, gathered-two, bit-of}
 
@@ -48,7 +50,7 @@ module _ (p : Statement → Bool) (set : ℕ) (slots : List ℕ) where
 
   -- ---- the statements found
   held-found : (x m i : ℕ) → ((j : ℕ) → i ≤ j → j < i + m → bit x j ≡ found j) → held-in x slots i m ≡ those p (held-in set slots i m)
-  unfolding held-in those pick
+  unfolding Rattle.station.specs.Words.held-in those pick
   held-found x zero i h = refl
   held-found x (suc m) i h =
       rw (h i (omega arith) (omega arith)) (go (bit set i) (p (statement slots (i * 10))) refl (held-found x m (suc i) (λ j a b. h j (omega arith) (omega arith))))
@@ -65,12 +67,12 @@ module _ (p : Statement → Bool) (set : ℕ) (slots : List ℕ) where
 
   pub scan-number : ones (scan p set slots) ≡ number-of p (held-in set slots 0 sites)
   scan-number =
-      ap ones (sym (div-one (scan p set slots))) ∙ sym (held-count (scan p set slots) slots sites 0 scan-low) ∙ ap length scan-held
+      ap ones (sym (div-one (scan p set slots))) ∙ sym (held-count present-form (scan p set slots) slots sites 0 scan-low) ∙ ap length scan-held
       ∙ those-length p (held-in set slots 0 sites)
 
   -- ---- whether there is one
   some-from : (m i : ℕ) → ltb 0 (gathered found i m) ≡ some p (held-in set slots i m)
-  unfolding gathered held-in some pick
+  unfolding gathered Rattle.station.specs.Words.held-in some pick
   some-from zero i = refl
   some-from (suc m) i = go (bit set i) (p (statement slots (i * 10))) refl (some-from m (suc i))
     where
@@ -91,7 +93,7 @@ module _ (p : Statement → Bool) (set : ℕ) (slots : List ℕ) where
 
   -- ---- whether all are, where the scan for any statement finds them all
   all-from : (m i : ℕ) → eqb (gathered found i m) (gathered (λ j. bit set j && such Any Any (statement slots (j * statement-words))) i m) ≡ every p (held-in set slots i m)
-  unfolding gathered held-in every pick
+  unfolding gathered Rattle.station.specs.Words.held-in every pick
   all-from zero i = refl
   all-from (suc m) i = go (bit set i) (p (statement slots (i * 10))) refl (all-from m (suc i))
     where
@@ -117,7 +119,7 @@ module _ (p : Statement → Bool) (set : ℕ) (slots : List ℕ) where
   first-from : (m i : ℕ) → 0 < gathered found i m
       → (trailingZeros (suc m) (gathered found i m) < m)
       × (leading p (held-in set slots i m) ≡ statement slots ((i + trailingZeros (suc m) (gathered found i m)) * statement-words) .value)
-  unfolding gathered held-in leading pick trailingZeros
+  unfolding gathered Rattle.station.specs.Words.held-in leading pick trailingZeros
   first-from zero i h = absurd (omega arith)
   first-from (suc m) i h = go (bit set i) (p (statement slots (i * 10))) refl h (first-from m (suc i))
     where

@@ -15,14 +15,16 @@ use Rattle.laws.specs.Pick.{pick}
 use Rattle.laws.specs.Bools.{both}
 use Rattle.laws.specs.All.{All, all-two}
 use Rattle.laws.specs.Sets.{bit}
-use Rattle.format.specs.Numbers.{most-stations, statement-words}
-use Rattle.format.specs.Statement.{Statement, statement, written}
+use Rattle.format.specs.Form.{present-form}
+use Rattle.format.specs.Statement.{Statement}
 use Rattle.format.specs.Laws.ReadBack.{Proper, statement-drop, statement-back}
+use Rattle.format.specs.Present.{most-stations, statement-words, statement, written}
 use Rattle.rules.specs.Rules.{Rising}
 use Rattle.station.specs.Machine.{those}
-use Rattle.station.specs.Words.{sites, held-in, set-of, slot-of, slots-of}
+use Rattle.station.specs.Words.{set-of}
 use Rattle.station.specs.Laws.Slots.{bit-set, slot-held, slot-at, held-back}
 use Rattle.station.specs.Laws.Sane.{find}
+use Rattle.station.specs.Present.{sites, held-in, slot-of, slots-of}
 use Rattle.held.specs.Scan.{scan, lowest}
 use Rattle.held.specs.Laws.Sets.{half, gathered-low, bit-of}
 use Rattle.held.specs.Laws.Held.{scan-bit, scan-held}
@@ -55,7 +57,7 @@ module _ (set k : ℕ) where
 
   module _ (slots : List ℕ) where
     first-held : (m i : ℕ) → i + m ≤ sites → held-in (lowest set k) slots i m ≡ take (k - ones (set % 2 ^ i)) (held-in set slots i m)
-    unfolding held-in pick
+    unfolding Rattle.station.specs.Words.held-in pick
     first-held zero i room = sym (take-none (k - ones (set % 2 ^ i)))
       where
         take-none : (j : ℕ) → take {A = Statement} j [] ≡ []
@@ -90,7 +92,7 @@ Own set slots = (j : ℕ) → j < sites → bit set j ≡ true → statement slo
 
 module _ (set : ℕ) (slots : List ℕ) (own : Own set slots) where
   set-from : (k i : ℕ) → i + k ≤ sites → set < 2 ^ (i + k) → set-of (held-in set slots i k) ≡ set / 2 ^ i * 2 ^ i
-  unfolding held-in pick set-of
+  unfolding Rattle.station.specs.Words.held-in pick set-of
   set-from zero i room low =
       let z : set / 2 ^ i ≡ 0 = div-eq-of-lt (rw add-zero at low) in
       rw z (omega arith)
@@ -121,23 +123,23 @@ module _ (set : ℕ) (slots : List ℕ) (own : Own set slots) where
 
 -- ---- written from a list of statements by rising station
 -- a slot of the set of statements holds one of its own station
-own-slot : (n : ℕ) (h : List Statement) → n ≤ most-stations → Rising 0 h → All (Proper n) h → Own (set-of h) (slots-of h 1 sites)
+own-slot : (n : ℕ) (h : List Statement) → n ≤ most-stations → Rising 0 h → All (Proper present-form n) h → Own (set-of h) (slots-of h 1 sites)
 own-slot n h top r a j few e =
-    let f = find (λ s. (slot-of h (s .station) ≡ written s) × Proper n s) (suc j) h
-    (all-two (λ s. slot-of h (s .station) ≡ written s) (Proper n) h (slot-held 0 h r) a) (sym (bit-set h r j) ∙ e) in
+    let f = find (λ s. (slot-of h (s .station) ≡ written s) × Proper present-form n s) (suc j) h
+    (all-two (λ s. slot-of h (s .station) ≡ written s) (Proper present-form n) h (slot-held present-form 0 h r) a) (sym (bit-set h r j) ∙ e) in
     let w : slot-of h (suc j) ≡ written (f .one) = ap (slot-of h) (sym (f .of-station)) ∙ f .has .0 in
     let d : statement (slots-of h 1 sites) (j * 10) ≡ f .one
-    = statement-drop (slots-of h 1 sites) (j * 10)
-    ∙ ap (λ (l : List ℕ). statement l 0) (slot-at n h j a few ∙ ap (λ (l : List ℕ). l ++ slots-of h (suc (suc j)) (sites - suc j)) w)
-    ∙ statement-back n (f .one) (slots-of h (suc (suc j)) (sites - suc j)) top (f .has .1) in
+    = statement-drop present-form (slots-of h 1 sites) (j * 10)
+    ∙ ap (λ (l : List ℕ). statement l 0) (slot-at present-form n h j a few ∙ ap (λ (l : List ℕ). l ++ slots-of h (suc (suc j)) (sites - suc j)) w)
+    ∙ statement-back present-form n (f .one) (slots-of h (suc (suc j)) (sites - suc j)) top (f .has .1) in
     ap (λ (s : Statement). s .station) d ∙ f .of-station
 
 -- the set of the k lowest-numbered that a test takes
-pub lowest-set : (n : ℕ) (p : Statement → Bool) (h : List Statement) (k : ℕ) → n ≤ most-stations → Rising 0 h → All (Proper n) h
+pub lowest-set : (n : ℕ) (p : Statement → Bool) (h : List Statement) (k : ℕ) → n ≤ most-stations → Rising 0 h → All (Proper present-form n) h
     → lowest (scan p (set-of h) (slots-of h 1 sites)) k ≡ set-of (take k (those p h))
 lowest-set n p h k top r a =
     sym (set-held (lowest found k) slots own (lowest-low found k))
-    ∙ ap set-of (lowest-held found k slots ∙ ap (take k) (scan-held p (set-of h) slots) ∙ ap (λ (l : List Statement). take k (those p l)) (held-back n h top r a))
+    ∙ ap set-of (lowest-held found k slots ∙ ap (take k) (scan-held p (set-of h) slots) ∙ ap (λ (l : List Statement). take k (those p l)) (held-back present-form n h top r a))
   where
     slots : List ℕ
     slots = slots-of h 1 sites

@@ -9,7 +9,7 @@ use lib.Pow.{pow-pos, pow-mono, shl-exact}
 use borrow.Author.Tests.{eqb-true, eqb-false, eq-eqb, ne-eqb}
 use Rattle.laws.specs.Count.{one-if}
 use Rattle.laws.specs.Sets.{bit}
-use Rattle.station.specs.Words.{sites}
+use Rattle.station.specs.Present.{sites}
 use Rattle.held.specs.Scan.{gathered}
 
 -- no number above 31 is in the set that a word holds

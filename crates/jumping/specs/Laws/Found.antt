@@ -8,8 +8,9 @@ use borrow.Author.Tests.{not-true, not-false}
 use Rattle.laws.specs.Pick.{here, skip}
 use Rattle.format.specs.declared.Fields.{Fields}
 use Rattle.format.specs.declared.Step.{Step}
-use Rattle.format.specs.Numbers.{jumped, not-above, place-of}
+use Rattle.format.specs.Numbers.{jumped, not-above}
 use Rattle.format.specs.Words.{fields-of, step-in}
+use Rattle.format.specs.Present.{place-of}
 use Rattle.modules.specs.declared.Module.{Module}
 use Rattle.modules.specs.Counter.{above, last-for}
 use Rattle.station.specs.declared.Stage.{Stage}

@@ -12,23 +12,25 @@ use Rattle.laws.specs.Pick.{pick}
 use Rattle.laws.specs.Bools.{both}
 use Rattle.laws.specs.Sets.{bit}
 use Rattle.laws.specs.Below.{Below}
+use Rattle.format.specs.Form.{present-form}
 use Rattle.format.specs.Group.{quorum}
-use Rattle.format.specs.Numbers.{statement-words}
-use Rattle.format.specs.Words.{fields-of, formed, station-of}
-use Rattle.format.specs.Statement.{Statement, statement, statements, word-0, written}
-use Rattle.format.specs.Bundle.{count-in, main-of, certificate-of, all-formed, all-written, bundle-of}
+use Rattle.format.specs.Words.{fields-of, station-of}
+use Rattle.format.specs.Statement.{Statement}
+use Rattle.format.specs.Bundle.{count-in}
 use Rattle.format.specs.Laws.Layout.{covered-read}
-use Rattle.certificate.specs.Valid.{Bundle}
+use Rattle.certificate.specs.Present.{Bundle}
 use Rattle.format.specs.Laws.Parts.{parts-length}
-use Rattle.station.specs.Words.{held-in, set-of, slot-of, slots-of, group-words, sites, kept-words, slots-words}
-use Rattle.station.specs.Fit.{zeros, slot-fits, slots-fit}
+use Rattle.format.specs.Present.{statement-words, formed, statement, statements, word-0, written, main-of, certificate-of, all-formed, all-written, bundle-of}
+use Rattle.station.specs.Words.{set-of}
+use Rattle.station.specs.Fit.{zeros}
+use Rattle.station.specs.Present.{held-in, slot-of, slots-of, group-words, sites, kept-words, slots-words, slot-fits, slots-fit}
 use Rattle.held.specs.Laws.Lowest.{Own, set-held}
 
 -- ---- a statement, and a list of them
 pub written-back : (n : ℕ) (ws : List ℕ) (at : ℕ) → Below ws → at + statement-words ≤ length ws → formed n (fields-of (getD ws at 0)) ≡ true
     → written (statement ws at) ≡ take statement-words (drop at ws)
 written-back n ws at low room f =
-    let w : word-0 (statement ws at) ≡ getD ws at 0 = ap (λ (l : List ℕ). getD l 0 0) (covered-read n ws at (low at) f) in
+    let w : word-0 (statement ws at) ≡ getD ws at 0 = ap (λ (l : List ℕ). getD l 0 0) (covered-read present-form n ws at (low at) f) in
     let e : suc at ≡ at + 1 = omega arith in
     let g : suc (at + 1) ≡ at + 2 = omega arith in
     let one : drop at ws ≡ getD ws at 0 ∷ drop (at + 1) ws = drop-cons ws at 0 (omega arith) ∙ ap (λ (k : ℕ). getD ws at 0 ∷ drop k ws) e in
@@ -38,7 +40,7 @@ written-back n ws at low room f =
 
 pub all-back : (n : ℕ) (ws : List ℕ) → Below ws → (k at : ℕ) → at + k * statement-words ≤ length ws → all-formed n ws at k ≡ true
     → all-written (statements ws at k) ≡ take (k * statement-words) (drop at ws)
-unfolding all-formed statements all-written
+unfolding Rattle.format.specs.Bundle.all-formed Rattle.format.specs.Statement.statements Rattle.format.specs.Bundle.all-written
 all-back n ws low zero at room h = refl
 all-back n ws low (suc k) at room h =
     let b = both (formed n (fields-of (getD ws at 0))) _ h in
@@ -50,10 +52,10 @@ all-back n ws low (suc k) at room h =
 
 -- the words of a bundle, which is read and written again
 pub bundle-back : (n : ℕ) (ws : List ℕ) → Below ws → Bundle n ws → ws ≡ bundle-of (main-of ws) (certificate-of ws)
-unfolding bundle-of all-formed
+unfolding Rattle.format.specs.Bundle.bundle-of Rattle.format.specs.Bundle.all-formed
 bundle-back n ws low B =
     let b = both (formed n (fields-of (getD ws 1 0))) _ (B .fields) in
-    let head : getD ws 0 0 ≡ 3 * 2 ^ 30 + length (certificate-of ws) = omega (arith, B .head-kind, B .head-zeros, parts-length ws 11 (count-in ws)) in
+    let head : getD ws 0 0 ≡ 3 * 2 ^ 30 + length (certificate-of ws) = omega (arith, B .head-kind, B .head-middle, parts-length present-form ws 11 (count-in ws)) in
     let one : written (main-of ws) ≡ take 10 (drop 1 ws) = written-back n ws 1 low (omega (arith, B .size)) (b .0) in
     let few : length (drop 11 ws) ≤ count-in ws * 10 = rw length-drop (omega (arith, B .size)) in
     let rest : all-written (certificate-of ws) ≡ drop 10 (drop 1 ws)
@@ -79,7 +81,7 @@ group-back n ws k low long few f z =
     let l : length (drop (k * 10) ws) ≤ 160 - k * 10 = rw length-drop (omega arith) in
     let back : drop (k * 10) ws ≡ replicate (160 - k * 10) 0
     = sym (take-all (160 - k * 10) (drop (k * 10) ws) l) ∙ zeros-back ws (160 - k * 10) (k * 10) (omega arith) z in
-    sym (take-append-drop (k * 10) ws) ∙ rw (front, back, parts-length ws 0 k)
+    sym (take-append-drop (k * 10) ws) ∙ rw (front, back, parts-length present-form ws 0 k)
 
 -- ---- the set and the slots
 module _ (n question st set : ℕ) (slots : List ℕ) where
@@ -94,7 +96,7 @@ module _ (n question st set : ℕ) (slots : List ℕ) where
   -- what is said of one slot
   fit-at : (k i j : ℕ) → slots-fit n question st set slots i k ≡ true → i ≤ j → j < i + k
       → pick (bit set j) (slot-fits n question st j slots) (zeros slots (j * statement-words) statement-words) ≡ true
-  unfolding slots-fit
+  unfolding Rattle.station.specs.Fit.slots-fit
   fit-at zero i j h lo hi = absurd (omega arith)
   fit-at (suc k) i j h lo hi =
       let a = both (pick (bit set i) (slot-fits n question st i slots) (zeros slots (i * 10) 10)) _ h in
@@ -130,7 +132,7 @@ module _ (n question st set : ℕ) (slots : List ℕ) where
 -- slots that are, one by one, the words of an array
 pub slots-are : (h : List Statement) (ws : List ℕ) (k i : ℕ) → ((j : ℕ) → i ≤ j → j < i + k → slot-of h (suc j) ≡ take statement-words (drop (j * statement-words) ws))
     → slots-of h (suc i) k ≡ take (k * statement-words) (drop (i * statement-words) ws)
-unfolding slots-of
+unfolding Rattle.station.specs.Words.slots-of
 slots-are h ws zero i s = refl
 slots-are h ws (suc k) i s =
     let e : suc k * 10 ≡ 10 + k * 10 = omega arith in

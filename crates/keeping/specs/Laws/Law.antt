@@ -11,21 +11,22 @@ use borrow.Author.Tests.{eqb-true, eqb-false, eq-eqb, ne-eqb, le-leb}
 use Rattle.laws.specs.Pick.{pick, skip, not-f}
 use Rattle.laws.specs.Bools.{both, join}
 use Rattle.laws.specs.Sets.{bit}
-use Rattle.format.specs.Numbers.{most-stations, place-of, statement-words}
+use Rattle.format.specs.Form.{present-form}
 use Rattle.format.specs.Group.{quorum}
-use Rattle.format.specs.Words.{fields-of, formed}
-use Rattle.format.specs.Statement.{Statement, written}
-use Rattle.format.specs.Bundle.{count-in, main-of, certificate-of, all-formed}
+use Rattle.format.specs.Words.{fields-of}
+use Rattle.format.specs.Statement.{Statement}
+use Rattle.format.specs.Bundle.{count-in}
 use Rattle.format.specs.Laws.Layout.{formed-well}
 use Rattle.format.specs.Laws.Shape.{Formed, formed-out}
-use Rattle.certificate.specs.Valid.{Bundle}
+use Rattle.certificate.specs.Present.{Bundle}
 use Rattle.modules.specs.declared.Module.{Module}
 use Rattle.station.specs.declared.Station.{Station}
 use Rattle.station.specs.Machine.{stage-step, keeping, insert, held-of, takes, supplies-for-value, supplies-for-none}
-use Rattle.station.specs.Words.{set-of, slot-of, slots-of, group-words, sites, held-by, state-of, Lengths}
-use Rattle.station.specs.Words as W
+use Rattle.station.specs.Words.{set-of}
+use Rattle.station.specs.Present as W
 use Rattle.rules.specs.Rules.{Rising}
 use Rattle.format.specs.Laws.ReadBack.{Proper}
+use Rattle.format.specs.Present.{most-stations, place-of, statement-words, formed, written, main-of, certificate-of, all-formed}
 use Rattle.laws.specs.All.{All}
 use Rattle.station.specs.Laws.Slots.{bit-set}
 use Rattle.station.specs.Laws.Insert.{insert-all, insert-rising}
@@ -34,6 +35,7 @@ use Rattle.held.specs.Scan.{scan, lowest}
 use Rattle.held.specs.Laws.Sets.{no-bit}
 use Rattle.held.specs.Laws.Lowest.{lowest-set}
 use Rattle.station.specs.Laws.Views.{Accepted}
+use Rattle.station.specs.Present.{slot-of, slots-of, group-words, sites, held-by, state-of, Lengths}
 use Rattle.laws.specs.Below.{Below}
 use Rattle.keeping.specs.Laws.Back.{written-back, all-slots}
 use Rattle.keeping.specs.Laws.One.{LowWords, Fit, fit-out, rising, set-same, slot-same, for-value-same, for-none-same}
@@ -43,14 +45,14 @@ use Rattle.keeping.specs.Laws.Parts.{set-insert, slot-insert, put-slot, 
 module _ (n number : ℕ) (t : Station) (ws : List ℕ) (top : n ≤ most-stations) (L : Lengths t) (A : LowWords t) (low : Below ws) (F : Fit n number t) (B : Bundle n ws)
     (new : held-of (main-of ws .station) (held-by t) ≡ false) where
   formed-all : (formed n (fields-of (getD ws 1 0)) ≡ true) × (all-formed n ws (place-of 1) (count-in ws) ≡ true)
-  unfolding all-formed
+  unfolding Rattle.format.specs.Bundle.all-formed
   formed-all = both (formed n (fields-of (getD ws 1 0))) _ (B .fields)
 
-  main-proper : Proper n (main-of ws)
-  main-proper = record { formed = formed-well n ws 1 (formed-all .0); eight = length-take-le 8 (drop 3 ws) (rw length-drop (omega (arith, B .size))) }
+  main-proper : Proper present-form n (main-of ws)
+  main-proper = record { formed = formed-well present-form n ws 1 (formed-all .0); eight = length-take-le 8 (drop 3 ws) (rw length-drop (omega (arith, B .size))) }
 
-  main : Formed n (main-of ws)
-  main = formed-out n (main-of ws) (formed-well n ws 1 (formed-all .0))
+  main : Formed present-form n (main-of ws)
+  main = formed-out present-form n (main-of ws) (formed-well present-form n ws 1 (formed-all .0))
 
   long : length ws ≡ place-of 1 + count-in ws * statement-words
   long = omega (arith, B .size)
@@ -111,9 +113,9 @@ module _ (n number : ℕ) (t : Station) (ws : List ℕ) (top : n ≤ most-statio
   takes-by : (p : Statement → Bool) → taken-from p (held-with (t .held) (main-of ws .station) ws) (main-of ws .station) ≡ takes p (held-by t) (main-of ws)
   unfolding is-lowest held-with held-after
   takes-by p =
-      let R = read-slots n (t .identity .question) (stage-step (t .stage)) (t .held .heard) (t .held .slots) sites 0 (omega (arith, L .slots)) (F .slots) in
+      let R = read-slots present-form n (t .identity .question) (stage-step (t .stage)) (t .held .heard) (t .held .slots) sites 0 (omega (arith, L .slots)) (F .slots) in
       let up : Rising 0 held-after = insert-rising (main-of ws) 0 (held-by t) (main .low) new (R .rising) in
-      let whole : All (Proper n) held-after = insert-all (Proper n) (main-of ws) (held-by t) main-proper (R .proper) in
+      let whole : All (Proper present-form n) held-after = insert-all (Proper present-form n) (main-of ws) (held-by t) main-proper (R .proper) in
       (λ i. eqb (lowest (scan p (set-after i) (slots-after i)) 1) (own-set i))
       ∙ ap (λ (x : ℕ). eqb x (0 + 2 ^ (main-of ws .station - 1))) (lowest-set n p held-after 1 top up whole)
       ∙ first-inserted p (main-of ws) (main .low) 0 (held-by t) (R .rising) new
@@ -126,7 +128,7 @@ module _ (n number : ℕ) (t : Station) (ws : List ℕ) (top : n ≤ most-statio
   group-after false old c e = e
 
   pub kept-is : with-bundle t ws ≡ W.as-station n number (keeping n (state-of t) (main-of ws) (certificate-of ws))
-  unfolding with-bundle held-with groups-with W.as-station state-of fields-of
+  unfolding with-bundle held-with groups-with Rattle.station.specs.Words.as-station Rattle.station.specs.Words.state-of fields-of
   kept-is =
       let one : pick (taken-from (supplies-for-value (t .stage)) (held-with (t .held) (main-of ws .station) ws) (main-of ws .station)) (group-from (quorum (t .identity .n)) ws) (t .groups .value)
       ≡ group-words (pick (takes (supplies-for-value (t .stage)) (held-by t) (main-of ws)) (take (quorum n) (certificate-of ws)) (state-of t .for-value))
@@ -147,7 +149,7 @@ module _ (n number : ℕ) (t : Station) (ws : List ℕ) (top : n ≤ most-statio
 
 -- under the tests of giving
 pub keeps-state : (mac : List ℕ → List ℕ → List ℕ) (m : Module) (t : Station) (ws : List ℕ) (coin : ℕ) (out : List ℕ) → Lengths t → LowWords t → Below ws
-    → Accepted mac m t ws coin out → with-bundle t ws ≡ W.as-station (m .n) (m .station) (keeping (m .n) (state-of t) (main-of ws) (certificate-of ws))
-unfolding state-of
+    → Accepted present-form mac m t ws coin out → with-bundle t ws ≡ W.as-station (m .n) (m .station) (keeping (m .n) (state-of t) (main-of ws) (certificate-of ws))
+unfolding Rattle.station.specs.Words.state-of
 keeps-state mac m t ws coin out L A low a =
-    kept-is (m .n) (m .station) t ws (a .range .at-most-31) L A low (fit-out (m .n) (m .station) t (a .fit) (a .still-open)) (a .bundle) (a .new)
+    kept-is (m .n) (m .station) t ws (a .range .at-most) L A low (fit-out (m .n) (m .station) t (a .fit) (a .still-open)) (a .bundle) (a .new)

@@ -12,21 +12,22 @@ use Rattle.laws.specs.Pick.{pick}
 use Rattle.laws.specs.Bools.{both}
 use Rattle.laws.specs.All.{All, all-two}
 use Rattle.laws.specs.Sets.{bit}
-use Rattle.format.specs.Numbers.{none, most-stations, statement-words}
+use Rattle.format.specs.Form.{present-form}
+use Rattle.format.specs.Numbers.{none}
 use Rattle.format.specs.Group.{quorum}
-use Rattle.format.specs.Statement.{Statement, statement, statements, written}
-use Rattle.format.specs.Bundle.{all-formed}
+use Rattle.format.specs.Statement.{Statement}
+use Rattle.format.specs.Present.{most-stations, statement-words, statement, statements, written, all-formed}
 use Rattle.rules.specs.declared.Group.{Group}
 use Rattle.certificate.specs.Check.{every}
 use Rattle.rules.specs.Rules.{Rising, holds}
 use Rattle.station.specs.declared.Station.{Station}
 use Rattle.station.specs.Machine.{stage-step, kept-for-value, kept-for-none}
-use Rattle.station.specs.Words.{set-of, slot-of, slots-of, group-words, sites, held-by, state-of, Lengths, kept-words}
-use Rattle.station.specs.Words as W
-use Rattle.station.specs.Fit.{slots-fit, stage-fits, group-fits, held-fits, rest-fits, fits}
+use Rattle.station.specs.Words.{set-of}
+use Rattle.station.specs.Present as W
 use Rattle.station.specs.Laws.Slots.{bit-set, slot-held}
 use Rattle.station.specs.Laws.Sane.{At, find, no-slot}
 use Rattle.station.specs.Laws.FitSane.{read-slots, bit-held, for-value-size, for-none-size}
+use Rattle.station.specs.Present.{slot-of, slots-of, group-words, sites, held-by, state-of, kept-words, slots-fit, stage-fits, group-fits, held-fits, rest-fits, fits, Lengths}
 use Rattle.laws.specs.Below.{Below}
 use Rattle.keeping.specs.Laws.Back.{group-back, set-back, slot-words, all-slots}
 
@@ -46,7 +47,7 @@ pub record Fit (n number : ℕ) (t : Station) : Type 0 where
   pub for-none : group-fits n (t .identity .question) (kept-for-none n (t .stage) (held-by t)) (t .groups .none) ≡ true
 
 pub fit-out : (n number : ℕ) (t : Station) → fits n number t ≡ true → t .closed ≡ false → Fit n number t
-unfolding fits
+unfolding Rattle.station.specs.Fit.fits
 fit-out n number t h shut =
     let a = both (eqb (t .identity .n) n && eqb (t .identity .station) number) _ h in
     let i = both (eqb (t .identity .n) n) _ (a .0) in
@@ -69,7 +70,7 @@ fit-out n number t h shut =
 module _ (n number : ℕ) (t : Station) (L : Lengths t) (A : LowWords t) (F : Fit n number t) where
   pub rising : Rising 0 (held-by t)
   rising =
-      read-slots n (t .identity .question) (stage-step (t .stage)) (t .held .heard) (t .held .slots) sites 0 (omega (arith, L .slots)) (F .slots) .rising
+      read-slots present-form n (t .identity .question) (stage-step (t .stage)) (t .held .heard) (t .held .slots) sites 0 (omega (arith, L .slots)) (F .slots) .rising
 
   -- the set is the sum of the bits of the stations held
   pub set-same : set-of (held-by t) ≡ t .held .heard
@@ -88,8 +89,8 @@ module _ (n number : ℕ) (t : Station) (L : Lengths t) (A : LowWords t) (F : Fi
       all-P : All P (held-by t)
       all-P =
           all-two (λ s. slot-of (held-by t) (s .station) ≡ written s) (λ s. s ≡ statement (t .held .slots) ((s .station - 1) * 10)) (held-by t)
-          (slot-held 0 (held-by t) rising)
-          (read-slots n (t .identity .question) (stage-step (t .stage)) (t .held .heard) (t .held .slots) sites 0 (omega (arith, L .slots)) (F .slots) .placed)
+          (slot-held present-form 0 (held-by t) rising)
+          (read-slots present-form n (t .identity .question) (stage-step (t .stage)) (t .held .heard) (t .held .slots) sites 0 (omega (arith, L .slots)) (F .slots) .placed)
 
       of : At P (suc i) → slot-of (held-by t) (suc i) ≡ written (statement (t .held .slots) (i * statement-words))
       of f =
@@ -99,8 +100,8 @@ module _ (n number : ℕ) (t : Station) (L : Lengths t) (A : LowWords t) (F : Fi
       go : (b : Bool) → bit (t .held .heard) i ≡ b → slot-of (held-by t) (suc i) ≡ pick b (written (statement (t .held .slots) (i * statement-words))) (replicate statement-words 0)
       go true e =
           of (find P (suc i) (held-by t) all-P
-          (bit-held n (t .identity .question) (stage-step (t .stage)) (t .held .heard) (t .held .slots) sites 0 i (omega (arith, L .slots)) (F .slots) (omega arith) (omega arith) e))
-      go false e = no-slot (suc i) (held-by t) (sym (bit-set (held-by t) rising i) ∙ ap (λ (z : ℕ). bit z i) set-same ∙ e)
+          (bit-held present-form n (t .identity .question) (stage-step (t .stage)) (t .held .heard) (t .held .slots) sites 0 i (omega (arith, L .slots)) (F .slots) (omega arith) (omega arith) e))
+      go false e = no-slot present-form (suc i) (held-by t) (sym (bit-set (held-by t) rising i) ∙ ap (λ (z : ℕ). bit z i) set-same ∙ e)
 
   pub slots-same : slots-of (held-by t) 1 sites ≡ t .held .slots
   slots-same = all-slots (held-by t) (t .held .slots) (L .slots) slot-same
@@ -114,19 +115,19 @@ module _ (n number : ℕ) (t : Station) (L : Lengths t) (A : LowWords t) (F : Fi
       group-back n ws (g .size) low long few (both (holds g c) _ (b .0) .1) (a .1)
 
   pub for-value-same : n ≤ most-stations → t .groups .value ≡ group-words (state-of t .for-value)
-  unfolding state-of
+  unfolding Rattle.station.specs.Words.state-of
   for-value-same top =
-      group-same (kept-for-value n (t .stage) (held-by t)) (t .groups .value) (A .for-value) (L .for-value) (for-value-size n (t .stage) (held-by t) top) (F .for-value)
+      group-same (kept-for-value n (t .stage) (held-by t)) (t .groups .value) (A .for-value) (L .for-value) (for-value-size present-form n (t .stage) (held-by t) top) (F .for-value)
       ∙ ap (λ (k : ℕ). group-words (statements (t .groups .value) 0 (kept-for-value k (t .stage) (held-by t) .size))) (sym (F .same-n))
 
   pub for-none-same : n ≤ most-stations → t .groups .none ≡ group-words (state-of t .for-none)
-  unfolding state-of
+  unfolding Rattle.station.specs.Words.state-of
   for-none-same top =
-      group-same (kept-for-none n (t .stage) (held-by t)) (t .groups .none) (A .for-none) (L .for-none) (for-none-size n (t .stage) (held-by t) top) (F .for-none)
+      group-same (kept-for-none n (t .stage) (held-by t)) (t .groups .none) (A .for-none) (L .for-none) (for-none-size present-form n (t .stage) (held-by t) top) (F .for-none)
       ∙ ap (λ (k : ℕ). group-words (statements (t .groups .none) 0 (kept-for-none k (t .stage) (held-by t) .size))) (sym (F .same-n))
 
 pub one-form : (n number : ℕ) (t : Station) → n ≤ most-stations → Lengths t → LowWords t → fits n number t ≡ true → t .closed ≡ false → t ≡ W.as-station n number (state-of t)
-unfolding state-of W.as-station
+unfolding Rattle.station.specs.Words.state-of Rattle.station.specs.Words.as-station
 one-form n number t top L A h shut =
     let F = fit-out n number t h shut in
     let a : t .held .heard ≡ set-of (held-by t) = sym (set-same n number t L A F) in

@@ -12,16 +12,17 @@ use lib.Seq.{paste, drop-append-le, take-append-le, drop-at, take-at, drop-drop,
 use borrow.Author.Tests.{eqb-true, eqb-false, eq-eqb, ne-eqb, lt-ltb, le-ltb, ltb-true, ltb-false}
 use Rattle.laws.specs.Pick.{pick}
 use Rattle.laws.specs.Bools.{never, both, join}
+use Rattle.format.specs.Form.{present-form}
 use Rattle.format.specs.Group.{quorum}
-use Rattle.format.specs.Numbers.{place-of, statement-words}
-use Rattle.format.specs.Words.{fields-of, formed}
-use Rattle.format.specs.Statement.{Statement, statements, written}
-use Rattle.format.specs.Bundle.{all-formed, all-written}
+use Rattle.format.specs.Words.{fields-of}
+use Rattle.format.specs.Statement.{Statement}
 use Rattle.format.specs.Laws.Parts.{parts-take, parts-length}
+use Rattle.format.specs.Present.{place-of, statement-words, formed, statements, written, all-formed, all-written}
 use Rattle.laws.specs.Least.{least, least-fits}
 use Rattle.rules.specs.Rules.{Rising, some}
 use Rattle.station.specs.Machine.{insert, held-of, those, takes}
-use Rattle.station.specs.Words.{set-of, slot-of, group-words, sites, slots-words}
+use Rattle.station.specs.Words.{set-of}
+use Rattle.station.specs.Present.{slot-of, group-words, sites, slots-words}
 use Rattle.laws.specs.Below.{Below}
 use Rattle.keeping.specs.Laws.Back.{all-back}
 use Rattle.keeping.specs.Kept.{words-kept, group-from}
@@ -39,7 +40,7 @@ set-insert m (s ∷ h) = go (ltb (m .station) (s .station)) (set-insert m h)
 
 -- ---- the slots
 pub slot-insert : (m : Statement) (i : ℕ) (h : List Statement) → held-of (m .station) h ≡ false → slot-of (insert m h) i ≡ pick (eqb (m .station) i) (written m) (slot-of h i)
-unfolding slot-of insert some pick
+unfolding Rattle.station.specs.Words.slot-of insert some pick
 slot-insert m i [] e = refl
 slot-insert m i (s ∷ h) e = go (ltb (m .station) (s .station)) (eqb (s .station) (m .station)) refl e (slot-insert m i h)
   where
@@ -109,7 +110,7 @@ put-slot d w i j long ten p q = go (eqb i j) refl
 
 -- ---- the groups
 formed-few : (n : ℕ) (ws : List ℕ) (k c at : ℕ) → k ≤ c → all-formed n ws at c ≡ true → all-formed n ws at k ≡ true
-unfolding all-formed
+unfolding Rattle.format.specs.Bundle.all-formed
 formed-few n ws zero c at l h = refl
 formed-few n ws (suc k) zero at l h = absurd (omega arith)
 formed-few n ws (suc k) (suc c) at l h =
@@ -145,7 +146,7 @@ group-kept n q c ws low few long f =
     = rw (least-room (q * 10) 160 (omega arith), l) (least-ten q c) in
     let w : all-written (statements ws 11 (least q c)) ≡ take (least q c * 10) (drop 11 ws)
     = all-back n ws low (least q c) 11 (omega arith) (formed-few n ws (least q c) c 11 in-c f) in
-    rw (e, parts-take ws 11 q c, parts-length ws 11 (least q c), w)
+    rw (e, parts-take present-form ws 11 q c, parts-length present-form ws 11 (least q c), w)
 
 -- ---- whose certificate is kept: that of the lowest-numbered station of those that supply it
 module _ (p : Statement → Bool) (m : Statement) (low : 1 ≤ m .station) where

@@ -6,7 +6,7 @@ use borrow.Author.Tests.{eq-eqb, ne-eqb}
 use lib.Dec.{eqb}
 use lib.ListN.{getD}
 use Rattle.laws.specs.Pick.{pick, here, skip, not-t, not-f}
-use Rattle.format.specs.Statement.{statements}
+use Rattle.format.specs.Present.{statements}
 use Rattle.kept_fitness.specs.Laws.Turns.{every-end}
 use Rattle.kept_fitness.specs.Laws.Groups.{rest, asked, asked-start, asked-next}
 use borrow.Author.Needs.{needs}

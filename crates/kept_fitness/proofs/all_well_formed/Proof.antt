@@ -3,8 +3,7 @@ use Prim.Native.Nat.{_+_, _-_, _*_, _≤_}
 use mathlib.Core.Bool.{false, not}
 use mathlib.Core.Path.{_≡_, refl, sym, _∙_}
 use Rattle.laws.specs.Pick.{pick, here, skip, via-not}
-use Rattle.format.specs.Words.{formed}
-use Rattle.format.specs.Bundle.{all-formed}
+use Rattle.format.specs.Present.{formed, all-formed}
 use Rattle.kept_fitness.specs.Laws.Turns.{formed-end}
 use Rattle.kept_fitness.specs.Laws.Groups.{formed-first, formed-next}
 use borrow.Author.Needs.{needs}

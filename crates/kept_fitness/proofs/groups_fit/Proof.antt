@@ -1,8 +1,9 @@
 -- A group that is to be kept has at most 16 statements, since n is at most 31; each is held against its words.
-use Rattle.station.specs.Words.{held-in, sites}
 use Rattle.station.specs.Laws.FitSane.{for-value-size, for-none-size}
+use Rattle.station.specs.Present.{held-in, sites}
 use Rattle.kept_fitness.specs.Parts.{groups-fit, few, refused, answered}
 use borrow.Author.Needs.{needs}
+use Rattle.format.specs.Form.{present-form}
 use Rattle.kept_fitness.proofs.groups_fit.Statement.{statement}
 use Rattle.kept_fitness.proofs.groups_fit.Tie as tie
 
@@ -25,14 +26,14 @@ group-fits-requires c κs =
     let v = c .before .before in
     let i = v .before .before .before in
     let a = i .before .before .args in
-    rw (v .kept-for-value .ensures) (for-value-size (a .n) (a .stage) (held-in (a .heard) (a .slots .now) 0 sites) (few (a .n) (i .before .size-fits .result) (i .before .size-fits .ensures) (i .if1 .left)))
+    rw (v .kept-for-value .ensures) (for-value-size present-form (a .n) (a .stage) (held-in (a .heard) (a .slots .now) 0 sites) (few (a .n) (i .before .size-fits .result) (i .before .size-fits .ensures) (i .if1 .left)))
 
 group-fits-requires-2 : tie.Need-group-fits-requires-2
 group-fits-requires-2 c κs =
     let v = c .before .before .before in
     let i = v .before .before .before .before in
     let a = i .before .before .args in
-    rw (v .kept-for-none .ensures) (for-none-size (a .n) (a .stage) (held-in (a .heard) (a .slots .now) 0 sites) (few (a .n) (i .before .size-fits .result) (i .before .size-fits .ensures) (i .if1 .left)))
+    rw (v .kept-for-none .ensures) (for-none-size present-form (a .n) (a .stage) (held-in (a .heard) (a .slots .now) 0 sites) (few (a .n) (i .before .size-fits .result) (i .before .size-fits .ensures) (i .if1 .left)))
 
 returns-2 : tie.Need-returns-2
 unfolding groups-fit

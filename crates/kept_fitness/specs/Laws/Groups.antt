@@ -7,11 +7,10 @@ use native.Mathlib.Nat.{zero-add}
 use lib.Dec.{eqb, ltb}
 use lib.ListN.{getD}
 use Rattle.laws.specs.Pick.{pick}
-use Rattle.format.specs.Numbers.{statement-words}
 use Rattle.format.specs.declared.Fields.{Fields}
-use Rattle.format.specs.Words.{fields-of, formed}
-use Rattle.format.specs.Statement.{Statement, statements}
-use Rattle.format.specs.Bundle.{all-formed}
+use Rattle.format.specs.Words.{fields-of}
+use Rattle.format.specs.Statement.{Statement}
+use Rattle.format.specs.Present.{statement-words, formed, statements, all-formed}
 use Rattle.rules.specs.declared.Group.{Group}
 use Rattle.rules.specs.Rules.{wanted, in-order, holds}
 use Rattle.certificate.specs.Check.{every}

@@ -9,15 +9,15 @@ use lib.Dec.{ltb}
 use lib.ListN.{getD}
 use borrow.Author.Tests.{eq-eqb}
 use Rattle.laws.specs.Pick.{pick, and-pick}
-use Rattle.format.specs.Numbers.{statement-words}
+use Rattle.format.specs.Form.{present-form}
 use Rattle.format.specs.declared.Fields.{Fields}
-use Rattle.format.specs.Words.{fields-of, formed}
-use Rattle.format.specs.Statement.{Statement, statement, statements}
-use Rattle.format.specs.Bundle.{all-formed}
+use Rattle.format.specs.Words.{fields-of}
+use Rattle.format.specs.Statement.{Statement}
 use Rattle.rules.specs.declared.Group.{Group}
 use Rattle.rules.specs.Rules.{wanted, in-order, holds}
 use Rattle.certificate.specs.Check.{every}
 use Rattle.format.specs.Laws.Parts.{parts-length}
+use Rattle.format.specs.Present.{statement-words, formed, statement, statements, all-formed}
 
 pub parts-start : (ws : List ℕ) (at have : ℕ) → statements ws at have ≡ statements ws (at + 0 * statement-words) (have - 0)
 parts-start ws at have =
@@ -26,14 +26,14 @@ parts-start ws at have =
 
 pub parts-turn : (ws : List ℕ) (at have i : ℕ) → i < have
     → statements ws (at + i * statement-words) (have - i) ≡ statement ws (at + i * statement-words) ∷ statements ws (at + (i + 1) * statement-words) (have - (i + 1))
-unfolding statements
+unfolding Rattle.format.specs.Statement.statements
 parts-turn ws at have i h =
     let e : have - i ≡ suc (have - (i + 1)) = omega arith in
     let f : at + (i + 1) * 10 ≡ at + i * 10 + 10 = omega arith in
     rw (e, f)
 
 pub parts-end : (ws : List ℕ) (at have i : ℕ) → have ≤ i → statements ws at (have - i) ≡ []
-unfolding statements
+unfolding Rattle.format.specs.Statement.statements
 parts-end ws at have i h =
     let e : have - i ≡ 0 = omega arith in
     rw e
@@ -55,7 +55,7 @@ order-end g last ws at have i h = rw (parts-end ws at have i h)
 pub holds-start : (g : Group) (ws : List ℕ) (at have : ℕ) → have ≡ g .size
     → holds g (statements ws at have) ≡ in-order g 0 (statements ws (at + 0 * statement-words) (have - 0))
 unfolding holds
-holds-start g ws at have e = rw (parts-length, eq-eqb have (g .size) e) (ap (in-order g 0) (parts-start ws at have))
+holds-start g ws at have e = rw (parts-length present-form, eq-eqb have (g .size) e) (ap (in-order g 0) (parts-start ws at have))
 
 pub every-turn : (p : Statement → Bool) (ws : List ℕ) (at have i : ℕ) → i < have
     → every p (statements ws (at + i * statement-words) (have - i))
@@ -76,14 +76,14 @@ formed-start n ws at k =
 pub formed-turn : (n : ℕ) (ws : List ℕ) (at k i : ℕ) → i < k
     → all-formed n ws (at + i * statement-words) (k - i)
     ≡ pick (not (formed n (fields-of (getD ws (at + i * statement-words) 0)))) false (all-formed n ws (at + (i + 1) * statement-words) (k - (i + 1)))
-unfolding all-formed
+unfolding Rattle.format.specs.Bundle.all-formed
 formed-turn n ws at k i h =
     let e : k - i ≡ suc (k - (i + 1)) = omega arith in
     let f : at + (i + 1) * 10 ≡ at + i * 10 + 10 = omega arith in
     rw (e, f) (and-pick (formed n (fields-of (getD ws (at + i * 10) 0))) (all-formed n ws (at + i * 10 + 10) (k - (i + 1))))
 
 pub formed-end : (n : ℕ) (ws : List ℕ) (at k i : ℕ) → k ≤ i → true ≡ all-formed n ws at (k - i)
-unfolding all-formed
+unfolding Rattle.format.specs.Bundle.all-formed
 formed-end n ws at k i h =
     let e : k - i ≡ 0 = omega arith in
     rw e

@@ -9,41 +9,43 @@ use lib.Dec.{eqb}
 use borrow.Author.Tests.{eqb-true, eqb-false, not-true}
 use Rattle.laws.specs.Bools.{join}
 use Rattle.laws.specs.Count.{count, count-not, meet, Shared}
-use Rattle.format.specs.Numbers.{code-words, least-stations, most-stations}
+use Rattle.format.specs.Form.{present-form}
+use Rattle.format.specs.Numbers.{code-words, least-stations}
 use Rattle.format.specs.Group.{quorum}
 use Rattle.format.specs.Statement.{Statement}
-use Rattle.format.specs.Bundle.{main-of}
+use Rattle.format.specs.Present.{most-stations, main-of}
 use Rattle.certificate.specs.Check.{every}
 use Rattle.modules.specs.declared.Module.{Module}
 use Rattle.modules.specs.Counter.{last-for}
 use Rattle.station.specs.declared.Stage.{Stage}
 use Rattle.station.specs.declared.Station.{Station}
 use Rattle.station.specs.Machine.{State, insert, stage-step, held-of}
-use Rattle.station.specs.Words.{state-of}
 use Rattle.station.specs.Returns.{unrefused}
 use Rattle.station.specs.Laws.Insert.{insert-length, every-insert}
+use Rattle.station.specs.Present.{state-of}
 use Rattle.agreement.specs.Maths.Took.{count-held, number-few}
 use Rattle.agreement.specs.Laws.Lists.{module-other}
-use Rattle.agreement.specs.Demand.{Call, call, gives, modules, answer, Presents, Sound}
+use Rattle.agreement.specs.Demand.{Call, call, gives}
+use Rattle.agreement.specs.Present.{modules, answer, Presents, Sound}
 use Rattle.never_stuck.specs.Claim.{Quorate, room, Waits, Onward, Last, ByLast, done, give}
 use Rattle.never_stuck.specs.Laws.Spoken.{Premises, Spoke, spoke-later, Said, presents-other, sound-next}
 use Rattle.never_stuck.specs.Laws.Heard.{heard}
 use Rattle.never_stuck.specs.Laws.Moves.{with-bundle, Ended, Moved, stays, ends, moved, premises-then, sound-then, presents-then}
 
 pub state-stage : (t : Station) → state-of t .stage ≡ t .stage
-unfolding state-of
+unfolding Rattle.station.specs.Words.state-of
 state-stage t = refl
 
 pub state-decision : (t : Station) → state-of t .decision ≡ t .decision
-unfolding state-of
+unfolding Rattle.station.specs.Words.state-of
 state-decision t = refl
 
 pub state-jump : (t : Station) → state-of t .jump ≡ t .jump
-unfolding state-of
+unfolding Rattle.station.specs.Words.state-of
 state-jump t = refl
 
 pub state-question : (t : Station) → state-of t .question ≡ t .identity .question
-unfolding state-of
+unfolding Rattle.station.specs.Words.state-of
 state-question t = refl
 
 -- a site that a test takes and a list of statements does not hold
@@ -159,7 +161,7 @@ module _ (mac : List ℕ → List ℕ → List ℕ) (eight : (key ws : List ℕ)
                   list = call x (gives k t (w .words) coin room) ∷ cs;
                   premises = premises-then mac eight key n low top q cs P x k t W y (stage-step (t .stage)) (w .words) (w .spoke) coin bit un;
                   onward = give done x k t y (w .words) coin tx ty (W .presents) (W .asked) (w .spoke .by-call) (omega (arith, w .spoke .in-step)) bit un;
-                  module-on = module-other mac key n (call x (gives k t (w .words) coin room)) cs;
+                  module-on = module-other present-form mac key n (call x (gives k t (w .words) coin room)) cs;
                   presents-on = presents-other mac key n cs x k t (w .words) coin room (W .presents);
                   spoken = λ y σ ws h. spoke-later mac key n (call x (gives k t (w .words) coin room)) cs y q σ ws h;
                 }

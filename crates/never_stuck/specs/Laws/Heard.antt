@@ -12,35 +12,38 @@ use Rattle.laws.specs.Pick.{pick, not-t}
 use Rattle.laws.specs.Bools.{never, both, join, left, right, is-false}
 use Rattle.laws.specs.All.{All, all-append}
 use Rattle.laws.specs.Refusals.{Test, test, first-failed, all-passed, none-failed, passed-front}
-use Rattle.format.specs.Numbers.{none, kept, sent, sent-decided, closed-now, jumped, output-words, conflicting, not-above, last-round, code-words, least-stations, most-stations}
-use Rattle.format.specs.Group.{quorum, size-fits}
+use Rattle.format.specs.Form.{present-form}
+use Rattle.format.specs.Numbers.{none, kept, sent, sent-decided, closed-now, jumped, conflicting, not-above, code-words, least-stations}
+use Rattle.format.specs.Group.{quorum}
 use Rattle.format.specs.Words.{of-group}
-use Rattle.format.specs.Statement.{Statement, statements, step, statement-code}
-use Rattle.format.specs.Bundle.{count-in, main-of, certificate-of, bundle-fits}
+use Rattle.format.specs.Statement.{Statement, step}
+use Rattle.format.specs.Bundle.{count-in}
+use Rattle.format.specs.Present.{output-words, last-round, most-stations, size-fits, statements, statement-code, main-of, certificate-of, bundle-fits}
 use Rattle.rules.specs.declared.Which.the-variants.{Any, Only}
 use Rattle.rules.specs.Rules.{rule}
-use Rattle.certificate.specs.Check.{one-question, all-verify, bundle-tests, check-by, check-tests}
+use Rattle.certificate.specs.Check.{one-question}
+use Rattle.certificate.specs.Present.{all-verify, bundle-tests, check-tests}
 use Rattle.modules.specs.declared.Last.{Last}
 use Rattle.modules.specs.declared.Module.{Module}
-use Rattle.modules.specs.Counter.{above, pair, last-for, module-fits}
+use Rattle.modules.specs.Counter.{above, pair, last-for}
 use Rattle.modules.specs.Above.{above-in, later-step}
+use Rattle.modules.specs.Present.{module-fits}
 use Rattle.station.specs.declared.Station.{Station}
 use Rattle.station.specs.Machine.{Next, refused, keeps, sends, began, shut, stage-of, jumps, moved, ended, taken, follows, closes, decision-at, held-of, conflict, stage-step, place-tests, step-tests}
-use Rattle.station.specs.Words.{state-of, Lengths}
-use Rattle.station.specs.Fit.{fits}
-use Rattle.station.specs.Calls.{returned, opening, giving, station-tests, give-tests}
 use Rattle.station.specs.Returns.{unrefused}
-use Rattle.station.specs.Demand.{Reached, by-opening, by-giving}
+use Rattle.station.specs.Demand.{by-opening, by-giving}
 use Rattle.station.specs.Written.{reached-good}
 use Rattle.station.specs.Laws.Fits.{opening-fits, giving-fits}
 use Rattle.station.specs.Laws.Sane.{Sane}
 use Rattle.station.specs.Laws.FitSane.{fits-sane}
 use Rattle.station.specs.Laws.Views.{after, sent-statement, jump-statement, ten-tests}
+use Rattle.station.specs.Present.{state-of, fits, returned, opening, giving, station-tests, give-tests, Lengths, Reached}
 use Rattle.agreement.specs.Maths.Taking.{steps-up}
 use Rattle.agreement.specs.Laws.Invariant.{Mine}
 use Rattle.agreement.specs.Laws.Lists.{same-line}
 use Rattle.agreement.specs.Theorem.{claim, at, in-group, rest, rest-i, rest-sound}
-use Rattle.agreement.specs.Demand.{Call, call, gives, Lineage, act, modules, answer, lineage, Presents, Sound}
+use Rattle.agreement.specs.Demand.{Call, call, gives, Lineage}
+use Rattle.agreement.specs.Present.{modules, answer, lineage, Presents, Sound}
 use Rattle.never_stuck.specs.Claim.{room, Waits}
 use Rattle.never_stuck.specs.Laws.Spoken.{Premises, Spoke}
 use Rattle.never_stuck.specs.Laws.Steps.{next-step}
@@ -49,33 +52,33 @@ use Rattle.never_stuck.specs.Laws.Walked.{walk}
 
 module _ (mac : List ℕ → List ℕ → List ℕ) (m : Module) (t : Station) (ws : List ℕ) (coin : ℕ) (out : List ℕ) (L : Lengths t) where
   -- where ten tests have passed and the next is refused, that is by 10
-  clash-ten : jumps (state-of t) (main-of ws) ≡ false → All (λ x. x .ok ≡ true) (ten-tests mac m t ws coin out L) → conflict (state-of t .stage) (main-of ws ∷ state-of t .held) ≡ true
+  clash-ten : jumps (state-of t) (main-of ws) ≡ false → All (λ x. x .ok ≡ true) (ten-tests present-form mac m t ws coin out L) → conflict (state-of t .stage) (main-of ws ∷ state-of t .held) ≡ true
       → giving mac m t ws coin out .number ≡ conflicting
-  unfolding giving returned pick first-failed
+  unfolding Rattle.station.specs.Calls.giving Rattle.station.specs.Calls.returned pick first-failed
   clash-ten here p c =
       let f : first-failed (give-tests mac m t ws coin out) ≡ conflicting
-      = passed-front (ten-tests mac m t ws coin out L) (test (jumps (state-of t) (main-of ws) || not (conflict (state-of t .stage) (main-of ws ∷ state-of t .held))) conflicting ∷ []) p ∙ rw (here, c) in
+      = passed-front (ten-tests present-form mac m t ws coin out L) (test (jumps (state-of t) (main-of ws) || not (conflict (state-of t .stage) (main-of ws ∷ state-of t .held))) conflicting ∷ []) p ∙ rw (here, c) in
       rw (ne-eqb (first-failed (give-tests mac m t ws coin out)) 0 (λ z. omega arith)) f
 
   -- where all tests have passed and the module stands at the station's step, nothing is refused
   taken-heard : jumps (state-of t) (main-of ws) ≡ false → first-failed (give-tests mac m t ws coin out) ≡ 0 → last-for m (t .identity .question) ≡ pair (t .identity .question) (stage-step (t .stage))
       → unrefused (giving mac m t ws coin out .number) ≡ true
-  unfolding giving returned pick taken ended state-of step
-  taken-heard here pass stands = rw (eq-eqb (first-failed (give-tests mac m t ws coin out)) 0 pass, here) (by (ltb (length (after mac m t ws coin out .held)) (quorum (m .n))))
+  unfolding Rattle.station.specs.Calls.giving Rattle.station.specs.Calls.returned pick taken ended Rattle.station.specs.Words.state-of step
+  taken-heard here pass stands = rw (eq-eqb (first-failed (give-tests mac m t ws coin out)) 0 pass, here) (by (ltb (length (after present-form mac m t ws coin out .held)) (quorum (m .n))))
     where
       x : Next
-      x = follows (m .n) (t .stage) (after mac m t ws coin out) coin
+      x = follows (m .n) (t .stage) (after present-form mac m t ws coin out) coin
 
       s : Statement
-      s = sent-statement mac m t ws coin out
+      s = sent-statement present-form mac m t ws coin out
 
       d : ℕ
-      d = decision-at (t .stage) (t .decision) (after mac m t ws coin out .held)
+      d = decision-at (t .stage) (t .decision) (after present-form mac m t ws coin out .held)
 
       up : above (last-for m (t .identity .question)) (t .identity .question) (step s) ≡ true
       up =
           let higher : stage-step (t .stage) < step s
-          = subst (λ (z : ℕ). stage-step (t .stage) < z) (sym (next-step (m .n) (t .stage) (after mac m t ws coin out) coin)) (steps-up (m .n) (t .stage) (after mac m t ws coin out) coin) in
+          = subst (λ (z : ℕ). stage-step (t .stage) < z) (sym (next-step (m .n) (t .stage) (after present-form mac m t ws coin out) coin)) (steps-up (m .n) (t .stage) (after present-form mac m t ws coin out) coin) in
           subst (λ (l : Last). above l (t .identity .question) (step s) ≡ true) (sym stands) (above-in (pair (t .identity .question) (stage-step (t .stage))) (t .identity .question) (step s) (later-step refl higher))
 
       sent-by : (a b : Bool) → a ≡ true
@@ -84,13 +87,13 @@ module _ (mac : List ℕ → List ℕ → List ℕ) (m : Module) (t : Station) (
       sent-by true false e = refl
       sent-by false b e = never false refl e
 
-      ended-by : (c : Bool) → unrefused (returned m t out (pick c (keeps closed-now (shut (after mac m t ws coin out) d))
-          (moved (statement-code (mac (m .key))) last-round (m .n) (m .station) (last-for m (t .identity .question)) (after mac m t ws coin out) x d)) .number) ≡ true
+      ended-by : (c : Bool) → unrefused (returned m t out (pick c (keeps closed-now (shut (after present-form mac m t ws coin out) d))
+          (moved (statement-code (mac (m .key))) last-round (m .n) (m .station) (last-for m (t .identity .question)) (after present-form mac m t ws coin out) x d)) .number) ≡ true
       ended-by true = refl
       ended-by false = sent-by (above (last-for m (t .identity .question)) (t .identity .question) (step s)) (ltb (t .decision) none || eqb d none) up
 
-      by : (b : Bool) → unrefused (returned m t out (pick b (keeps kept (after mac m t ws coin out))
-          (ended (statement-code (mac (m .key))) last-round (m .n) (m .station) (last-for m (t .identity .question)) (after mac m t ws coin out) coin)) .number) ≡ true
+      by : (b : Bool) → unrefused (returned m t out (pick b (keeps kept (after present-form mac m t ws coin out))
+          (ended (statement-code (mac (m .key))) last-round (m .n) (m .station) (last-for m (t .identity .question)) (after present-form mac m t ws coin out) coin)) .number) ≡ true
       by true = refl
       by false = ended-by (closes last-round (t .stage))
 
@@ -99,36 +102,36 @@ module _ (mac : List ℕ → List ℕ → List ℕ) (eight : (key ws : List ℕ)
   reached-fits : (i : ℕ) (t : Station) → Reached mac key n i t → fits n i t ≡ true
   reached-fits i _ (by-opening m question v jump out G u) =
       subst (λ (z : ℕ). fits n z (opening mac m question v jump out .station) ≡ true) (G .same-number)
-      (subst (λ (z : ℕ). fits z (m .station) (opening mac m question v jump out .station) ≡ true) (G .same-n) (opening-fits mac eight m question v jump out u))
+      (subst (λ (z : ℕ). fits z (m .station) (opening mac m question v jump out .station) ≡ true) (G .same-n) (opening-fits present-form mac eight m question v jump out u))
   reached-fits i _ (by-giving {t} r m ws coin out G u) =
       subst (λ (z : ℕ). fits n z (giving mac m t ws coin out .station) ≡ true) (G .same-number)
-      (subst (λ (z : ℕ). fits z (m .station) (giving mac m t ws coin out .station) ≡ true) (G .same-n) (giving-fits mac eight m t ws coin out (reached-good mac key n eight i t r .lengths) u))
+      (subst (λ (z : ℕ). fits z (m .station) (giving mac m t ws coin out .station) ≡ true) (G .same-n) (giving-fits present-form mac eight m t ws coin out (reached-good present-form mac key n eight i t r .lengths) u))
 
   module _ (cs : List Call) (P : Premises mac key n cs) where
     -- what is known of a sound site's station
     pub up-of : (x k : ℕ) (t : Station) → Sound mac key n x cs → Presents mac key n cs x k t → Up mac eight key n low top cs x t
     up-of x k t s p =
-        let r = in-group mac eight key n low top cs (P .given) x k (p .line) (p .is) in
+        let r = in-group present-form mac eight key n low top cs (P .given) x k (p .line) (p .is) in
         subst (λ (z : Station). Up mac eight key n low top cs x z) (p .now)
-        (walk mac eight key n low top (rest mac eight key n low top cs (P .given) (P .few) x x) cs (P .given) (rest-sound mac eight key n low top cs (P .given) (P .few) x x s s) x (r .0) (r .1)
-        (rest-i mac eight key n low top cs (P .given) (P .few) x x) .up k (p .line) (p .is))
+        (walk mac eight key n low top (rest present-form mac eight key n low top cs (P .given) (P .few) x x) cs (P .given) (rest-sound present-form mac eight key n low top cs (P .given) (P .few) x x s s) x (r .0) (r .1)
+        (rest-i present-form mac eight key n low top cs (P .given) (P .few) x x) .up k (p .line) (p .is))
 
     -- a waiting station is sane
-    pub sane-of : (q x k : ℕ) (t : Station) → Waits mac key n cs q x k t → Sane n x (state-of t)
+    pub sane-of : (q x k : ℕ) (t : Station) → Waits mac key n cs q x k t → Sane present-form n x (state-of t)
     sane-of q x k t w =
         let p = w .presents in
-        let r = in-group mac eight key n low top cs (P .given) x k (p .line) (p .is) in
+        let r = in-group present-form mac eight key n low top cs (P .given) x k (p .line) (p .is) in
         let u = up-of x k t (w .sound) p in
-        fits-sane n x t top (r .0) (r .1) (reached-good mac key n eight x t (u .reached) .lengths) (reached-fits x t (u .reached)) (w .still-open)
+        fits-sane present-form n x t top (r .0) (r .1) (reached-good present-form mac key n eight x t (u .reached) .lengths) (reached-fits x t (u .reached)) (w .still-open)
 
     -- a sound site has one station on a question
     pub same-waiting : (q x k o : ℕ) (t u : Station) → Waits mac key n cs q x k t → Waits mac key n cs q x o u → t ≡ u
     same-waiting q x k o t u a b =
         let p = a .presents in
         let p' = b .presents in
-        let r = in-group mac eight key n low top cs (P .given) x k (p .line) (p .is) in
-        let W = walk mac eight key n low top (rest mac eight key n low top cs (P .given) (P .few) x x) cs (P .given) (rest-sound mac eight key n low top cs (P .given) (P .few) x x (a .sound) (a .sound)) x
-        (r .0) (r .1) (rest-i mac eight key n low top cs (P .given) (P .few) x x) in
+        let r = in-group present-form mac eight key n low top cs (P .given) x k (p .line) (p .is) in
+        let W = walk mac eight key n low top (rest present-form mac eight key n low top cs (P .given) (P .few) x x) cs (P .given) (rest-sound present-form mac eight key n low top cs (P .given) (P .few) x x (a .sound) (a .sound)) x
+        (r .0) (r .1) (rest-i present-form mac eight key n low top cs (P .given) (P .few) x x) in
         let e : k ≡ o = W .unique k o (p .line) (p' .line) (p .is) (p' .is)
         (ap (λ (z : Station). z .identity .question) (p .now) ∙ a .asked ∙ sym (ap (λ (z : Station). z .identity .question) (p' .now) ∙ b .asked)) in
         sym (p .now) ∙ ap (λ (z : Lineage). z .present) (same-line (p .line) (p' .line) (sym (p .is) ∙ ap (lineage mac key n cs x) e ∙ p' .is)) ∙ p' .now
@@ -139,16 +142,16 @@ module _ (mac : List ℕ → List ℕ → List ℕ) (eight : (key ws : List ℕ)
       m = modules mac key n cs x
 
       range-x : (1 ≤ x) × (x ≤ n)
-      range-x = in-group mac eight key n low top cs (P .given) x k (W .presents .line) (W .presents .is)
+      range-x = in-group present-form mac eight key n low top cs (P .given) x k (W .presents .line) (W .presents .is)
 
-      mine : Mine key n (rest mac eight key n low top cs (P .given) (P .few) x x) x m
-      mine = at mac eight key n low top cs (P .given) (P .few) x x (W .sound) (W .sound) .logs .mods x (range-x .0) (range-x .1)
+      mine : Mine present-form key n (rest present-form mac eight key n low top cs (P .given) (P .few) x x) x m
+      mine = at present-form mac eight key n low top cs (P .given) (P .few) x x (W .sound) (W .sound) .logs .mods x (range-x .0) (range-x .1)
 
       up-t : Up mac eight key n low top cs x t
       up-t = up-of x k t (W .sound) (W .presents)
 
       len : Lengths t
-      len = reached-good mac key n eight x t (up-t .reached) .lengths
+      len = reached-good present-form mac key n eight x t (up-t .reached) .lengths
 
       -- the module stands at the station's step
       stands : last-for m (t .identity .question) ≡ pair (t .identity .question) (stage-step (t .stage))
@@ -160,14 +163,14 @@ module _ (mac : List ℕ → List ℕ → List ℕ) (eight : (key ws : List ℕ)
           (subst (λ (y : ℕ). ((size-fits n && of-group n y) && ltb coin 2 && fits n y t) ≡ true) (sym (mine .same-number))
           (join ((size-fits n && of-group n x) && ltb coin 2) _
           (join (size-fits n && of-group n x) _
-          (join (size-fits n) _ (join (leb 2 n) _ (le-leb 2 n low) (le-leb n 31 top)) (join (leb 1 x) _ (le-leb 1 x (range-x .0)) (le-leb x n (range-x .1))))
+          (join (size-fits n) _ (join (leb 2 n) _ (le-leb 2 n low) (le-leb n most-stations top)) (join (leb 1 x) _ (le-leb 1 x (range-x .0)) (le-leb x n (range-x .1))))
           (lt-ltb coin 2 bit)) (reached-fits x t (up-t .reached))))
 
       ready : All (λ z. z .ok ≡ true) (station-tests m t coin room)
       ready = (le-leb output-words (length room) (omega (arith, length-replicate {A = ℕ} output-words 0)), (ranged, (not-t (t .closed) (W .still-open), tt)))
 
       pub valid-here : All (λ z. z .ok ≡ true) (bundle-tests (mac (m .key)) (m .n) (Only (t .identity .question)) ws)
-      unfolding check-by
+      unfolding Rattle.certificate.specs.Check.check-by
       valid-here =
           let ok = all-passed (check-tests (mac key) n Any ws) (omega arith, (omega arith, (omega arith, (omega arith, (omega arith, tt))))) (sp .valid) in (
             subst (λ (z : ℕ). bundle-fits z ws ≡ true) (sym (mine .same-n)) (ok .1 .0),
@@ -184,11 +187,11 @@ module _ (mac : List ℕ → List ℕ → List ℕ) (eight : (key ws : List ℕ)
       -- of the station's own step, and of a site that is not held: it is heard
       module _ (there : σ ≡ stage-step (t .stage)) (new : held-of y (state-of t .held) ≡ false) where
         here : jumps (state-of t) (main-of ws) ≡ false
-        unfolding state-of
+        unfolding Rattle.station.specs.Words.state-of
         here = is-false _ (λ h. let z : stage-step (t .stage) < step (main-of ws) = ltb-true _ _ (both (t .jump) _ h .1) in omega (arith, sp .in-step))
 
         passes-9 : All (λ z. z .ok ≡ true) (place-tests (state-of t) (main-of ws))
-        unfolding state-of
+        unfolding Rattle.station.specs.Words.state-of
         passes-9 = (
           le-leb (stage-step (t .stage)) (step (main-of ws)) (omega (arith, sp .in-step)),
           (
@@ -197,33 +200,33 @@ module _ (mac : List ℕ → List ℕ → List ℕ) (eight : (key ws : List ℕ)
           ),
         )
 
-        ten : All (λ z. z .ok ≡ true) (ten-tests mac m t ws coin room len)
+        ten : All (λ z. z .ok ≡ true) (ten-tests present-form mac m t ws coin room len)
         ten =
             all-append (λ (z : Test). z .ok ≡ true) (station-tests m t coin room)
             (bundle-tests (mac (m .key)) (m .n) (Only (t .identity .question)) ws ++ place-tests (state-of t) (main-of ws)) ready
             (all-append (λ (z : Test). z .ok ≡ true) (bundle-tests (mac (m .key)) (m .n) (Only (t .identity .question)) ws) (place-tests (state-of t) (main-of ws)) valid-here passes-9)
 
         pub heard : unrefused (answer mac key n cs (call x (gives k t ws coin room)) .number) ≡ true
-        unfolding act state-of
+        unfolding Rattle.agreement.specs.Demand.act Rattle.station.specs.Words.state-of
         heard = go (conflict (t .stage) (main-of ws ∷ state-of t .held)) refl
           where
             go : (b : Bool) → conflict (t .stage) (main-of ws ∷ state-of t .held) ≡ b → unrefused (giving mac m t ws coin room .number) ≡ true
             go true e =
-                absurd (claim mac eight key n low top cs (P .given) (P .few) .no-conflict x k t ws coin room (W .sound) (W .presents) (sp .came) (clash-ten mac m t ws coin room len here ten e))
+                absurd (claim present-form mac eight key n low top cs (P .given) (P .few) .no-conflict x k t ws coin room (W .sound) (W .presents) (sp .came) (clash-ten mac m t ws coin room len here ten e))
             go false e =
                 taken-heard mac m t ws coin room len here
                 (none-failed (give-tests mac m t ws coin room)
-                (all-append (λ (z : Test). z .ok ≡ true) (ten-tests mac m t ws coin room len)
+                (all-append (λ (z : Test). z .ok ≡ true) (ten-tests present-form mac m t ws coin room len)
                 (test (jumps (state-of t) (main-of ws) || not (conflict (t .stage) (main-of ws ∷ state-of t .held))) conflicting ∷ []) ten (right (jumps (state-of t) (main-of ws)) _ (not-t _ e), tt))) stands
 
       -- of a later step, where the station jumps: it jumps
       module _ (on : t .jump ≡ true) (later : stage-step (t .stage) < σ) where
         jumping : jumps (state-of t) (main-of ws) ≡ true
-        unfolding state-of
+        unfolding Rattle.station.specs.Words.state-of
         jumping = join (t .jump) _ on (lt-ltb (stage-step (t .stage)) (step (main-of ws)) (omega (arith, sp .in-step)))
 
         all-tests : first-failed (give-tests mac m t ws coin room) ≡ 0
-        unfolding state-of
+        unfolding Rattle.station.specs.Words.state-of
         all-tests =
             none-failed (give-tests mac m t ws coin room)
             (all-append (λ (z : Test). z .ok ≡ true) (station-tests m t coin room)
@@ -234,11 +237,11 @@ module _ (mac : List ℕ → List ℕ → List ℕ) (eight : (key ws : List ℕ)
             )))
 
         pub jump-heard : unrefused (answer mac key n cs (call x (gives k t ws coin room)) .number) ≡ true
-        unfolding act giving returned pick state-of step
+        unfolding Rattle.agreement.specs.Demand.act Rattle.station.specs.Calls.giving Rattle.station.specs.Calls.returned pick Rattle.station.specs.Words.state-of step
         jump-heard = rw (eq-eqb (first-failed (give-tests mac m t ws coin room)) 0 all-tests, jumping) (by (above (last-for m (t .identity .question)) (t .identity .question) (step s)) up)
           where
             s : Statement
-            s = jump-statement mac m t ws coin room
+            s = jump-statement present-form mac m t ws coin room
 
             up : above (last-for m (t .identity .question)) (t .identity .question) (step s) ≡ true
             up =

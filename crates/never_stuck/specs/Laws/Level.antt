@@ -9,13 +9,15 @@ use lib.Dec.{eqb}
 use lib.ListN.{length}
 use borrow.Author.Tests.{eqb-true, eqb-false}
 use Rattle.laws.specs.Bools.{never}
-use Rattle.format.specs.Numbers.{last-round, code-words, least-stations, most-stations}
+use Rattle.format.specs.Form.{present-form}
+use Rattle.format.specs.Numbers.{code-words, least-stations}
 use Rattle.format.specs.Group.{quorum}
+use Rattle.format.specs.Present.{last-round, most-stations}
 use Rattle.station.specs.declared.Stage.{Stage}
 use Rattle.station.specs.declared.Station.{Station}
 use Rattle.station.specs.Machine.{State, follows, closes, stage-step}
-use Rattle.station.specs.Words.{state-of}
 use Rattle.station.specs.Laws.Sane.{InRounds}
+use Rattle.station.specs.Present.{state-of}
 use Rattle.agreement.specs.Demand.{Call}
 use Rattle.never_stuck.specs.Claim.{Quorate, Waits, done}
 use Rattle.never_stuck.specs.Laws.Spoken.{Premises, Said}
@@ -89,7 +91,7 @@ module _ (mac : List ℕ → List ℕ → List ℕ) (eight : (key ws : List ℕ)
     push cs x P a b t each at =
         let o = at .within in
         let S = sane-of mac eight key n low top cs P q x (o .opening) (o .station) (o .waits) in
-        let rounds : InRounds (o .station .stage) = subst InRounds (state-stage (o .station)) (S .rounds) in
+        let rounds : InRounds present-form (o .station .stage) = subst (InRounds present-form) (state-stage (o .station)) (S .rounds) in
         let ne : σ ≡ 1 → ⊥ = λ e. not-one (o .station .stage) rounds (at .there ∙ e) in
         let A = advance mac eight key n low top q team floor enough x (o .opening) 0 any t (omega arith) (quorum n) cs (o .station) P (o .waits) (omega (arith, at .there))
         (λ y c d e. subst (λ (z : ℕ). Said mac key n cs y q z any) (sym (at .there)) (said-of ne y (each y c d e))) (every-any (state-of (o .station) .held)) (S .few) (omega arith) in

@@ -10,10 +10,11 @@ use lib.Dec.{eqb}
 use lib.ListN.{length}
 use borrow.Author.Tests.{eqb-true, eqb-false}
 use Rattle.laws.specs.Bools.{never}
-use Rattle.format.specs.Numbers.{none, last-round, code-words, least-stations, most-stations}
+use Rattle.format.specs.Form.{present-form}
+use Rattle.format.specs.Numbers.{none, code-words, least-stations}
 use Rattle.format.specs.Group.{quorum}
 use Rattle.format.specs.Statement.{Statement}
-use Rattle.format.specs.Bundle.{main-of}
+use Rattle.format.specs.Present.{last-round, most-stations, main-of}
 use Rattle.certificate.specs.Check.{every}
 use Rattle.station.specs.declared.Stage.{Stage}
 use Rattle.station.specs.declared.Station.{Station}
@@ -21,7 +22,8 @@ use Rattle.station.specs.Machine.{State, follows, closes, decision-at, stage-st
 use Rattle.station.specs.Returns.{unrefused}
 use Rattle.station.specs.Laws.Sane.{InRounds}
 use Rattle.agreement.specs.Laws.Lists.{module-other}
-use Rattle.agreement.specs.Demand.{Call, call, gives, answer}
+use Rattle.agreement.specs.Demand.{Call, call, gives}
+use Rattle.agreement.specs.Present.{answer}
 use Rattle.never_stuck.specs.Claim.{Quorate, room, Waits, ByLast, done, give}
 use Rattle.never_stuck.specs.Laws.Spoken.{Premises, Said, spoke-later, presents-other}
 use Rattle.never_stuck.specs.Laws.Steps.{not-one, before-last}
@@ -104,7 +106,7 @@ module _ (mac : List ℕ → List ℕ → List ℕ) (eight : (key ws : List ℕ)
                   list = call y (gives (o .opening) (o .station) (w .words) coin room) ∷ cs;
                   premises = premises-then mac eight key n low top q cs P y (o .opening) (o .station) (o .waits) x σ (w .words) (w .spoke) coin bit un;
                   onward = give done y (o .opening) (o .station) x (w .words) coin ty tx (o .waits .presents) (o .waits .asked) (w .spoke .by-call) (omega arith) bit un;
-                  module-on = module-other mac key n (call y (gives (o .opening) (o .station) (w .words) coin room)) cs;
+                  module-on = module-other present-form mac key n (call y (gives (o .opening) (o .station) (w .words) coin room)) cs;
                   presents-on = presents-other mac key n cs y (o .opening) (o .station) (w .words) coin room (o .waits .presents);
                   spoken = λ z τ ws h. spoke-later mac key n (call y (gives (o .opening) (o .station) (w .words) coin room)) cs z q τ ws h;
                 }
@@ -202,7 +204,7 @@ module _ (mac : List ℕ → List ℕ → List ℕ) (eight : (key ws : List ℕ)
   moved-on x σ σ' coin ok ok' j j' M cs P k g d u t e dec on oks full (went c w se) =
       let S = sane-of mac eight key n low top cs P q x k t w in
       let is : stage-step (t .stage) ≡ stage-step (follows n g u coin .stage) = sym (ap stage-step (state-stage t)) ∙ ap (λ (z : State). stage-step (z .stage)) se in
-      let ne : stage-step (follows n g u coin .stage) ≡ 1 → ⊥ = λ z. not-one (t .stage) (subst InRounds (state-stage t) (S .rounds)) (is ∙ z) in
+      let ne : stage-step (follows n g u coin .stage) ≡ 1 → ⊥ = λ z. not-one (t .stage) (subst (InRounds present-form) (state-stage t) (S .rounds)) (is ∙ z) in
       let E = M .ends g u e ne oks full in
       record {
         at = record {

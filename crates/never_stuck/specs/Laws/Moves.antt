@@ -6,28 +6,29 @@ use Prim.Native.Nat.{ℕ, _≤_, _<_}
 use native.Mathlib.Omega.{arith}
 use lib.ListN.{length}
 use Rattle.laws.specs.Bools.{never}
-use Rattle.format.specs.Numbers.{kept, closed-now, jumped, last-round, code-words, least-stations, most-stations}
+use Rattle.format.specs.Form.{present-form}
+use Rattle.format.specs.Numbers.{kept, closed-now, jumped, code-words, least-stations}
 use Rattle.format.specs.Group.{quorum}
-use Rattle.format.specs.Statement.{Statement, statement-code}
-use Rattle.format.specs.Bundle.{main-of, certificate-of}
+use Rattle.format.specs.Statement.{Statement}
+use Rattle.format.specs.Present.{last-round, most-stations, statement-code, main-of, certificate-of}
 use Rattle.modules.specs.declared.Module.{Module}
 use Rattle.modules.specs.Counter.{last-for}
 use Rattle.station.specs.declared.Stage.{Stage}
 use Rattle.station.specs.declared.Station.{Station}
 use Rattle.station.specs.Machine as Mach
 use Rattle.station.specs.Machine.{State, Next, Outcome, keeps, sends, own, began, stage-of, follows, closes, decision-at, keeping, stage-step, copied-value}
-use Rattle.station.specs.Words as W
-use Rattle.station.specs.Words.{state-of, Lengths}
-use Rattle.station.specs.Calls.{Returned, returned, giving, giving-outcome}
+use Rattle.station.specs.Calls.{Returned}
 use Rattle.station.specs.Returns.{unrefused}
 use Rattle.station.specs.Written.{reached-good}
 use Rattle.station.specs.Laws.Sane.{state-back}
 use Rattle.station.specs.Laws.Fits.{sent-sane, kept-sane, jump-sane}
 use Rattle.station.specs.Laws.Views.{Accepted, Jumping, sent-statement, jump-statement, Gives, refuses, holds-on, shuts, goes-on, enters, gives-view}
+use Rattle.station.specs.Present.{state-of, returned, giving, giving-outcome, Lengths}
 use Rattle.agreement.specs.Laws.Invariant.{Mine}
 use Rattle.agreement.specs.Laws.Lists.{module-now}
 use Rattle.agreement.specs.Theorem.{at, in-group, rest}
-use Rattle.agreement.specs.Demand.{Call, call, gives, act, modules, answer, Presents, Sound}
+use Rattle.agreement.specs.Demand.{Call, call, gives}
+use Rattle.agreement.specs.Present.{modules, answer, Presents, Sound}
 use Rattle.never_stuck.specs.Claim.{room, Waits}
 use Rattle.never_stuck.specs.Laws.Spoken.{Premises, Spoke, presents-now, sound-next, premises-next}
 use Rattle.never_stuck.specs.Laws.Heard.{up-of}
@@ -59,10 +60,10 @@ module _ (mac : List ℕ → List ℕ → List ℕ) (eight : (key ws : List ℕ)
     p = waits .presents
 
     range-x : (1 ≤ x) × (x ≤ n)
-    range-x = in-group mac eight key n low top cs (P .given) x k (p .line) (p .is)
+    range-x = in-group present-form mac eight key n low top cs (P .given) x k (p .line) (p .is)
 
     len : Lengths t
-    len = reached-good mac key n eight x t (up-of mac eight key n low top cs P x k t (waits .sound) p .reached) .lengths
+    len = reached-good present-form mac key n eight x t (up-of mac eight key n low top cs P x k t (waits .sound) p .reached) .lengths
 
     pub premises-then : Premises mac key n (g ∷ cs)
     premises-then = premises-next mac key n cs x k t ws coin room p (range-x .0) (range-x .1) len (sp .came) P
@@ -73,8 +74,8 @@ module _ (mac : List ℕ → List ℕ → List ℕ) (eight : (key ws : List ℕ)
     pub presents-then : Presents mac key n (g ∷ cs) x k then
     presents-then = presents-now mac key n cs x k t ws coin room p un
 
-    mine : Mine key n (rest mac eight key n low top cs (P .given) (P .few) x x) x (modules mac key n cs x)
-    mine = at mac eight key n low top cs (P .given) (P .few) x x (waits .sound) (waits .sound) .logs .mods x (range-x .0) (range-x .1)
+    mine : Mine present-form key n (rest present-form mac eight key n low top cs (P .given) (P .few) x x) x (modules mac key n cs x)
+    mine = at present-form mac eight key n low top cs (P .given) (P .few) x x (waits .sound) (waits .sound) .logs .mods x (range-x .0) (range-x .1)
 
     abbrev mm : Module
     mm = record { key = key; n = n; station = x; last = modules mac key n cs x .last }
@@ -83,7 +84,7 @@ module _ (mac : List ℕ → List ℕ → List ℕ) (eight : (key ws : List ℕ)
     m-is = λ i. record { key = mine .same-key i; n = mine .same-n i; station = mine .same-number i; last = modules mac key n cs x .last }
 
     a-is : answer mac key n cs g ≡ returned mm t room (giving-outcome mac mm t ws coin room)
-    unfolding act giving
+    unfolding Rattle.agreement.specs.Demand.act Rattle.station.specs.Calls.giving
     a-is = ap (λ (z : Module). giving mac z t ws coin room) m-is
 
     -- what is returned waits on, where it is open, on the question, and the module's last question is that
@@ -97,22 +98,22 @@ module _ (mac : List ℕ → List ℕ → List ℕ) (eight : (key ws : List ℕ)
           presents = presents-then;
           still-open = h .0;
           asked = h .1 .0;
-          not-gone-on = ap (λ (m : Module). last-for m q .question) (module-now mac key n g cs) ∙ h .1 .1;
+          not-gone-on = ap (λ (m : Module). last-for m q .question) (module-now present-form mac key n g cs) ∙ h .1 .1;
         }
 
     pub data Moved : Type 0 where
       stays : Waits mac key n (g ∷ cs) q x k then → length (with-bundle t ws .held) < quorum n → state-of then ≡ with-bundle t ws → Moved
       ends : length (with-bundle t ws .held) ≡ quorum n → Ended (g ∷ cs) x k (t .stage) (t .decision) (with-bundle t ws) coin then → Moved
 
-    kept-so : (A : Accepted mac mm t ws coin room) → length (with-bundle t ws .held) < quorum n → answer mac key n cs g ≡ returned mm t room (keeps kept (with-bundle t ws)) → Moved
-    unfolding returned W.as-station state-of
+    kept-so : (A : Accepted present-form mac mm t ws coin room) → length (with-bundle t ws .held) < quorum n → answer mac key n cs g ≡ returned mm t room (keeps kept (with-bundle t ws)) → Moved
+    unfolding Rattle.station.specs.Calls.returned Rattle.station.specs.Words.as-station Rattle.station.specs.Words.state-of
     kept-so A few e =
         stays (waits-then (subst Onto (sym e) (waits .still-open, (waits .asked, waits .not-gone-on)))) few
-        (ap (λ (r : Returned). state-of (r .station)) e ∙ state-back n x (with-bundle t ws) top (range-x .0) (range-x .1) (kept-sane mac eight mm t ws coin room len A few))
+        (ap (λ (r : Returned). state-of (r .station)) e ∙ state-back present-form n x (with-bundle t ws) top (range-x .0) (range-x .1) (kept-sane present-form mac eight mm t ws coin room len A few))
 
     shut-so : length (with-bundle t ws .held) ≡ quorum n → closes last-round (t .stage) ≡ true
         → answer mac key n cs g ≡ returned mm t room (keeps closed-now (Mach.shut (with-bundle t ws) (decision-at (t .stage) (t .decision) (with-bundle t ws .held)))) → Moved
-    unfolding returned W.as-station state-of
+    unfolding Rattle.station.specs.Calls.returned Rattle.station.specs.Words.as-station Rattle.station.specs.Words.state-of
     shut-so size c e =
         ends size (shut c (ap (λ (r : Returned). r .station .closed) e) (ap (λ (r : Returned). r .station .identity .question) e ∙ waits .asked) (ap (λ (r : Returned). r .station .decision) e))
 
@@ -120,24 +121,24 @@ module _ (mac : List ℕ → List ℕ → List ℕ) (eight : (key ws : List ℕ)
     f = follows n (t .stage) (with-bundle t ws) coin
 
     abbrev u : State
-    u = began n (t .identity .question) (t .jump) (f .stage) (decision-at (t .stage) (t .decision) (with-bundle t ws .held)) (sent-statement mac mm t ws coin room) (f .first ++ f .second)
+    u = began n (t .identity .question) (t .jump) (f .stage) (decision-at (t .stage) (t .decision) (with-bundle t ws .held)) (sent-statement present-form mac mm t ws coin room) (f .first ++ f .second)
 
-    sent-so : (j : ℕ) (A : Accepted mac mm t ws coin room) (size : length (with-bundle t ws .held) ≡ quorum n) (more : closes last-round (t .stage) ≡ false)
-        → answer mac key n cs g ≡ returned mm t room (sends j (sent-statement mac mm t ws coin room) (f .first ++ f .second) u) → Moved
-    unfolding returned W.as-station state-of
+    sent-so : (j : ℕ) (A : Accepted present-form mac mm t ws coin room) (size : length (with-bundle t ws .held) ≡ quorum n) (more : closes last-round (t .stage) ≡ false)
+        → answer mac key n cs g ≡ returned mm t room (sends j (sent-statement present-form mac mm t ws coin room) (f .first ++ f .second) u) → Moved
+    unfolding Rattle.station.specs.Calls.returned Rattle.station.specs.Words.as-station Rattle.station.specs.Words.state-of
     sent-so j A size more e =
         ends size
         (went more (waits-then (subst Onto (sym e) (refl, (waits .asked, waits .asked))))
         (subst (λ (z : ℕ). state-of then ≡ began n z (t .jump) (f .stage) (decision-at (t .stage) (t .decision) (with-bundle t ws .held))
         (own (statement-code (mac key)) x z (f .kind) (f .value) (f .flag) (f .round)) (f .first ++ f .second)) (waits .asked)
-        (ap (λ (r : Returned). state-of (r .station)) e ∙ state-back n x u top (range-x .0) (range-x .1) (sent-sane mac eight mm t ws coin room len A size more))))
+        (ap (λ (r : Returned). state-of (r .station)) e ∙ state-back present-form n x u top (range-x .0) (range-x .1) (sent-sane present-form mac eight mm t ws coin room len A size more))))
 
     -- a bundle of the station's step
     pub moved : σ ≡ stage-step (t .stage) → Moved
-    unfolding returned
-    moved there = go (giving-outcome mac mm t ws coin room) refl (gives-view mac mm t ws coin room len)
+    unfolding Rattle.station.specs.Calls.returned
+    moved there = go (giving-outcome mac mm t ws coin room) refl (gives-view present-form mac mm t ws coin room len)
       where
-        go : (o : Outcome) → giving-outcome mac mm t ws coin room ≡ o → Gives mac mm t ws coin room o → Moved
+        go : (o : Outcome) → giving-outcome mac mm t ws coin room ≡ o → Gives present-form mac mm t ws coin room o → Moved
         go _ e (refuses {k} w) = never (unrefused k) w (sym (ap (λ (r : Returned). unrefused (r .number)) (a-is ∙ ap (returned mm t room) e)) ∙ un)
         go _ e (holds-on A few) = kept-so A few (a-is ∙ ap (returned mm t room) e)
         go _ e (shuts A size c) = shut-so size c (a-is ∙ ap (returned mm t room) e)
@@ -156,27 +157,27 @@ module _ (mac : List ℕ → List ℕ → List ℕ) (eight : (key ws : List ℕ)
       pub value : says .value ≡ copied-value (main-of ws) coin
 
     pub jumped-there : stage-step (t .stage) < σ → JumpedThere
-    unfolding returned W.as-station state-of
-    jumped-there later = go (giving-outcome mac mm t ws coin room) refl (gives-view mac mm t ws coin room len)
+    unfolding Rattle.station.specs.Calls.returned Rattle.station.specs.Words.as-station Rattle.station.specs.Words.state-of
+    jumped-there later = go (giving-outcome mac mm t ws coin room) refl (gives-view present-form mac mm t ws coin room len)
       where
-        jumped-so : (J : Jumping mac mm t ws coin room) → answer mac key n cs g ≡ returned mm t room (sends jumped (jump-statement mac mm t ws coin room) (certificate-of ws)
-            (began n (t .identity .question) (t .jump) (stage-of (main-of ws)) (t .decision) (jump-statement mac mm t ws coin room) (certificate-of ws))) → JumpedThere
+        jumped-so : (J : Jumping present-form mac mm t ws coin room) → answer mac key n cs g ≡ returned mm t room (sends jumped (jump-statement present-form mac mm t ws coin room) (certificate-of ws)
+            (began n (t .identity .question) (t .jump) (stage-of (main-of ws)) (t .decision) (jump-statement present-form mac mm t ws coin room) (certificate-of ws))) → JumpedThere
         jumped-so J e =
             record {
               waits-on = waits-then (subst Onto (sym e) (refl, (waits .asked, waits .asked)));
               in-step = ap (λ (r : Returned). stage-step (r .station .stage)) e ∙ sym (J .fitting .in-step) ∙ sp .in-step;
               setting = ap (λ (r : Returned). r .station .jump) e;
               decision = ap (λ (r : Returned). r .station .decision) e;
-              says = jump-statement mac mm t ws coin room;
+              says = jump-statement present-form mac mm t ws coin room;
               held = ap (λ (r : Returned). state-of (r .station) .held) e
                   ∙ ap (λ (z : State). z .held)
-                  (state-back n x
-                  (began n (t .identity .question) (t .jump) (stage-of (main-of ws)) (t .decision) (jump-statement mac mm t ws coin room) (certificate-of ws)) top (range-x .0) (range-x .1)
-                  (jump-sane mac eight mm t ws coin room J len));
+                  (state-back present-form n x
+                  (began n (t .identity .question) (t .jump) (stage-of (main-of ws)) (t .decision) (jump-statement present-form mac mm t ws coin room) (certificate-of ws)) top (range-x .0) (range-x .1)
+                  (jump-sane present-form mac eight mm t ws coin room J len));
               value = refl;
             }
 
-        go : (o : Outcome) → giving-outcome mac mm t ws coin room ≡ o → Gives mac mm t ws coin room o → JumpedThere
+        go : (o : Outcome) → giving-outcome mac mm t ws coin room ≡ o → Gives present-form mac mm t ws coin room o → JumpedThere
         go _ e (refuses {k} w) = never (unrefused k) w (sym (ap (λ (r : Returned). unrefused (r .number)) (a-is ∙ ap (returned mm t room) e)) ∙ un)
         go _ e (holds-on A few) = absurd (omega (arith, A .fitting .in-step, sp .in-step))
         go _ e (shuts A size c) = absurd (omega (arith, A .fitting .in-step, sp .in-step))

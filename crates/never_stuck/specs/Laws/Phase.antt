@@ -7,14 +7,15 @@ use Prim.Native.Nat.{ℕ, _≤_, _<_}
 use native.Mathlib.Omega.{arith}
 use lib.ListN.{length}
 use Rattle.laws.specs.Bools.{never, join}
-use Rattle.format.specs.Numbers.{last-round, code-words, least-stations, most-stations}
+use Rattle.format.specs.Numbers.{code-words, least-stations}
 use Rattle.format.specs.Group.{quorum}
 use Rattle.format.specs.Statement.{Statement}
+use Rattle.format.specs.Present.{last-round, most-stations}
 use Rattle.certificate.specs.Check.{every}
 use Rattle.station.specs.declared.Stage.{Stage}
 use Rattle.station.specs.declared.Station.{Station}
 use Rattle.station.specs.Machine.{State, follows, closes, stage-step}
-use Rattle.station.specs.Words.{state-of}
+use Rattle.station.specs.Present.{state-of}
 use Rattle.agreement.specs.Demand.{Call}
 use Rattle.never_stuck.specs.Claim.{Quorate, Waits}
 use Rattle.never_stuck.specs.Laws.Spoken.{Premises, Spoke, Said}

@@ -10,8 +10,9 @@ use lib.ListN.{length}
 use borrow.Author.Tests.{eqb-true, eqb-false, eq-eqb}
 use Rattle.laws.specs.Pick.{pick}
 use Rattle.laws.specs.Bools.{never}
-use Rattle.format.specs.Numbers.{kind-P, none, R-GET, last-round, code-words, least-stations, most-stations}
+use Rattle.format.specs.Numbers.{kind-P, none, R-GET, code-words, least-stations}
 use Rattle.format.specs.Statement.{Statement}
+use Rattle.format.specs.Present.{last-round, most-stations}
 use Rattle.station.specs.declared.Stage.{Stage}
 use Rattle.station.specs.declared.Station.{Station}
 use Rattle.station.specs.Machine.{follows, decision-at, stage-step, has-value, copied-value}

@@ -7,15 +7,17 @@ use lib.Dec.{eqb}
 use borrow.Author.Tests.{eq-eqb}
 use Rattle.laws.specs.Pick.{here}
 use Rattle.laws.specs.Bools.{join}
+use Rattle.format.specs.Form.{present-form}
 use Rattle.format.specs.Statement.{Statement, step}
-use Rattle.format.specs.Bundle.{main-of}
+use Rattle.format.specs.Present.{main-of}
 use Rattle.rules.specs.declared.Which.the-variants.{Any}
-use Rattle.certificate.specs.Check.{check-by}
+use Rattle.certificate.specs.Present.{check-by}
 use Rattle.station.specs.declared.Station.{Station}
-use Rattle.station.specs.Words.{Lengths}
 use Rattle.station.specs.Returns.{unrefused}
+use Rattle.station.specs.Present.{Lengths}
 use Rattle.agreement.specs.Laws.Lists.{lineage-other}
-use Rattle.agreement.specs.Demand.{Call, call, gives, site, action, view, written-main, given-main, gave, coded-in, answer, log, lineage, Presents, Sound, FewFaulty, CodesCame, Given}
+use Rattle.agreement.specs.Demand.{Call, call, gives, site, action, view}
+use Rattle.agreement.specs.Present.{written-main, given-main, gave, coded-in, answer, log, lineage, Presents, Sound, FewFaulty, CodesCame, Given}
 use Rattle.never_stuck.specs.Claim.{Wrote, before}
 use Rattle.never_stuck.specs.Laws.Came.{came-more}
 
@@ -35,7 +37,7 @@ module _ (mac : List ℕ → List ℕ → List ℕ) (key : List ℕ) (n : ℕ) w
     pub in-step : step (main-of ws) ≡ σ
 
   pub spoke-later : (c : Call) (cs : List Call) (i question σ : ℕ) (ws : List ℕ) → Spoke cs i question σ ws → Spoke (c ∷ cs) i question σ ws
-  unfolding log
+  unfolding Rattle.agreement.specs.Demand.log
   spoke-later c cs i question σ ws s =
       record {
         by-call = before (s .by-call);
@@ -61,7 +63,7 @@ module _ (mac : List ℕ → List ℕ → List ℕ) (key : List ℕ) (n : ℕ) w
     g = call x (gives k t ws coin out)
 
     pub presents-now : unrefused (answer mac key n cs g .number) ≡ true → Presents mac key n (g ∷ cs) x k (answer mac key n cs g .station)
-    unfolding lineage
+    unfolding Rattle.agreement.specs.Demand.lineage
     presents-now u =
         record {
           line = record { present = answer mac key n cs g .station; took = written-main (answer mac key n cs g) ++ (given-main (answer mac key n cs g) ws ++ p .line .took) };
@@ -72,14 +74,14 @@ module _ (mac : List ℕ → List ℕ → List ℕ) (key : List ℕ) (n : ℕ) w
         }
 
     pub presents-other : (y o : ℕ) (u : Station) → (y ≡ x → ⊥) → Presents mac key n cs y o u → Presents mac key n (g ∷ cs) y o u
-    presents-other y o u ne q = record { line = q .line; is = lineage-other mac key n g cs y o ne ∙ q .is; now = q .now }
+    presents-other y o u ne q = record { line = q .line; is = lineage-other present-form mac key n g cs y o ne ∙ q .is; now = q .now }
 
     pub sound-next : (i : ℕ) → Sound mac key n i cs → Sound mac key n i (g ∷ cs)
-    unfolding Sound
+    unfolding Rattle.agreement.specs.Demand.Sound
     sound-next i s = ((λ e u. subst (λ (z : ℕ). Presents mac key n cs z k t) e p), s)
 
     pub premises-next : 1 ≤ x → x ≤ n → Lengths t → CodesCame mac key n (log mac key n cs) ws → Premises cs → Premises (g ∷ cs)
-    unfolding Given
+    unfolding Rattle.agreement.specs.Demand.Given
     premises-next lo hi l c P =
         record {
           given = ((lo, hi), ((l, c), P .given));

@@ -10,9 +10,11 @@ use lib.ListN.{length}
 use borrow.Author.Tests.{eqb-true, eqb-false, ne-eqb, ltb-true, leb-true, leb-false}
 use Rattle.laws.specs.Pick.{pick}
 use Rattle.laws.specs.Bools.{both, join, left, either, is-false}
-use Rattle.format.specs.Numbers.{kind-INIT, kind-P, kind-V, none, D-GET, R-GET, last-round}
+use Rattle.format.specs.Form.{present-form}
+use Rattle.format.specs.Numbers.{kind-INIT, kind-P, kind-V, none, D-GET, R-GET}
 use Rattle.format.specs.Words.{step-of}
 use Rattle.format.specs.Statement.{Statement}
+use Rattle.format.specs.Present.{last-round}
 use Rattle.rules.specs.Rules.{some-value}
 use Rattle.certificate.specs.Check.{every}
 use Rattle.certificate.specs.Exact.{every-out}
@@ -83,7 +85,7 @@ up-to {σ} {σ'} f s le ne = go (leb s σ) refl f
     go false e (inl f) = inr (omega (arith, leb-false s σ e, f .0, f .1, ne))
     go false e (inr f) = inr (omega (arith, leb-false s σ e))
 
-pub not-one : (g : Stage) → InRounds g → stage-step g ≡ 1 → ⊥
+pub not-one : (g : Stage) → InRounds present-form g → stage-step g ≡ 1 → ⊥
 not-one Gathering i e = omega (arith, steps-0 kind-INIT 0 refl)
 not-one (Proposing r f) i e = omega (arith, i .0, steps-P kind-P (r .0) refl)
 not-one (Voting r) i e = omega (arith, i .0, steps-V kind-V (r .0) refl)

@@ -9,7 +9,8 @@ use lib.Dec.{eqb}
 use lib.ListN.{length}
 use borrow.Author.Tests.{eqb-true, eqb-false}
 use Rattle.laws.specs.Bools.{never}
-use Rattle.format.specs.Numbers.{code-words, least-stations, most-stations}
+use Rattle.format.specs.Numbers.{code-words, least-stations}
+use Rattle.format.specs.Present.{most-stations}
 use Rattle.agreement.specs.Demand.{Call}
 use Rattle.never_stuck.specs.Claim.{Onward, done}
 use Rattle.never_stuck.specs.Laws.Spoken.{Premises}

@@ -10,13 +10,16 @@ use lib.ListN.{length}
 use borrow.Author.Tests.{eqb-true, eqb-false}
 use Rattle.laws.specs.Pick.{pick}
 use Rattle.laws.specs.Bools.{never}
-use Rattle.format.specs.Numbers.{last-round, code-words, least-stations, most-stations}
+use Rattle.format.specs.Form.{present-form}
+use Rattle.format.specs.Numbers.{code-words, least-stations}
+use Rattle.format.specs.Present.{last-round, most-stations}
 use Rattle.station.specs.declared.Station.{Station}
 use Rattle.station.specs.Machine.{State, follows, closes, stage-step}
 use Rattle.station.specs.Returns.{unrefused}
 use Rattle.station.specs.Laws.Sane.{InRounds}
 use Rattle.agreement.specs.Laws.Lists.{module-other}
-use Rattle.agreement.specs.Demand.{Call, call, gives, answer}
+use Rattle.agreement.specs.Demand.{Call, call, gives}
+use Rattle.agreement.specs.Present.{answer}
 use Rattle.never_stuck.specs.Claim.{Quorate, room, Waits, done, give}
 use Rattle.never_stuck.specs.Laws.Spoken.{Premises, Spoke, spoke-later, presents-other}
 use Rattle.never_stuck.specs.Laws.Steps.{any, every-any, Follows, next-is, not-one, before-last}
@@ -86,7 +89,7 @@ module _ (mac : List ℕ → List ℕ → List ℕ) (eight : (key ws : List ℕ)
               list = call x (gives (o .waiting .opening) (o .waiting .station) ws 0 room) ∷ cs;
               premises = premises-then mac eight key n low top q cs P x (o .waiting .opening) (o .waiting .station) W l f ws (o .lead) 0 (omega arith) un;
               onward = give done x (o .waiting .opening) (o .waiting .station) l ws 0 tx of-team (W .presents) (W .asked) (o .lead .by-call) (omega (arith, o .lead .in-step)) (omega arith) un;
-              module-on = module-other mac key n (call x (gives (o .waiting .opening) (o .waiting .station) ws 0 room)) cs;
+              module-on = module-other present-form mac key n (call x (gives (o .waiting .opening) (o .waiting .station) ws 0 room)) cs;
               presents-on = presents-other mac key n cs x (o .waiting .opening) (o .waiting .station) ws 0 room (W .presents);
               spoken = λ y σ ws' h. spoke-later mac key n (call x (gives (o .waiting .opening) (o .waiting .station) ws 0 room)) cs y q σ ws' h;
             }
@@ -124,7 +127,7 @@ module _ (mac : List ℕ → List ℕ → List ℕ) (eight : (key ws : List ℕ)
         there (went c w se) =
             let S = sane-of mac eight key n low top (A .step .list) (A .step .premises) q x k (A .station) w in
             let is : stage-step (A .station .stage) ≡ stage-step (follows n (t .stage) (A .state) 0 .stage) = sym (ap stage-step (state-stage (A .station))) ∙ ap (λ (z : State). stage-step (z .stage)) se in
-            let ne : stage-step (follows n (t .stage) (A .state) 0 .stage) ≡ 1 → ⊥ = λ z. not-one (A .station .stage) (subst InRounds (state-stage (A .station)) (S .rounds)) (is ∙ z) in
+            let ne : stage-step (follows n (t .stage) (A .state) 0 .stage) ≡ 1 → ⊥ = λ z. not-one (A .station .stage) (subst (InRounds present-form) (state-stage (A .station)) (S .rounds)) (is ∙ z) in
             after-is (stage-step (t .stage)) _ (next-is n (t .stage) (A .state) 0) ne ∙ ap after-step e
 
     stay : (σ : ℕ) → σ ≡ m → (cs : List Call) → Premises mac key n cs → Team mac eight key n low top q team floor (λ y. At mac eight key n low top q team floor enough cs y σ any)

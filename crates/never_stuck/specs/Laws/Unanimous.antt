@@ -6,10 +6,12 @@ use Prim.Native.Nat.{ℕ, suc, _+_, _*_, _≤_, _<_}
 use native.Mathlib.Omega.{arith}
 use lib.ListN.{length}
 use borrow.Author.Tests.{eq-eqb}
-use Rattle.format.specs.Numbers.{none, last-round, code-words, least-stations, most-stations}
+use Rattle.format.specs.Numbers.{none, code-words, least-stations}
+use Rattle.format.specs.Present.{last-round, most-stations}
 use Rattle.station.specs.declared.Station.{Station}
 use Rattle.station.specs.Machine.{State, stage-step, has-value, follows, decision-at}
-use Rattle.agreement.specs.Demand.{Call, Presents, Sound}
+use Rattle.agreement.specs.Demand.{Call}
+use Rattle.agreement.specs.Present.{Presents, Sound}
 use Rattle.never_stuck.specs.Claim.{Quorate, Counted, goes-on, closes}
 use Rattle.never_stuck.specs.Laws.Spoken.{Premises}
 use Rattle.never_stuck.specs.Laws.Steps.{calm, calm-of, round-of-proposals, before-last, closes-last, votes-go, proposals-go, votes-decide}

@@ -11,31 +11,35 @@ use borrow.Author.Tests.{eqb-true, eqb-false}
 use Rattle.laws.specs.Pick.{pick}
 use Rattle.laws.specs.Bools.{both}
 use Rattle.laws.specs.All.{All, all-map}
-use Rattle.format.specs.Numbers.{most-statements, place-of, code-words, least-stations, most-stations}
-use Rattle.format.specs.Statement.{Statement, statements, step}
-use Rattle.format.specs.Bundle.{count-in, main-of, bundle-of}
+use Rattle.format.specs.Form.{present-form}
+use Rattle.format.specs.Numbers.{code-words, least-stations}
+use Rattle.format.specs.Statement.{Statement, step}
+use Rattle.format.specs.Bundle.{count-in}
 use Rattle.format.specs.Laws.ReadBack.{Proper}
+use Rattle.format.specs.Present.{most-statements, place-of, most-stations, statements, main-of, bundle-of}
 use Rattle.rules.specs.declared.Which.the-variants.{Any}
-use Rattle.certificate.specs.Check.{every, check-by}
+use Rattle.certificate.specs.Check.{every}
 use Rattle.certificate.specs.Exact.{found-valid}
+use Rattle.certificate.specs.Present.{check-by}
 use Rattle.modules.specs.declared.Last.{Last}
 use Rattle.modules.specs.declared.Module.{Module}
 use Rattle.modules.specs.Counter.{pair, last-for}
 use Rattle.station.specs.declared.Station.{Station}
 use Rattle.station.specs.Machine.{State, sends, stage-step}
-use Rattle.station.specs.Words.{state-of}
-use Rattle.station.specs.Calls.{Returned, returned}
+use Rattle.station.specs.Calls.{Returned}
 use Rattle.station.specs.Returns.{wrote}
-use Rattle.station.specs.Demand.{message, Reached}
+use Rattle.station.specs.Demand.{message}
 use Rattle.station.specs.Written.{bundle-front}
 use Rattle.station.specs.Laws.Bundles.{main-is, all-in}
+use Rattle.station.specs.Present.{state-of, returned, Reached}
 use Rattle.agreement.specs.Maths.Log.{In, all-at}
 use Rattle.agreement.specs.Maths.Safe.{Just}
 use Rattle.agreement.specs.Maths.Just.{Coded, coded-more}
 use Rattle.agreement.specs.Laws.Line.{Line, line-open, reads, reads-append}
 use Rattle.agreement.specs.Laws.Lists.{same-line}
 use Rattle.agreement.specs.Laws.Run.{Inv}
-use Rattle.agreement.specs.Demand.{Call, site, action, view, coded-in, Lineage, Found, found, modules, answer, log, lineage}
+use Rattle.agreement.specs.Demand.{Call, site, action, view, Lineage, Found, found}
+use Rattle.agreement.specs.Present.{coded-in, modules, answer, log, lineage}
 use Rattle.never_stuck.specs.Claim.{Wrote, now}
 use Rattle.never_stuck.specs.Laws.Came.{codes-came}
 use Rattle.never_stuck.specs.Laws.Spoken.{Spoke, spoke-later, Said, said-later}
@@ -138,48 +142,48 @@ module _ (mac : List ℕ → List ℕ → List ℕ) (eight : (key ws : List ℕ)
   coded-on [] l c h = h
   coded-on (s ∷ a) l c h = all-map (coded-more n s (a ++ l)) c (coded-on a l c h)
 
-  coded-later : (c : Call) (cs : List Call) (x : List Statement) → All (Coded n (reads (log mac key n cs))) x → All (Coded n (reads (log mac key n (c ∷ cs)))) x
-  unfolding log
+  coded-later : (c : Call) (cs : List Call) (x : List Statement) → All (Coded n (reads present-form (log mac key n cs))) x → All (Coded n (reads present-form (log mac key n (c ∷ cs)))) x
+  unfolding Rattle.agreement.specs.Demand.log
   coded-later c cs x h =
       let e = coded-in (site c) (view (action c)) (answer mac key n cs c) in
-      subst (λ (z : List Statement). All (Coded n z) x) (sym (reads-append e (log mac key n cs))) (coded-on (reads e) (reads (log mac key n cs)) x h)
+      subst (λ (z : List Statement). All (Coded n z) x) (sym (reads-append present-form e (log mac key n cs))) (coded-on (reads present-form e) (reads present-form (log mac key n cs)) x h)
 
-  module _ (faulty : List ℕ) (c : Call) (cs : List Call) (J : Inv mac eight key n low top faulty (c ∷ cs)) (m : Module) (t : Station) (out : List ℕ) (k : ℕ) (s : Statement) (C : List Statement) (u : State)
-      (e : answer mac key n cs c ≡ returned m t out (sends k s C u)) (w : wrote k ≡ true) (ps : Proper n s) (pc : All (Proper n) C) (few : length C ≤ most-statements)
-      (valid : check-by (mac key) n Any (message (answer mac key n cs c)) ≡ 0) (cs-s : Coded n (reads (log mac key n (c ∷ cs))) s) (cs-c : All (Coded n (reads (log mac key n cs))) C) where
+  module _ (faulty : List ℕ) (c : Call) (cs : List Call) (J : Inv present-form mac eight key n low top faulty (c ∷ cs)) (m : Module) (t : Station) (out : List ℕ) (k : ℕ) (s : Statement) (C : List Statement) (u : State)
+      (e : answer mac key n cs c ≡ returned m t out (sends k s C u)) (w : wrote k ≡ true) (ps : Proper present-form n s) (pc : All (Proper present-form n) C) (few : length C ≤ most-statements)
+      (valid : check-by (mac key) n Any (message (answer mac key n cs c)) ≡ 0) (cs-s : Coded n (reads present-form (log mac key n (c ∷ cs))) s) (cs-c : All (Coded n (reads present-form (log mac key n cs))) C) where
     message-is : message (answer mac key n cs c) ≡ bundle-of s C
-    unfolding returned
-    message-is = ap message e ∙ bundle-front mac key n eight n s C out top ps pc few
+    unfolding Rattle.station.specs.Calls.returned
+    message-is = ap message e ∙ bundle-front present-form mac key n eight n s C out top ps pc few
 
     main-there : main-of (bundle-of s C) ≡ s
-    unfolding bundle-of
-    main-there = main-is n s C top ps pc few
+    unfolding Rattle.format.specs.Bundle.bundle-of
+    main-there = main-is present-form n s C top ps pc few
 
     all-there : statements (bundle-of s C) (place-of 0) (suc (count-in (bundle-of s C))) ≡ s ∷ C
-    unfolding bundle-of
-    all-there = all-in n s C top ps pc few
+    unfolding Rattle.format.specs.Bundle.bundle-of
+    all-there = all-in present-form n s C top ps pc few
 
     pub main-written : main-of (message (answer mac key n cs c)) ≡ s
     main-written = ap main-of message-is ∙ main-there
 
     pub written-spoke : (i q σ : ℕ) → site c ≡ i → s .station ≡ i → s .question ≡ q → step s ≡ σ → Spoke mac key n (c ∷ cs) i q σ (message (answer mac key n cs c))
-    unfolding returned
+    unfolding Rattle.station.specs.Calls.returned
     written-spoke i q σ si a b d =
         record {
           by-call = subst (λ (z : ℕ). Wrote mac key n (c ∷ cs) z (message (answer mac key n cs c))) si (now (ap (λ (r : Returned). wrote (r .number)) e ∙ w));
           valid = valid;
-          came = codes-came mac key n (log mac key n (c ∷ cs)) (message (answer mac key n cs c)) (J .logs .sites) (found-valid (mac key) n (message (answer mac key n cs c)) valid .bundle)
-              (subst (λ (z : List ℕ). All (Coded n (reads (log mac key n (c ∷ cs)))) (statements z (place-of 0) (suc (count-in z)))) (sym message-is)
-              (subst (λ (z : List Statement). All (Coded n (reads (log mac key n (c ∷ cs)))) z) (sym all-there) (cs-s, coded-later c cs C cs-c)));
+          came = codes-came mac key n (log mac key n (c ∷ cs)) (message (answer mac key n cs c)) (J .logs .sites) (found-valid present-form (mac key) n (message (answer mac key n cs c)) valid .bundle)
+              (subst (λ (z : List ℕ). All (Coded n (reads present-form (log mac key n (c ∷ cs)))) (statements z (place-of 0) (suc (count-in z)))) (sym message-is)
+              (subst (λ (z : List Statement). All (Coded n (reads present-form (log mac key n (c ∷ cs)))) z) (sym all-there) (cs-s, coded-later c cs C cs-c)));
           station = ap (λ (z : Statement). z .station) main-written ∙ a;
           asked = ap (λ (z : Statement). z .question) main-written ∙ b;
           in-step = ap step main-written ∙ d;
         }
 
   -- the only statement that a station holds when it has just written it was coded, and is what is held
-  pub held-coded : (l : List Statement) (i : ℕ) (t : Station) (took : List Statement) (u : State) (s : Statement) → Line n l i t took → t .closed ≡ false → state-of t ≡ u → u .held ≡ s ∷ [] → Coded n l s
+  pub held-coded : (l : List Statement) (i : ℕ) (t : Station) (took : List Statement) (u : State) (s : Statement) → Line present-form n l i t took → t .closed ≡ false → state-of t ≡ u → u .held ≡ s ∷ [] → Coded n l s
   held-coded l i t took u s L op e h =
-      let a : All (λ z. In z took) (s ∷ []) = subst (λ (z : List Statement). All (λ y. In y took) z) (ap (λ (z : State). z .held) e ∙ h) (line-open n l i t took L op .among) in
+      let a : All (λ z. In z took) (s ∷ []) = subst (λ (z : List Statement). All (λ y. In y took) z) (ap (λ (z : State). z .held) e ∙ h) (line-open present-form n l i t took L op .among) in
       all-at (λ z. Coded n l z × Just n l z) took (L .standing .facts) s (a .0) .0
 
   pub held-single : (t : Station) (u : State) (s : Statement) → state-of t ≡ u → u .held ≡ s ∷ [] → (ok : Statement → Bool) → every ok (state-of t .held) ≡ true → ok s ≡ true

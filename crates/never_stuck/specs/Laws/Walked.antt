@@ -11,14 +11,16 @@ use borrow.Author.Tests.{eqb-true, eqb-false, eq-eqb}
 use Rattle.laws.specs.Pick.{pick}
 use Rattle.laws.specs.Bools.{never, both, join}
 use Rattle.laws.specs.All.{All, all-append}
-use Rattle.format.specs.Numbers.{kind-INIT, none, D-GET, kept, sent, closed-now, jumped, most-statements, last-round, code-words, least-stations, most-stations}
+use Rattle.format.specs.Form.{present-form}
+use Rattle.format.specs.Numbers.{kind-INIT, none, D-GET, kept, sent, closed-now, jumped, code-words, least-stations}
 use Rattle.format.specs.Group.{quorum}
 use Rattle.format.specs.Statement.{Statement, step}
-use Rattle.format.specs.Bundle.{main-of, certificate-of}
 use Rattle.format.specs.Laws.Shape.{init}
 use Rattle.format.specs.Laws.ReadBack.{Proper}
+use Rattle.format.specs.Present.{most-statements, last-round, most-stations, main-of, certificate-of}
 use Rattle.rules.specs.declared.Which.the-variants.{Any}
-use Rattle.certificate.specs.Check.{every, check-by}
+use Rattle.certificate.specs.Check.{every}
+use Rattle.certificate.specs.Present.{check-by}
 use Rattle.modules.specs.declared.Last.{Last}
 use Rattle.modules.specs.declared.Module.{Module}
 use Rattle.modules.specs.Counter.{above, pair, last-for}
@@ -30,11 +32,10 @@ use Rattle.station.specs.declared.Stage.the-variants.{Gathering}
 use Rattle.station.specs.declared.Station.{Station}
 use Rattle.station.specs.Machine as Mach
 use Rattle.station.specs.Machine.{State, Next, Outcome, keeps, sends, began, shut, stage-of, follows, closes, stage-step}
-use Rattle.station.specs.Words as W
-use Rattle.station.specs.Words.{state-of, Lengths}
-use Rattle.station.specs.Calls.{Returned, returned, opening, giving, opening-outcome, giving-outcome, no-station}
+use Rattle.station.specs.Present as W
+use Rattle.station.specs.Calls.{Returned}
 use Rattle.station.specs.Returns.{unrefused, wrote, wrote-unrefused, sent-wrote}
-use Rattle.station.specs.Demand.{message, OfGroup, Reached, by-opening, by-giving}
+use Rattle.station.specs.Demand.{message, OfGroup, by-opening, by-giving}
 use Rattle.station.specs.Written.{opening-written, giving-written, reached-good, sent-backed, jump-few}
 use Rattle.station.specs.Laws.Insert.{every-insert}
 use Rattle.station.specs.Laws.Sane.{Sane, state-back}
@@ -42,6 +43,7 @@ use Rattle.station.specs.Laws.Keep.{steps-0}
 use Rattle.station.specs.Laws.Bundles.{backed-few}
 use Rattle.station.specs.Laws.Fits.{own-proper, init-sane, next-ready, sent-proper, sent-sane, kept-sane, jump-proper, jump-fitting, jump-sane}
 use Rattle.station.specs.Laws.Views.{InRange, init-statement, Opens, no-opening, begins, opens-view, Accepted, Jumping, after, decision-then, sent-statement, jump-statement, Gives, refuses, holds-on, shuts, goes-on, enters, gives-view}
+use Rattle.station.specs.Present.{state-of, returned, opening, giving, opening-outcome, giving-outcome, no-station, Lengths, Reached}
 use Rattle.agreement.specs.Maths.Just.{Coded}
 use Rattle.agreement.specs.Laws.Line.{Line, reads}
 use Rattle.agreement.specs.Laws.Giving.{parts-coded, given-coded}
@@ -49,15 +51,16 @@ use Rattle.agreement.specs.Laws.Invariant.{Mine}
 use Rattle.agreement.specs.Laws.Lists.{module-now, module-other, module-same, lineage-other, lineage-refused}
 use Rattle.agreement.specs.Laws.Run.{Inv}
 use Rattle.agreement.specs.Theorem.{inv, AllSound}
-use Rattle.agreement.specs.Demand.{Action, opens, gives, codes, tosses, Call, call, site, Lineage, found, written-main, given-main, opened, gave, member, act, modules, answer, log, openings, lineage, Presents, Sound, CodesCame, Given}
+use Rattle.agreement.specs.Demand.{Action, opens, gives, codes, tosses, Call, call, site, Lineage, found, member}
+use Rattle.agreement.specs.Present.{written-main, given-main, opened, gave, modules, answer, log, openings, lineage, Presents, CodesCame, Given}
 use Rattle.never_stuck.specs.Laws.Spoken.{Spoke, Said, said-later, presents-now}
 use Rattle.never_stuck.specs.Laws.Steps.{any, next-step, next-is, up-to}
 use Rattle.never_stuck.specs.Laws.Walk.{Up, Walk, up-later, up-past, still, whose, renewed, main-written, written-spoke, held-coded, held-single}
 
 module _ (mac : List ℕ → List ℕ → List ℕ) (eight : (key ws : List ℕ) → length (mac key ws) ≡ code-words) (key : List ℕ) (n : ℕ) (low : least-stations ≤ n) (top : n ≤ most-stations) where
   -- ---- a call at the site itself
-  module _ (faulty : List ℕ) (cs : List Call) (I : Inv mac eight key n low top faulty cs) (i : ℕ) (lo : 1 ≤ i) (hi : i ≤ n) (h : member i faulty ≡ false) (w : Walk mac eight key n low top cs i) where
-    mine : Mine key n faulty i (modules mac key n cs i)
+  module _ (faulty : List ℕ) (cs : List Call) (I : Inv present-form mac eight key n low top faulty cs) (i : ℕ) (lo : 1 ≤ i) (hi : i ≤ n) (h : member i faulty ≡ false) (w : Walk mac eight key n low top cs i) where
+    mine : Mine present-form key n faulty i (modules mac key n cs i)
     mine = I .logs .mods i lo hi
 
     abbrev mm : Module
@@ -66,33 +69,33 @@ module _ (mac : List ℕ → List ℕ → List ℕ) (eight : (key ws : List ℕ)
     m-is : modules mac key n cs i ≡ mm
     m-is = λ z. record { key = mine .same-key z; n = mine .same-n z; station = mine .same-number z; last = modules mac key n cs i .last }
 
-    group : OfGroup mac key n i mm
+    group : OfGroup key n i mm
     group = record { same-key = refl; same-n = refl; same-number = refl }
 
     -- a call that is refused changes nothing
     refused-walk : (a : Action) (t : Station) (out : List ℕ) (k : ℕ) → unrefused k ≡ false → answer mac key n cs (call i a) ≡ returned mm t out (Mach.refused k)
         → Walk mac eight key n low top (call i a ∷ cs) i
-    unfolding returned
+    unfolding Rattle.station.specs.Calls.returned
     refused-walk a t out k z e =
-        still mac eight key n low top (call i a) cs i (λ o. lineage-refused mac key n (call i a) cs i o (ap (λ (r : Returned). unrefused (r .number)) e ∙ z))
-        (module-now mac key n (call i a) cs ∙ ap (λ (r : Returned). r .after) e ∙ sym m-is) w
+        still mac eight key n low top (call i a) cs i (λ o. lineage-refused present-form mac key n (call i a) cs i o (ap (λ (r : Returned). unrefused (r .number)) e ∙ z))
+        (module-now present-form mac key n (call i a) cs ∙ ap (λ (r : Returned). r .after) e ∙ sym m-is) w
 
     -- ---- opening
-    module _ (q v setting : ℕ) (out : List ℕ) (J : Inv mac eight key n low top faulty (call i (opens q v setting out) ∷ cs)) where
+    module _ (q v setting : ℕ) (out : List ℕ) (J : Inv present-form mac eight key n low top faulty (call i (opens q v setting out) ∷ cs)) where
       abbrev c : Call
       c = call i (opens q v setting out)
 
       o-is : answer mac key n cs c ≡ opening mac mm q v setting out
-      unfolding act
+      unfolding Rattle.agreement.specs.Demand.act
       o-is = ap (λ (z : Module). opening mac z q v setting out) m-is
 
       a-is : answer mac key n cs c ≡ returned mm no-station out (opening-outcome mac mm q v setting out)
-      unfolding opening
+      unfolding Rattle.station.specs.Calls.opening
       a-is = o-is
 
-      module _ (r : InRange mm) (p : v < 2) (a : above (last-for mm q) q (step (init-statement mac mm q v out)) ≡ true) where
+      module _ (r : InRange present-form mm) (p : v < 2) (a : above (last-for mm q) q (step (init-statement present-form mac mm q v out)) ≡ true) where
         abbrev S : Statement
-        S = init-statement mac mm q v out
+        S = init-statement present-form mac mm q v out
 
         abbrev U : State
         U = began n q (eqb setting 1) Gathering none S []
@@ -115,23 +118,23 @@ module _ (mac : List ℕ → List ℕ → List ℕ) (eight : (key ws : List ℕ)
 
         module _ (e : answer mac key n cs c ≡ returned mm no-station out (sends sent S [] U)) where
           un : unrefused (answer mac key n cs c .number) ≡ true
-          unfolding returned
+          unfolding Rattle.station.specs.Calls.returned
           un = ap (λ (r : Returned). unrefused (r .number)) e
 
           wr : wrote (answer mac key n cs c .number) ≡ true
-          unfolding returned
+          unfolding Rattle.station.specs.Calls.returned
           wr = ap (λ (r : Returned). wrote (r .number)) e
 
           last-is : last-for (modules mac key n (c ∷ cs) i) q ≡ pair q 0
-          unfolding returned
-          last-is = ap (λ (z : Module). last-for z q) (module-now mac key n c cs ∙ ap (λ (r : Returned). r .after) e) ∙ ap (λ (z : ℕ). pair q z) step-S
+          unfolding Rattle.station.specs.Calls.returned
+          last-is = ap (λ (z : Module). last-for z q) (module-now present-form mac key n c cs ∙ ap (λ (r : Returned). r .after) e) ∙ ap (λ (z : ℕ). pair q z) step-S
 
           station-is : answer mac key n cs c .station ≡ T
-          unfolding returned
+          unfolding Rattle.station.specs.Calls.returned
           station-is = ap (λ (r : Returned). r .station) e
 
           there : (k : ℕ) → lineage mac key n (c ∷ cs) i k ≡ pick (eqb (openings mac key n cs i) k) (opened (answer mac key n cs c)) (lineage mac key n cs i k)
-          unfolding lineage
+          unfolding Rattle.agreement.specs.Demand.lineage
           there k = ap (λ (b : Bool). pick (b && eqb (openings mac key n cs i) k) (opened (answer mac key n cs c)) (lineage mac key n cs i k)) (join (eqb i i) _ (eq-eqb i i refl) un)
 
           new-line : Lineage
@@ -146,26 +149,26 @@ module _ (mac : List ℕ → List ℕ → List ℕ) (eight : (key ws : List ℕ)
               (by-opening mm q v setting out group (sym (ap (λ (r : Returned). unrefused (r .number)) o-is) ∙ un))
 
           state-T : state-of T ≡ U
-          state-T = state-back n i U top lo hi (init-sane mac eight mm q v (eqb setting 1) r p)
+          state-T = state-back present-form n i U top lo hi (init-sane present-form mac eight mm q v (eqb setting 1) r p)
 
           valid : check-by (mac key) n Any (message (answer mac key n cs c)) ≡ 0
           valid = ap (λ (z : Returned). check-by (mac key) n Any (message z)) o-is
-              ∙ opening-written mac key n eight i mm q v setting out group (sym (ap (λ (z : Returned). wrote (z .number)) o-is) ∙ wr)
+              ∙ opening-written present-form mac key n eight i mm q v setting out group (sym (ap (λ (z : Returned). wrote (z .number)) o-is) ∙ wr)
 
-          coded-S : Coded n (reads (log mac key n (c ∷ cs))) S
-          unfolding W.as-station new-line
+          coded-S : Coded n (reads present-form (log mac key n (c ∷ cs))) S
+          unfolding Rattle.station.specs.Words.as-station new-line
           coded-S =
-              held-coded mac eight key n low top (reads (log mac key n (c ∷ cs))) i T (new-line .took) U S
-              (subst (λ (z : Station). Line n (reads (log mac key n (c ∷ cs))) i z (new-line .took)) station-is (J .lines i (openings mac key n cs i) new-line lo hi h is-new)) refl state-T refl
+              held-coded mac eight key n low top (reads present-form (log mac key n (c ∷ cs))) i T (new-line .took) U S
+              (subst (λ (z : Station). Line present-form n (reads present-form (log mac key n (c ∷ cs))) i z (new-line .took)) station-is (J .lines i (openings mac key n cs i) new-line lo hi h is-new)) refl state-T refl
 
-          proper : Proper n S
-          proper = own-proper mac eight mm q kind-INIT v D-GET 0 r (init refl refl p refl)
+          proper : Proper present-form n S
+          proper = own-proper present-form mac eight mm q kind-INIT v D-GET 0 r (init refl refl p refl)
 
           spoke-0 : (s : ℕ) → s ≡ 0 → Spoke mac key n (c ∷ cs) i q s (message (answer mac key n cs c))
           spoke-0 s z = written-spoke mac eight key n low top faulty c cs J mm no-station out sent S [] U e refl proper tt (omega arith) valid coded-S tt i q s refl refl refl (step-S ∙ sym z)
 
           up-new : Up mac eight key n low top (c ∷ cs) i T
-          unfolding W.as-station
+          unfolding Rattle.station.specs.Words.as-station
           up-new =
               record {
                 reached = reached-T;
@@ -182,7 +185,7 @@ module _ (mac : List ℕ → List ℕ → List ℕ) (eight : (key ws : List ℕ)
               }
 
           question-T : T .identity .question ≡ q
-          unfolding W.as-station
+          unfolding Rattle.station.specs.Words.as-station
           question-T = refl
 
           opened-walk : Walk mac eight key n low top (c ∷ cs) i
@@ -194,16 +197,16 @@ module _ (mac : List ℕ → List ℕ → List ℕ) (eight : (key ws : List ℕ)
               (λ o l x f z. omega (arith, lower o l f, question-T))
 
       pub open-walk : Walk mac eight key n low top (c ∷ cs) i
-      open-walk = go (opening-outcome mac mm q v setting out) refl (opens-view mac mm q v setting out)
+      open-walk = go (opening-outcome mac mm q v setting out) refl (opens-view present-form mac mm q v setting out)
         where
-          go : (o : Outcome) → opening-outcome mac mm q v setting out ≡ o → Opens mac mm q v setting out o → Walk mac eight key n low top (c ∷ cs) i
+          go : (o : Outcome) → opening-outcome mac mm q v setting out ≡ o → Opens present-form mac mm q v setting out o → Walk mac eight key n low top (c ∷ cs) i
           go _ e (no-opening {k} z) = refused-walk (opens q v setting out) no-station out k z (a-is ∙ ap (returned mm no-station out) e)
           go _ e (begins room r p a) = opened-walk r p a (a-is ∙ ap (returned mm no-station out) e)
 
     -- ---- giving
     module _ (o : ℕ) (t : Station) (ws : List ℕ) (coin : ℕ) (out : List ℕ) (len : Lengths t) (came : CodesCame mac key n (log mac key n cs) ws)
         (sound : unrefused (answer mac key n cs (call i (gives o t ws coin out)) .number) ≡ true → Presents mac key n cs i o t)
-        (J : Inv mac eight key n low top faulty (call i (gives o t ws coin out) ∷ cs)) where
+        (J : Inv present-form mac eight key n low top faulty (call i (gives o t ws coin out) ∷ cs)) where
       abbrev g : Call
       g = call i (gives o t ws coin out)
 
@@ -211,11 +214,11 @@ module _ (mac : List ℕ → List ℕ → List ℕ) (eight : (key ws : List ℕ)
       Q = t .identity .question
 
       g-is : answer mac key n cs g ≡ giving mac mm t ws coin out
-      unfolding act
+      unfolding Rattle.agreement.specs.Demand.act
       g-is = ap (λ (z : Module). giving mac z t ws coin out) m-is
 
       b-is : answer mac key n cs g ≡ returned mm t out (giving-outcome mac mm t ws coin out)
-      unfolding giving
+      unfolding Rattle.station.specs.Calls.giving
       b-is = g-is
 
       module _ (ung : unrefused (answer mac key n cs g .number) ≡ true) where
@@ -229,7 +232,7 @@ module _ (mac : List ℕ → List ℕ → List ℕ) (eight : (key ws : List ℕ)
         p' = presents-now mac key n cs i o t ws coin out p ung
 
         touched : (k : ℕ) → lineage mac key n (g ∷ cs) i k ≡ pick (eqb o k) (gave (answer mac key n cs g) ws (lineage mac key n cs i k)) (lineage mac key n cs i k)
-        unfolding lineage
+        unfolding Rattle.agreement.specs.Demand.lineage
         touched k = ap (λ (b : Bool). pick (b && eqb o k) (gave (answer mac key n cs g) ws (lineage mac key n cs i k)) (lineage mac key n cs i k)) (join (eqb i i) _ (eq-eqb i i refl) ung)
 
         -- another station of the site has another question
@@ -252,9 +255,9 @@ module _ (mac : List ℕ → List ℕ → List ℕ) (eight : (key ws : List ℕ)
         quiet-walk : (u : State) → answer mac key n cs g .station ≡ W.as-station n i u → answer mac key n cs g .after ≡ mm → u .question ≡ Q → u .stage ≡ t .stage
             → (u .closed ≡ false → (t .closed ≡ false) × ((u .jump ≡ t .jump) × ((ok : Statement → Bool) → every ok (state-of (W.as-station n i u) .held) ≡ true → every ok (state-of t .held) ≡ true)))
             → Walk mac eight key n low top (g ∷ cs) i
-        unfolding W.as-station
+        unfolding Rattle.station.specs.Words.as-station
         quiet-walk u is m asked stage op =
-            let me : modules mac key n (g ∷ cs) i ≡ modules mac key n cs i = module-now mac key n g cs ∙ m ∙ sym m-is in
+            let me : modules mac key n (g ∷ cs) i ≡ modules mac key n cs i = module-now present-form mac key n g cs ∙ m ∙ sym m-is in
             let U : Up mac eight key n low top (g ∷ cs) i t = up-later mac eight key n low top g cs i t me up-t in
             given-walk (W.as-station n i u) is asked
             (record {
@@ -273,13 +276,13 @@ module _ (mac : List ℕ → List ℕ → List ℕ) (eight : (key ws : List ℕ)
             })
             (λ k line ne f. up-later mac eight key n low top g cs i (line .present) me (w .up k line f))
 
-        known : Line n (reads (log mac key n cs)) i t (p .line .took)
-        known = subst (λ (z : Station). Line n (reads (log mac key n cs)) i z (p .line .took)) (p .now) (I .lines i o (p .line) lo hi h (p .is))
+        known : Line present-form n (reads present-form (log mac key n cs)) i t (p .line .took)
+        known = subst (λ (z : Station). Line present-form n (reads present-form (log mac key n cs)) i z (p .line .took)) (p .now) (I .lines i o (p .line) lo hi h (p .is))
 
         -- a bundle of a later step was written, and the station is in that step: its step has ended, or it has jumped
         module _ (k : ℕ) (S2 : Statement) (C : List Statement) (G : Stage) (d : ℕ) (mine-2 : S2 .station ≡ i) (on-2 : S2 .question ≡ Q) (step-2 : step S2 ≡ stage-step G)
-            (ab : above (last-for mm Q) Q (step S2) ≡ true) (wk : wrote k ≡ true) (proper-2 : Proper n S2) (proper-c : All (Proper n) C) (few-c : length C ≤ most-statements)
-            (coded-c : All (Coded n (reads (log mac key n cs))) C) (sane-2 : Sane n i (began n Q (t .jump) G d S2 C)) (still-open : t .closed ≡ false)
+            (ab : above (last-for mm Q) Q (step S2) ≡ true) (wk : wrote k ≡ true) (proper-2 : Proper present-form n S2) (proper-c : All (Proper present-form n) C) (few-c : length C ≤ most-statements)
+            (coded-c : All (Coded n (reads present-form (log mac key n cs))) C) (sane-2 : Sane present-form n i (began n Q (t .jump) G d S2 C)) (still-open : t .closed ≡ false)
             (from : t .jump ≡ false → (s : ℕ) → s ≤ stage-step G → (s ≡ 1 → ⊥) → (s ≤ stage-step (t .stage)) ⊎ (s ≡ stage-step G)) where
           abbrev U2 : State
           U2 = began n Q (t .jump) G d S2 C
@@ -288,7 +291,7 @@ module _ (mac : List ℕ → List ℕ → List ℕ) (eight : (key ws : List ℕ)
           T2 = W.as-station n i U2
 
           state-2 : state-of T2 ≡ U2
-          state-2 = state-back n i U2 top lo hi sane-2
+          state-2 = state-back present-form n i U2 top lo hi sane-2
 
           -- the module had the station's question
           same-question : modules mac key n cs i .last .question ≡ Q
@@ -301,33 +304,33 @@ module _ (mac : List ℕ → List ℕ → List ℕ) (eight : (key ws : List ℕ)
 
           module _ (e : answer mac key n cs g ≡ returned mm t out (sends k S2 C U2)) where
             last-2 : last-for (modules mac key n (g ∷ cs) i) Q ≡ pair Q (stage-step G)
-            unfolding returned
-            last-2 = ap (λ (z : Module). last-for z Q) (module-now mac key n g cs ∙ ap (λ (r : Returned). r .after) e) ∙ (λ z. pair (on-2 z) (step-2 z))
+            unfolding Rattle.station.specs.Calls.returned
+            last-2 = ap (λ (z : Module). last-for z Q) (module-now present-form mac key n g cs ∙ ap (λ (r : Returned). r .after) e) ∙ (λ z. pair (on-2 z) (step-2 z))
 
             station-2 : answer mac key n cs g .station ≡ T2
-            unfolding returned
+            unfolding Rattle.station.specs.Calls.returned
             station-2 = ap (λ (r : Returned). r .station) e
 
             wrg : wrote (answer mac key n cs g .number) ≡ true
-            unfolding returned
+            unfolding Rattle.station.specs.Calls.returned
             wrg = ap (λ (r : Returned). wrote (r .number)) e ∙ wk
 
             valid-2 : check-by (mac key) n Any (message (answer mac key n cs g)) ≡ 0
             valid-2 = ap (λ (z : Returned). check-by (mac key) n Any (message z)) g-is
-                ∙ giving-written mac key n eight i t (up-t .reached) mm ws coin out group (sym (ap (λ (z : Returned). wrote (z .number)) g-is) ∙ wrg)
+                ∙ giving-written present-form mac key n eight i t (up-t .reached) mm ws coin out group (sym (ap (λ (z : Returned). wrote (z .number)) g-is) ∙ wrg)
 
-            coded-2 : Coded n (reads (log mac key n (g ∷ cs))) S2
-            unfolding W.as-station
+            coded-2 : Coded n (reads present-form (log mac key n (g ∷ cs))) S2
+            unfolding Rattle.station.specs.Words.as-station
             coded-2 =
-                held-coded mac eight key n low top (reads (log mac key n (g ∷ cs))) i T2 (p' .line .took) U2 S2
-                (subst (λ (z : Station). Line n (reads (log mac key n (g ∷ cs))) i z (p' .line .took)) (p' .now ∙ station-2) (J .lines i o (p' .line) lo hi h (p' .is))) refl state-2 refl
+                held-coded mac eight key n low top (reads present-form (log mac key n (g ∷ cs))) i T2 (p' .line .took) U2 S2
+                (subst (λ (z : Station). Line present-form n (reads present-form (log mac key n (g ∷ cs))) i z (p' .line .took)) (p' .now ∙ station-2) (J .lines i o (p' .line) lo hi h (p' .is))) refl state-2 refl
 
             spoke-2 : Spoke mac key n (g ∷ cs) i Q (stage-step G) (message (answer mac key n cs g))
             spoke-2 =
                 written-spoke mac eight key n low top faulty g cs J mm t out k S2 C U2 e wk proper-2 proper-c few-c valid-2 coded-2 coded-c i Q (stage-step G) refl mine-2 on-2 step-2
 
             up-2 : Up mac eight key n low top (g ∷ cs) i T2
-            unfolding W.as-station
+            unfolding Rattle.station.specs.Words.as-station
             up-2 =
                 record {
                   reached = subst (λ (z : Station). Reached mac key n i z) station-2 reached-then;
@@ -349,7 +352,7 @@ module _ (mac : List ℕ → List ℕ → List ℕ) (eight : (key ws : List ℕ)
                     record { words = message (answer mac key n cs g); spoke = subst (λ (z : ℕ). Spoke mac key n (g ∷ cs) i Q z (message (answer mac key n cs g))) (sym a) spoke-2; passes = refl }
 
             asked-2 : T2 .identity .question ≡ Q
-            unfolding W.as-station
+            unfolding Rattle.station.specs.Words.as-station
             asked-2 = refl
 
             sent-walk : Walk mac eight key n low top (g ∷ cs) i
@@ -358,72 +361,72 @@ module _ (mac : List ℕ → List ℕ → List ℕ) (eight : (key ws : List ℕ)
                 (λ l line ne f. up-past mac eight key n low top g cs i (line .present) Q (stage-step G) last-2 (omega (arith, w .up l line f .behind, same-question)) (apart l line ne f) (w .up l line f))
 
       -- the step has ended
-      module _ (k : ℕ) (A : Accepted mac mm t ws coin out) (size : length (after mac mm t ws coin out .held) ≡ quorum n) (more : closes last-round (t .stage) ≡ false)
-          (ab : above (last-for mm Q) Q (step (sent-statement mac mm t ws coin out)) ≡ true) (wk : wrote k ≡ true) where
+      module _ (k : ℕ) (A : Accepted present-form mac mm t ws coin out) (size : length (after present-form mac mm t ws coin out .held) ≡ quorum n) (more : closes last-round (t .stage) ≡ false)
+          (ab : above (last-for mm Q) Q (step (sent-statement present-form mac mm t ws coin out)) ≡ true) (wk : wrote k ≡ true) where
         abbrev X : Next
-        X = follows n (t .stage) (after mac mm t ws coin out) coin
+        X = follows n (t .stage) (after present-form mac mm t ws coin out) coin
 
         abbrev S1 : Statement
-        S1 = sent-statement mac mm t ws coin out
+        S1 = sent-statement present-form mac mm t ws coin out
 
         step-1 : step S1 ≡ stage-step (X .stage)
         unfolding step
-        step-1 = next-step n (t .stage) (after mac mm t ws coin out) coin
+        step-1 = next-step n (t .stage) (after present-form mac mm t ws coin out) coin
 
-        proper-1 : All (Proper n) (X .first ++ X .second)
-        proper-1 = let R = next-ready mac eight mm t ws coin out len A size more in all-append (Proper n) (X .first) (X .second) (R .proper) (R .more-proper)
+        proper-1 : All (Proper present-form n) (X .first ++ X .second)
+        proper-1 = let R = next-ready present-form mac eight mm t ws coin out len A size more in all-append (Proper present-form n) (X .first) (X .second) (R .proper) (R .more-proper)
 
         ended-walk : (ung : unrefused (answer mac key n cs g .number) ≡ true)
-            → answer mac key n cs g ≡ returned mm t out (sends k S1 (X .first ++ X .second) (began n Q (t .jump) (X .stage) (decision-then mac mm t ws coin out) S1 (X .first ++ X .second)))
+            → answer mac key n cs g ≡ returned mm t out (sends k S1 (X .first ++ X .second) (began n Q (t .jump) (X .stage) (decision-then present-form mac mm t ws coin out) S1 (X .first ++ X .second)))
             → Walk mac eight key n low top (g ∷ cs) i
         ended-walk ung e =
-            let R = reached-good mac key n eight i t (up-t ung .reached) .certain (A .still-open) in
-            let few = backed-few n S1 (X .first ++ X .second) top (sent-backed mac mm t ws coin out A eight len R size more) in
-            let c = parts-coded mac eight mm t ws coin out (log mac key n cs) (p ung .line .took) (known ung) A came in
-            sent-walk ung k S1 (X .first ++ X .second) (X .stage) (decision-then mac mm t ws coin out) refl refl step-1 ab wk (sent-proper mac eight mm t ws coin out len A size more) proper-1 few
-            (all-append (Coded n (reads (log mac key n cs))) (X .first) (X .second) (c .0) (c .1)) (sent-sane mac eight mm t ws coin out len A size more) (A .still-open)
-            (λ off s a b. up-to (next-is n (t .stage) (after mac mm t ws coin out) coin) s a b) e
+            let R = reached-good present-form mac key n eight i t (up-t ung .reached) .certain (A .still-open) in
+            let few = backed-few present-form n S1 (X .first ++ X .second) top (sent-backed present-form mac mm t ws coin out A eight len R size more) in
+            let c = parts-coded present-form mac eight mm t ws coin out (log mac key n cs) (p ung .line .took) (known ung) A came in
+            sent-walk ung k S1 (X .first ++ X .second) (X .stage) (decision-then present-form mac mm t ws coin out) refl refl step-1 ab wk (sent-proper present-form mac eight mm t ws coin out len A size more) proper-1 few
+            (all-append (Coded n (reads present-form (log mac key n cs))) (X .first) (X .second) (c .0) (c .1)) (sent-sane present-form mac eight mm t ws coin out len A size more) (A .still-open)
+            (λ off s a b. up-to (next-is n (t .stage) (after present-form mac mm t ws coin out) coin) s a b) e
 
       -- the station has jumped
-      jumped-walk : (K : Jumping mac mm t ws coin out) → above (last-for mm Q) Q (step (jump-statement mac mm t ws coin out)) ≡ true
-          → answer mac key n cs g ≡ returned mm t out (sends jumped (jump-statement mac mm t ws coin out) (certificate-of ws)
-          (began n Q (t .jump) (stage-of (main-of ws)) (t .decision) (jump-statement mac mm t ws coin out) (certificate-of ws))) → Walk mac eight key n low top (g ∷ cs) i
-      unfolding returned
+      jumped-walk : (K : Jumping present-form mac mm t ws coin out) → above (last-for mm Q) Q (step (jump-statement present-form mac mm t ws coin out)) ≡ true
+          → answer mac key n cs g ≡ returned mm t out (sends jumped (jump-statement present-form mac mm t ws coin out) (certificate-of ws)
+          (began n Q (t .jump) (stage-of (main-of ws)) (t .decision) (jump-statement present-form mac mm t ws coin out) (certificate-of ws))) → Walk mac eight key n low top (g ∷ cs) i
+      unfolding Rattle.station.specs.Calls.returned
       jumped-walk K ab e =
           let ung : unrefused (answer mac key n cs g .number) ≡ true = ap (λ (r : Returned). unrefused (r .number)) e in
-          sent-walk ung jumped (jump-statement mac mm t ws coin out) (certificate-of ws) (stage-of (main-of ws)) (t .decision) refl refl (jump-fitting mac eight mm t ws coin out K .in-step) ab refl
-          (jump-proper mac eight mm t ws coin out K) (K .fitting .certificate) (jump-few mac eight mm t ws coin out K) (given-coded mac eight mm t ws coin out (log mac key n cs) (p ung .line .took) (known ung) K came)
-          (jump-sane mac eight mm t ws coin out K len) (K .still-open) (λ off s a b. never (t .jump) off (K .on)) e
+          sent-walk ung jumped (jump-statement present-form mac mm t ws coin out) (certificate-of ws) (stage-of (main-of ws)) (t .decision) refl refl (jump-fitting present-form mac eight mm t ws coin out K .in-step) ab refl
+          (jump-proper present-form mac eight mm t ws coin out K) (K .fitting .certificate) (jump-few present-form mac eight mm t ws coin out K) (given-coded present-form mac eight mm t ws coin out (log mac key n cs) (p ung .line .took) (known ung) K came)
+          (jump-sane present-form mac eight mm t ws coin out K len) (K .still-open) (λ off s a b. never (t .jump) off (K .on)) e
 
-      kept-walk : (A : Accepted mac mm t ws coin out) → length (after mac mm t ws coin out .held) < quorum n → answer mac key n cs g ≡ returned mm t out (keeps kept (after mac mm t ws coin out))
+      kept-walk : (A : Accepted present-form mac mm t ws coin out) → length (after present-form mac mm t ws coin out .held) < quorum n → answer mac key n cs g ≡ returned mm t out (keeps kept (after present-form mac mm t ws coin out))
           → Walk mac eight key n low top (g ∷ cs) i
-      unfolding returned state-of
+      unfolding Rattle.station.specs.Calls.returned Rattle.station.specs.Words.state-of
       kept-walk A few e =
-          quiet-walk (ap (λ (r : Returned). unrefused (r .number)) e) (after mac mm t ws coin out) (ap (λ (r : Returned). r .station) e) (ap (λ (r : Returned). r .after) e) refl refl
+          quiet-walk (ap (λ (r : Returned). unrefused (r .number)) e) (after present-form mac mm t ws coin out) (ap (λ (r : Returned). r .station) e) (ap (λ (r : Returned). r .after) e) refl refl
           (λ a. (
             a,
             (
               refl,
               λ ok all. both (ok (main-of ws)) (every ok (state-of t .held)) (sym (every-insert ok (main-of ws) (state-of t .held))
-                  ∙ subst (λ (z : State). every ok (z .held) ≡ true) (state-back n i (after mac mm t ws coin out) top lo hi (kept-sane mac eight mm t ws coin out len A few)) all) .1,
+                  ∙ subst (λ (z : State). every ok (z .held) ≡ true) (state-back present-form n i (after present-form mac mm t ws coin out) top lo hi (kept-sane present-form mac eight mm t ws coin out len A few)) all) .1,
             ),
           ))
 
-      shut-walk : (A : Accepted mac mm t ws coin out) (d : ℕ) → answer mac key n cs g ≡ returned mm t out (keeps closed-now (shut (after mac mm t ws coin out) d)) → Walk mac eight key n low top (g ∷ cs) i
-      unfolding returned state-of
+      shut-walk : (A : Accepted present-form mac mm t ws coin out) (d : ℕ) → answer mac key n cs g ≡ returned mm t out (keeps closed-now (shut (after present-form mac mm t ws coin out) d)) → Walk mac eight key n low top (g ∷ cs) i
+      unfolding Rattle.station.specs.Calls.returned Rattle.station.specs.Words.state-of
       shut-walk A d e =
-          quiet-walk (ap (λ (r : Returned). unrefused (r .number)) e) (shut (after mac mm t ws coin out) d) (ap (λ (r : Returned). r .station) e) (ap (λ (r : Returned). r .after) e) refl refl (λ a. never true a refl)
+          quiet-walk (ap (λ (r : Returned). unrefused (r .number)) e) (shut (after present-form mac mm t ws coin out) d) (ap (λ (r : Returned). r .station) e) (ap (λ (r : Returned). r .after) e) refl refl (λ a. never true a refl)
 
       pub give-walk : Walk mac eight key n low top (g ∷ cs) i
-      unfolding returned
-      give-walk = go (giving-outcome mac mm t ws coin out) refl (gives-view mac mm t ws coin out len)
+      unfolding Rattle.station.specs.Calls.returned
+      give-walk = go (giving-outcome mac mm t ws coin out) refl (gives-view present-form mac mm t ws coin out len)
         where
-          go : (x : Outcome) → giving-outcome mac mm t ws coin out ≡ x → Gives mac mm t ws coin out x → Walk mac eight key n low top (g ∷ cs) i
+          go : (x : Outcome) → giving-outcome mac mm t ws coin out ≡ x → Gives present-form mac mm t ws coin out x → Walk mac eight key n low top (g ∷ cs) i
           go _ e (refuses {k} z) = refused-walk (gives o t ws coin out) t out k z (b-is ∙ ap (returned mm t out) e)
           go _ e (holds-on A few) = kept-walk A few (b-is ∙ ap (returned mm t out) e)
-          go _ e (shuts A size c) = shut-walk A (decision-then mac mm t ws coin out) (b-is ∙ ap (returned mm t out) e)
+          go _ e (shuts A size c) = shut-walk A (decision-then present-form mac mm t ws coin out) (b-is ∙ ap (returned mm t out) e)
           go _ e (goes-on {k} A size c a z) =
-              let wk : wrote k ≡ true = ap wrote z ∙ sent-wrote (ltb (t .decision) none || eqb (decision-then mac mm t ws coin out) none) in
+              let wk : wrote k ≡ true = ap wrote z ∙ sent-wrote (ltb (t .decision) none || eqb (decision-then present-form mac mm t ws coin out) none) in
               ended-walk k A size c a wk (ap (λ (r : Returned). unrefused (r .number)) (b-is ∙ ap (returned mm t out) e) ∙ wrote-unrefused k wk) (b-is ∙ ap (returned mm t out) e)
           go _ e (enters K a) = jumped-walk K a (b-is ∙ ap (returned mm t out) e)
 
@@ -439,15 +442,15 @@ module _ (mac : List ℕ → List ℕ → List ℕ) (eight : (key ws : List ℕ)
   apart-walk c cs i same f w = still mac eight key n low top c cs i same (by (eqb i (site c)) refl) w
     where
       by : (b : Bool) → eqb i (site c) ≡ b → modules mac key n (c ∷ cs) i ≡ modules mac key n cs i
-      by true e = sym (module-same mac key n c cs (f (sym (eqb-true i (site c) e))) i)
-      by false e = module-other mac key n c cs i (eqb-false i (site c) e)
+      by true e = sym (module-same present-form mac key n c cs (f (sym (eqb-true i (site c) e))) i)
+      by false e = module-other present-form mac key n c cs i (eqb-false i (site c) e)
 
   elsewhere : (c : Call) (cs : List Call) (i : ℕ) → (i ≡ site c → ⊥) → Walk mac eight key n low top cs i → Walk mac eight key n low top (c ∷ cs) i
-  elsewhere c cs i ne w = still mac eight key n low top c cs i (λ k. lineage-other mac key n c cs i k ne) (module-other mac key n c cs i ne) w
+  elsewhere c cs i ne w = still mac eight key n low top c cs i (λ k. lineage-other present-form mac key n c cs i k ne) (module-other present-form mac key n c cs i ne) w
 
-  pub walk : (faulty : List ℕ) (cs : List Call) → Given mac key n cs → AllSound mac eight key n low top faulty cs → (i : ℕ) → 1 ≤ i → i ≤ n → member i faulty ≡ false
+  pub walk : (faulty : List ℕ) (cs : List Call) → Given mac key n cs → AllSound present-form mac eight key n low top faulty cs → (i : ℕ) → 1 ≤ i → i ≤ n → member i faulty ≡ false
       → Walk mac eight key n low top cs i
-  unfolding Given Sound lineage act
+  unfolding Rattle.agreement.specs.Demand.Given Rattle.agreement.specs.Demand.Sound Rattle.agreement.specs.Demand.lineage Rattle.agreement.specs.Demand.act
   walk faulty [] g s i lo hi h = record { up = λ k line e. absurd (let z : _≡_ {A = ℕ} 0 1 = cc in omega arith); unique = λ k o a b e f z. absurd (let z : _≡_ {A = ℕ} 0 1 = cc in omega arith) }
   walk faulty (call j (opens q v setting out) ∷ cs) g s i lo hi h = by (eqb i j) refl (walk faulty cs (g .1 .1) (λ x a b c. s x a b c .1) i lo hi h)
     where
@@ -455,18 +458,18 @@ module _ (mac : List ℕ → List ℕ → List ℕ) (eight : (key ws : List ℕ)
       by true e w =
           let z : i ≡ j = eqb-true i j e in
           subst (λ (y : ℕ). Walk mac eight key n low top (call y (opens q v setting out) ∷ cs) i) z
-          (open-walk faulty cs (inv mac eight key n low top faulty cs (g .1 .1) (λ x a b c. s x a b c .1)) i lo hi h w q v setting out
-          (inv mac eight key n low top faulty (call i (opens q v setting out) ∷ cs) ((lo, hi), g .1) (subst (λ (y : ℕ). AllSound mac eight key n low top faulty (call y (opens q v setting out) ∷ cs)) (sym z) s)))
+          (open-walk faulty cs (inv present-form mac eight key n low top faulty cs (g .1 .1) (λ x a b c. s x a b c .1)) i lo hi h w q v setting out
+          (inv present-form mac eight key n low top faulty (call i (opens q v setting out) ∷ cs) ((lo, hi), g .1) (subst (λ (y : ℕ). AllSound present-form mac eight key n low top faulty (call y (opens q v setting out) ∷ cs)) (sym z) s)))
       by false e w = elsewhere (call j (opens q v setting out)) cs i (eqb-false i j e) w
   walk faulty (call j (gives o t ws coin out) ∷ cs) g s i lo hi h = by (eqb i j) refl (walk faulty cs (g .1 .1) (λ x a b c. s x a b c .1) i lo hi h)
     where
       by : (b : Bool) → eqb i j ≡ b → Walk mac eight key n low top cs i → Walk mac eight key n low top (call j (gives o t ws coin out) ∷ cs) i
       by true e w =
           let z : i ≡ j = eqb-true i j e in
-          let s' : AllSound mac eight key n low top faulty (call i (gives o t ws coin out) ∷ cs) = subst (λ (y : ℕ). AllSound mac eight key n low top faulty (call y (gives o t ws coin out) ∷ cs)) (sym z) s in
+          let s' : AllSound present-form mac eight key n low top faulty (call i (gives o t ws coin out) ∷ cs) = subst (λ (y : ℕ). AllSound present-form mac eight key n low top faulty (call y (gives o t ws coin out) ∷ cs)) (sym z) s in
           subst (λ (y : ℕ). Walk mac eight key n low top (call y (gives o t ws coin out) ∷ cs) i) z
-          (give-walk faulty cs (inv mac eight key n low top faulty cs (g .1 .1) (λ x a b c. s x a b c .1)) i lo hi h w o t ws coin out (g .1 .0 .0) (g .1 .0 .1) (λ u. s' i lo hi h .0 refl u)
-          (inv mac eight key n low top faulty (call i (gives o t ws coin out) ∷ cs) ((lo, hi), g .1) s'))
+          (give-walk faulty cs (inv present-form mac eight key n low top faulty cs (g .1 .1) (λ x a b c. s x a b c .1)) i lo hi h w o t ws coin out (g .1 .0 .0) (g .1 .0 .1) (λ u. s' i lo hi h .0 refl u)
+          (inv present-form mac eight key n low top faulty (call i (gives o t ws coin out) ∷ cs) ((lo, hi), g .1) s'))
       by false e w = elsewhere (call j (gives o t ws coin out)) cs i (eqb-false i j e) w
   walk faulty (call j (codes ws) ∷ cs) g s i lo hi h =
       apart-walk (call j (codes ws)) cs i (λ k. refl) (λ z. not-coded (modules mac key n cs j) ws _ _ (plain-rises mac (modules mac key n cs j) ws) (λ y. s i lo hi h .0 z y))

@@ -1,5 +1,4 @@
 -- A station that holds nothing.
-use Rattle.station.specs.Calls.{no-station}
 use borrow.Author.Needs.{needs}
 use Rattle.opening.proofs.none.Statement.{statement}
 use Rattle.opening.proofs.none.Tie as tie
@@ -8,7 +7,7 @@ empty-requires : tie.Need-empty-requires
 empty-requires c κs = search needs
 
 returns : tie.Need-returns
-unfolding no-station
+unfolding Rattle.station.specs.Calls.no-station
 returns c = c .empty .ensures
 
 pub none-spec : {M : Type 1} → statement M

@@ -6,8 +6,9 @@ use native.Mathlib.Omega.{arith}
 use lib.Dec.{eqb}
 use lib.ListN.{length}
 use borrow.Author.Tests.{le-leb, ltb-true}
+use Rattle.format.specs.Form.{present-form}
 use Rattle.format.specs.declared.Fields.{Fields}
-use Rattle.format.specs.Numbers.{kind-INIT, D-GET, sent, none, output-words, most-stations}
+use Rattle.format.specs.Numbers.{kind-INIT, D-GET, sent, none}
 use Rattle.format.specs.Statement.{step}
 use Rattle.hmac.specs.Code.{hmac-code, hmac-eight}
 use Rattle.format.specs.Words.{step-of}
@@ -15,12 +16,14 @@ use Rattle.format.specs.Laws.Shape.{init}
 use Rattle.modules.specs.declared.Module.{Module}
 use Rattle.station.specs.declared.Station.{Station}
 use Rattle.station.specs.declared.Stage.the-variants.{Gathering}
-use Rattle.station.specs.Calls.{Returned, opening}
+use Rattle.station.specs.Calls.{Returned}
 use Rattle.station.specs.Laws.Views.{InRange, in-range}
 use Rattle.station.specs.Laws.Fits.{own-proper}
 use Rattle.format.specs.Laws.ReadBack.{Proper}
+use Rattle.format.specs.Present.{output-words, most-stations}
 use Rattle.station.specs.Decision.{opens}
 use Rattle.station.specs.Answers.{Answers}
+use Rattle.station.specs.Present.{opening}
 use Rattle.writer.specs.Laws.Bundle.{Certificate}
 use Rattle.laws.specs.Below.{Below}
 use Rattle.sending.specs.Sent.{sent-count, sent-lent, sent-bundle, sent-station, sent-after}
@@ -42,10 +45,10 @@ module _ (m : Module) (question proposal jump : ℕ) (out slots group : List ℕ
   unfolding Rattle.station.specs.Words.set-of step step-of Rattle.laws.specs.Pick.pick
   opens-answers k count t after xs f e z ef s low =
       let P : Passed m question proposal jump out = passed m question proposal jump out (sym e ∙ z) in
-      let R : InRange m = in-range m (P .fit) in
+      let R : InRange present-form m = in-range present-form m (P .fit) in
       let r = opens hmac-code m question proposal jump out (le-leb output-words (length out) (P .room)) (P .fit) (P .bit) (P .setting) (P .later) in
-      let p : Proper (m .n) (own-statement m question kind-INIT proposal D-GET 0) = own-proper hmac-code hmac-eight m question kind-INIT proposal D-GET 0 R (init refl refl (ltb-true _ _ (P .bit)) refl) in
-      let C = no-certificate (m .n) slots group (R .at-most-31) in
+      let p : Proper present-form (m .n) (own-statement m question kind-INIT proposal D-GET 0) = own-proper present-form hmac-code hmac-eight m question kind-INIT proposal D-GET 0 R (init refl refl (ltb-true _ _ (P .bit)) refl) in
+      let C = no-certificate (m .n) slots group (R .at-most) in
       let x : xs ≡ sent-lent m question (own-fields m kind-INIT proposal D-GET 0) slots 0 group 0 out = rw (← ef) (s .3) in
       let lo : Below (sent-lent m question (own-fields m kind-INIT proposal D-GET 0) slots 0 group 0 out) = rw (← x) low in
       record {

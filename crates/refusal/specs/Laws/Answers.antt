@@ -12,23 +12,24 @@ use Rattle.laws.specs.Pick.{pick}
 use Rattle.laws.specs.Bools.{both}
 use Rattle.laws.specs.Refusals.{first-failed}
 use Rattle.laws.specs.Sets.{bit}
-use Rattle.format.specs.Numbers.{out-of-range, output-words, short-output, station-closed}
-use Rattle.format.specs.Group.{size-fits, quorum}
+use Rattle.format.specs.Form.{present-form}
+use Rattle.format.specs.Numbers.{out-of-range, short-output, station-closed}
+use Rattle.format.specs.Group.{quorum}
 use Rattle.format.specs.declared.Fields.{Fields}
-use Rattle.format.specs.Words.{fields-of, formed, of-group, spare-of, station-of}
-use Rattle.format.specs.Statement.{statements}
+use Rattle.format.specs.Words.{fields-of, of-group, spare-of, station-of}
 use Rattle.hmac.specs.Code.{hmac-code}
-use Rattle.format.specs.Bundle.{laid-out, all-formed, count-in, main-of, certificate-of, bundle-fits}
+use Rattle.format.specs.Bundle.{count-in}
 use Rattle.rules.specs.declared.Which.the-variants.{Only}
 use Rattle.rules.specs.Rules.{rule}
-use Rattle.certificate.specs.Check.{question-fits, all-verify, check-by, judged}
+use Rattle.certificate.specs.Check.{question-fits}
+use Rattle.certificate.specs.Present.{all-verify, judged}
 use Rattle.format.specs.Laws.Parts.{sizes}
+use Rattle.format.specs.Present.{output-words, size-fits, formed, statements, laid-out, main-of, certificate-of, bundle-fits}
 use Rattle.modules.specs.declared.Module.{Module}
-use Rattle.modules.specs.Counter.{module-fits}
+use Rattle.modules.specs.Present.{module-fits}
 use Rattle.station.specs.declared.Station.{Station}
 use Rattle.station.specs.Machine.{stage-step, step-tests, held-of}
-use Rattle.station.specs.Words.{state-of, sites, held-by}
-use Rattle.station.specs.Fit.{slots-fit, held-fits, rest-fits, fits}
+use Rattle.station.specs.Present.{state-of, sites, held-by, slots-fit, held-fits, rest-fits, fits}
 use Rattle.fitness.specs.Laws.Among.{bit-is-held}
 use Rattle.refusal.specs.Refusal.{first-refusal, step-refused, step-refused-is}
 
@@ -100,7 +101,7 @@ module _ (m : Module) (t : Station) (ws : List ℕ) (coin room : ℕ) where
         sized = both (size-fits (m .n)) _ (both (module-fits m) _ (both (module-fits m && ltb coin 2) _ passed .0) .0) .0
 
         judged-is : v ≡ chain a3 a4 a5 a6 0
-        unfolding judged check-by first-failed pick a3 a4 a5 a6
+        unfolding Rattle.certificate.specs.Check.judged Rattle.certificate.specs.Check.check-by first-failed pick a3 a4 a5 a6
         judged-is = rw sized at j
 
         refused-is : first-refusal m t ws coin room ≡ chain a3 a4 a5 a6 (first-failed (step-tests (state-of t) (main-of ws)))
@@ -123,11 +124,11 @@ module _ (m : Module) (t : Station) (ws : List ℕ) (coin room : ℕ) where
               go false e h = absurd (omega arith)
 
           pub two-words : 1 < length ws
-          unfolding bundle-fits
-          two-words = omega (arith, sizes ws (both (laid-out ws) _ formed-bundle .0) .1)
+          unfolding Rattle.format.specs.Bundle.bundle-fits
+          two-words = omega (arith, sizes present-form ws (both (laid-out ws) _ formed-bundle .0) .1)
 
           main-station : (1 ≤ station-of (getD ws 1 0)) × (station-of (getD ws 1 0) ≤ m .n)
-          unfolding bundle-fits all-formed formed fields-of
+          unfolding Rattle.format.specs.Bundle.bundle-fits Rattle.format.specs.Bundle.all-formed Rattle.format.specs.Statement.formed fields-of
           main-station =
               let f = both (formed (m .n) (fields-of (getD ws 1 0))) _ (both (laid-out ws) _ formed-bundle .1) in
               let g = both (eqb (spare-of (getD ws 1 0)) 0) _ (f .0) in
@@ -136,7 +137,7 @@ module _ (m : Module) (t : Station) (ws : List ℕ) (coin room : ℕ) where
               (leb-true _ _ (r .0), leb-true _ _ (r .1))
 
           slots-right : slots-fit (m .n) (t .identity .question) (stage-step (t .stage)) (t .held .heard) (t .held .slots) 0 sites ≡ true
-          unfolding fits
+          unfolding Rattle.station.specs.Fit.fits
           slots-right =
               let f = both (module-fits m && ltb coin 2) _ passed in
               let g = both (eqb (t .identity .n) (m .n) && eqb (t .identity .station) (m .station)) _ (f .1) in

@@ -1,7 +1,7 @@
 -- A refusal changes nothing; else the module is one pair on and the words are coded.
 use mathlib.Core.Path.{refl}
 use native.Mathlib.Omega.{arith}
-use Rattle.format.specs.Statement.{statement as statement-in}
+use Rattle.format.specs.Present.{statement as statement-in}
 use Rattle.hmac.specs.Code.{hmac-code}
 use Rattle.sealed.specs.Sealed.{with-value}
 use Rattle.sealed.proofs.Coding.{refused, finished}

@@ -11,12 +11,14 @@ use borrow.Author.Tests.{eq-eqb, ne-eqb, leb-true}
 use Rattle.laws.specs.Pick.{pick, here, skip}
 use Rattle.laws.specs.Bools.{both}
 use Rattle.format.specs.declared.Fields.{Fields}
-use Rattle.format.specs.Numbers.{bundle-words, place-of, code-words}
+use Rattle.format.specs.Numbers.{code-words}
 use Rattle.format.specs.Words.{word-of}
+use Rattle.format.specs.Present.{bundle-words, place-of}
 use Rattle.hmac.specs.Code.{hmac-code}
 use Rattle.modules.specs.declared.Module.{Module}
-use Rattle.sealed.specs.Sealed.{Coded, by-coin, coding-plain, coding-coin}
+use Rattle.sealed.specs.Sealed.{Coded, by-coin}
 use Rattle.sealed.specs.Answers.{Answered}
+use Rattle.sealed.specs.Present.{coding-plain, coding-coin}
 use Rattle.station.specs.declared.Stage.{Stage}
 use Rattle.station.specs.declared.Station.{Station}
 use Rattle.writer.specs.Written.{writable, lent-after, count-after, copyable, copy-after, copy-count}

@@ -12,6 +12,7 @@ use borrow.Author.Tests.{eqb-true, eq-eqb, ne-eqb, ltb-true}
 use Rattle.laws.specs.Pick.{pick}
 use Rattle.laws.specs.Bools.{never, both, either}
 use Rattle.laws.specs.All.{All}
+use Rattle.format.specs.Form.{Form}
 use Rattle.format.specs.Numbers.{kind-INIT, kind-P, kind-V, none, D-GET, R-GET}
 use Rattle.format.specs.Group.{quorum, backing-most}
 use Rattle.format.specs.Words.{step-of}
@@ -28,15 +29,6 @@ use Rattle.format.specs.Laws.ReadBack.{Proper}
 use Rattle.station.specs.Laws.Insert.{insert-all, insert-rising, some-insert, leading-new, leading-other, leading-old, lower-some}
 use Rattle.station.specs.Laws.Sane.{Kept, InRounds, FlagOf, Sane}
 
--- what the tests of giving say of a bundle with main statement m and certificate c
-pub record Fitting (n question : ℕ) (g : Stage) (m : Statement) (c : List Statement) : Type 0 where
-  pub proper : Proper n m
-  pub certificate : All (Proper n) c
-  pub asked : m .question ≡ question
-  pub alike : All (λ s. s .question ≡ question) c
-  pub in-step : step m ≡ stage-step g
-  pub backed : Backed n m c
-
 -- ---- a step tells kind and round
 pub steps-P : (k r : ℕ) → k ≡ kind-P → step-of k r ≡ 2 * r
 unfolding step-of pick
@@ -49,31 +41,6 @@ steps-V k r e = rw (ne-eqb k kind-INIT (λ z. omega arith), ne-eqb k kind-P (λ 
 pub steps-0 : (k r : ℕ) → k ≡ kind-INIT → step-of k r ≡ 0
 unfolding step-of pick
 steps-0 k r e = rw (eq-eqb k kind-INIT e)
-
-pub same-step : (m : Statement) (g : Stage) → Shape m → InRounds g → step m ≡ stage-step g → (m .kind ≡ kind-in g) × (m .round ≡ round-in g)
-unfolding step
-same-step m Gathering (init k r v f) i e = (k, r)
-same-step m Gathering (proposal k l r v f) i e = absurd (omega (arith, steps-P (m .kind) (m .round) k, steps-0 kind-INIT 0 refl))
-same-step m Gathering (vote k l r v f) i e = absurd (omega (arith, steps-V (m .kind) (m .round) k, steps-0 kind-INIT 0 refl))
-same-step m (Proposing p x) (init k r v f) i e = absurd (omega (arith, steps-0 (m .kind) (m .round) k, steps-P kind-P (p .0) refl))
-same-step m (Proposing p x) (proposal k l r v f) i e = (k, omega (arith, steps-P (m .kind) (m .round) k, steps-P kind-P (p .0) refl))
-same-step m (Proposing p x) (vote k l r v f) i e = absurd (omega (arith, steps-V (m .kind) (m .round) k, steps-P kind-P (p .0) refl))
-same-step m (Voting p) (init k r v f) i e = absurd (omega (arith, steps-0 (m .kind) (m .round) k, steps-V kind-V (p .0) refl))
-same-step m (Voting p) (proposal k l r v f) i e = absurd (omega (arith, steps-P (m .kind) (m .round) k, steps-V kind-V (p .0) refl))
-same-step m (Voting p) (vote k l r v f) i e = (k, omega (arith, steps-V (m .kind) (m .round) k, steps-V kind-V (p .0) refl))
-
--- ---- the stage that a statement of a later step belongs to
-pub stage-of-step : (m : Statement) → Shape m → 0 < step m → step m ≡ stage-step (stage-of m)
-unfolding step pick
-stage-of-step m (init k r v f) up = absurd (omega (arith, steps-0 (m .kind) (m .round) k))
-stage-of-step m (proposal k l r v f) up = rw (eq-eqb (m .kind) kind-P k) (steps-P (m .kind) (m .round) k ∙ sym (steps-P kind-P (m .round) refl))
-stage-of-step m (vote k l r v f) up = rw (ne-eqb (m .kind) kind-P (λ z. omega arith)) (steps-V (m .kind) (m .round) k ∙ sym (steps-V kind-V (m .round) refl))
-
-pub stage-of-rounds : (m : Statement) → Shape m → 0 < step m → InRounds (stage-of m)
-unfolding step pick
-stage-of-rounds m (init k r v f) up = absurd (omega (arith, steps-0 (m .kind) (m .round) k))
-stage-of-rounds m (proposal k l r v f) up = rw (eq-eqb (m .kind) kind-P k) (l, r)
-stage-of-rounds m (vote k l r v f) up = rw (ne-eqb (m .kind) kind-P (λ z. omega arith)) (l, r)
 
 pub stage-of-flag : (m s : Statement) → s .flag ≡ m .flag → FlagOf (stage-of m) s
 unfolding pick
@@ -124,109 +91,144 @@ vote-group n m _ k v (rule-5 {c} {d} a b h i s o) = front (proposals n (m .round
 vote-group n m c k v (rule-6 a b d h s) = absurd (omega arith)
 vote-group n m _ k v (rule-7 a b d h s o) = absurd (omega arith)
 
-module _ (n question : ℕ) (g : Stage) (m : Statement) (c : List Statement) (F : Fitting n question g m c) (i : InRounds g) where
-  is-so : (m .kind ≡ kind-in g) × (m .round ≡ round-in g)
-  is-so = same-step m g (formed-out n m (F .proper .formed) .shape) i (F .in-step)
-
-  first-or-given : (r : ℕ) → m .round ≡ r → (eqb r 1 ≡ true) ⊎ (eqb (m .flag) D-GET ≡ true) → (m .round ≡ 1) ⊎ (m .flag ≡ D-GET)
-  first-or-given r e (inl x) = inl (e ∙ eqb-true r 1 x)
-  first-or-given r e (inr x) = inr (eqb-true (m .flag) D-GET x)
-
-  pub taken-for-value : supplies-for-value g m ≡ true → Holds (value-group n g (m .value)) (take (quorum n) c)
-  taken-for-value e = go g e is-so
-    where
-      go : (g : Stage) → supplies-for-value g m ≡ true → (m .kind ≡ kind-in g) × (m .round ≡ round-in g) → Holds (value-group n g (m .value)) (take (quorum n) c)
-      go Gathering e k = never false refl e
-      go (Proposing p x) e k = rw (← k .1) (proposal-group n m c (k .0) (first-or-given (p .0) (k .1) (either (eqb (p .0) 1) _ e)) (F .backed))
-      go (Voting p) e k = rw (← k .1) (vote-group n m c (k .0) (ltb-true _ _ e) (F .backed))
-
-  pub taken-for-none : supplies-for-none g m ≡ true → Holds (none-votes n (round-in g - 1)) (take (quorum n) c)
-  taken-for-none e = go g e is-so
-    where
-      go : (g : Stage) → supplies-for-none g m ≡ true → (m .kind ≡ kind-in g) × (m .round ≡ round-in g) → Holds (none-votes n (round-in g - 1)) (take (quorum n) c)
-      go Gathering e k = never false refl e
-      go (Proposing p x) e k =
-          let a = both (ltb 1 (p .0)) _ e in
-          rw (← k .1) (toss-group n m c (k .0) (eqb-true _ _ (a .1)) (F .backed))
-      go (Voting p) e k = never false refl e
-
 -- ---- the state with the bundle
 pub all-take : (P : Statement → Type 0) (k : ℕ) (c : List Statement) → All P c → All P (take k c)
 all-take P zero c h = tt
 all-take P (suc k) [] h = tt
 all-take P (suc k) (s ∷ c) h = (h .0, all-take P k c (h .1))
 
--- a group that is kept by the statements that supply it, as `of` says by the lowest-numbered one's value
-module _ (n question : ℕ) (p : Statement → Bool) (of : ℕ → Group) (h : List Statement) (r : Rising 0 h) (m : Statement) (c kept : List Statement)
-    (new : held-of (m .station) h ≡ false) (K : Kept n question (pick (some p h) (of (leading p h)) no-group) kept)
-    (S : p m ≡ true → Kept n question (of (m .value)) c) where
-  pub offered : Kept n question (pick (some p (insert m h)) (of (leading p (insert m h))) no-group) (pick (takes p h m) c kept)
-  unfolding pick
-  offered = go (p m) refl (some (λ s. p s && ltb (s .station) (m .station)) h) refl
-    where
-      go : (a : Bool) → p m ≡ a → (b : Bool) → some (λ s. p s && ltb (s .station) (m .station)) h ≡ b
-          → Kept n question (pick (some p (insert m h)) (of (leading p (insert m h))) no-group) (pick (takes p h m) c kept)
-      go true e false f = rw (some-insert p m h, e, f, leading-new p m h new e f) (S e)
-      go true e true f =
-          let z : some p h ≡ true = lower-some p m h f in
-          rw (some-insert p m h, e, f, leading-old p m 0 h r f) (rw z at K)
-      go false e b f = rw (some-insert p m h, e, leading-other p m h e) K
+module _ (form : Form) where
+  -- what the tests of giving say of a bundle with main statement m and certificate c
+  pub record Fitting (n question : ℕ) (g : Stage) (m : Statement) (c : List Statement) : Type 0 where
+    pub proper : Proper form n m
+    pub certificate : All (Proper form n) c
+    pub asked : m .question ≡ question
+    pub alike : All (λ s. s .question ≡ question) c
+    pub in-step : step m ≡ stage-step g
+    pub backed : Backed n m c
 
-module _ (n number : ℕ) (t : State) (m : Statement) (c : List Statement) (S : Sane n number t) (F : Fitting n (t .question) (t .stage) m c)
-    (new : held-of (m .station) (t .held) ≡ false) where
-  supplied : (g : Group) → Holds g (take (quorum n) c) → Kept n (t .question) g (take (quorum n) c)
-  supplied g h = record { as-asked = h; proper = all-take (Proper n) (quorum n) c (F .certificate); alike = all-take (λ s. s .question ≡ t .question) (quorum n) c (F .alike) }
+  pub same-step : (m : Statement) (g : Stage) → Shape form m → InRounds form g → step m ≡ stage-step g → (m .kind ≡ kind-in g) × (m .round ≡ round-in g)
+  unfolding step
+  same-step m Gathering (init k r v f) i e = (k, r)
+  same-step m Gathering (proposal k l r v f) i e = absurd (omega (arith, steps-P (m .kind) (m .round) k, steps-0 kind-INIT 0 refl))
+  same-step m Gathering (vote k l r v f) i e = absurd (omega (arith, steps-V (m .kind) (m .round) k, steps-0 kind-INIT 0 refl))
+  same-step m (Proposing p x) (init k r v f) i e = absurd (omega (arith, steps-0 (m .kind) (m .round) k, steps-P kind-P (p .0) refl))
+  same-step m (Proposing p x) (proposal k l r v f) i e = (k, omega (arith, steps-P (m .kind) (m .round) k, steps-P kind-P (p .0) refl))
+  same-step m (Proposing p x) (vote k l r v f) i e = absurd (omega (arith, steps-V (m .kind) (m .round) k, steps-P kind-P (p .0) refl))
+  same-step m (Voting p) (init k r v f) i e = absurd (omega (arith, steps-0 (m .kind) (m .round) k, steps-V kind-V (p .0) refl))
+  same-step m (Voting p) (proposal k l r v f) i e = absurd (omega (arith, steps-P (m .kind) (m .round) k, steps-V kind-V (p .0) refl))
+  same-step m (Voting p) (vote k l r v f) i e = (k, omega (arith, steps-V (m .kind) (m .round) k, steps-V kind-V (p .0) refl))
 
-  pub kept-for-value-on : Kept n (t .question) (kept-for-value n (t .stage) (insert m (t .held))) (keeping n t m c .for-value)
-  unfolding kept-for-value
-  kept-for-value-on =
-      offered n (t .question) (supplies-for-value (t .stage)) (value-group n (t .stage)) (t .held) (S .rising) m (take (quorum n) c) (t .for-value) new (S .for-value)
-      (λ e. supplied (value-group n (t .stage) (m .value)) (taken-for-value n (t .question) (t .stage) m c F (S .rounds) e))
+  -- ---- the stage that a statement of a later step belongs to
+  pub stage-of-step : (m : Statement) → Shape form m → 0 < step m → step m ≡ stage-step (stage-of m)
+  unfolding step pick
+  stage-of-step m (init k r v f) up = absurd (omega (arith, steps-0 (m .kind) (m .round) k))
+  stage-of-step m (proposal k l r v f) up = rw (eq-eqb (m .kind) kind-P k) (steps-P (m .kind) (m .round) k ∙ sym (steps-P kind-P (m .round) refl))
+  stage-of-step m (vote k l r v f) up = rw (ne-eqb (m .kind) kind-P (λ z. omega arith)) (steps-V (m .kind) (m .round) k ∙ sym (steps-V kind-V (m .round) refl))
 
-  pub kept-for-none-on : Kept n (t .question) (kept-for-none n (t .stage) (insert m (t .held))) (keeping n t m c .for-none)
-  unfolding kept-for-none
-  kept-for-none-on =
-      offered n (t .question) (supplies-for-none (t .stage)) (λ v. none-votes n (round-in (t .stage) - 1)) (t .held) (S .rising) m (take (quorum n) c) (t .for-none) new (S .for-none)
-      (λ e. supplied (none-votes n (round-in (t .stage) - 1)) (taken-for-none n (t .question) (t .stage) m c F (S .rounds) e))
+  pub stage-of-rounds : (m : Statement) → Shape form m → 0 < step m → InRounds form (stage-of m)
+  unfolding step pick
+  stage-of-rounds m (init k r v f) up = absurd (omega (arith, steps-0 (m .kind) (m .round) k))
+  stage-of-rounds m (proposal k l r v f) up = rw (eq-eqb (m .kind) kind-P k) (l, r)
+  stage-of-rounds m (vote k l r v f) up = rw (ne-eqb (m .kind) kind-P (λ z. omega arith)) (l, r)
 
-  -- all but the number of statements held
-  pub record Grown : Type 0 where
-    pub rising : Rising 0 (insert m (t .held))
-    pub proper : All (Proper n) (insert m (t .held))
-    pub alike : All (λ s. (s .question ≡ t .question) × (step s ≡ stage-step (t .stage))) (insert m (t .held))
-    pub mine : held-of number (insert m (t .held)) ≡ true
-    pub flag : All (λ s. s .station ≡ number → FlagOf (t .stage) s) (insert m (t .held))
+  module _ (n question : ℕ) (g : Stage) (m : Statement) (c : List Statement) (F : Fitting n question g m c) (i : InRounds form g) where
+    is-so : (m .kind ≡ kind-in g) × (m .round ≡ round-in g)
+    is-so = same-step m g (formed-out form n m (F .proper .formed) .shape) i (F .in-step)
 
-  pub grown : Grown
-  grown =
-      let f = formed-out n m (F .proper .formed) in
-      record {
-        rising = insert-rising m 0 (t .held) (f .low) new (S .rising);
-        proper = insert-all (Proper n) m (t .held) (F .proper) (S .proper);
-        alike = insert-all (λ s. (s .question ≡ t .question) × (step s ≡ stage-step (t .stage))) m (t .held) (F .asked, F .in-step) (S .alike);
-        mine = some-insert (λ s. eqb (s .station) number) m (t .held) ∙ either-way (eqb (m .station) number) (S .mine);
-        flag = insert-all (λ s. s .station ≡ number → FlagOf (t .stage) s) m (t .held) (λ e. absurd (other e)) (S .flag);
-      }
-    where
-      either-way : (b : Bool) → held-of number (t .held) ≡ true → (b || held-of number (t .held)) ≡ true
-      either-way true e = refl
-      either-way false e = e
+    first-or-given : (r : ℕ) → m .round ≡ r → (eqb r 1 ≡ true) ⊎ (eqb (m .flag) D-GET ≡ true) → (m .round ≡ 1) ⊎ (m .flag ≡ D-GET)
+    first-or-given r e (inl x) = inl (e ∙ eqb-true r 1 x)
+    first-or-given r e (inr x) = inr (eqb-true (m .flag) D-GET x)
 
-      other : m .station ≡ number → ⊥
-      other e = never (held-of number (t .held)) (ap (λ (k : ℕ). held-of k (t .held)) (sym e) ∙ new) (S .mine)
+    pub taken-for-value : supplies-for-value g m ≡ true → Holds (value-group n g (m .value)) (take (quorum n) c)
+    taken-for-value e = go g e is-so
+      where
+        go : (g : Stage) → supplies-for-value g m ≡ true → (m .kind ≡ kind-in g) × (m .round ≡ round-in g) → Holds (value-group n g (m .value)) (take (quorum n) c)
+        go Gathering e k = never false refl e
+        go (Proposing p x) e k = rw (← k .1) (proposal-group n m c (k .0) (first-or-given (p .0) (k .1) (either (eqb (p .0) 1) _ e)) (F .backed))
+        go (Voting p) e k = rw (← k .1) (vote-group n m c (k .0) (ltb-true _ _ e) (F .backed))
 
-  pub keep-sane : length (insert m (t .held)) < quorum n → Sane n number (keeping n t m c)
-  keep-sane few =
-      record {
-        still-open = S .still-open;
-        rising = grown .rising;
-        proper = grown .proper;
-        alike = grown .alike;
-        few = few;
-        mine = grown .mine;
-        rounds = S .rounds;
-        flag = grown .flag;
-        decision = S .decision;
-        for-value = kept-for-value-on;
-        for-none = kept-for-none-on;
-      }
+    pub taken-for-none : supplies-for-none g m ≡ true → Holds (none-votes n (round-in g - 1)) (take (quorum n) c)
+    taken-for-none e = go g e is-so
+      where
+        go : (g : Stage) → supplies-for-none g m ≡ true → (m .kind ≡ kind-in g) × (m .round ≡ round-in g) → Holds (none-votes n (round-in g - 1)) (take (quorum n) c)
+        go Gathering e k = never false refl e
+        go (Proposing p x) e k =
+            let a = both (ltb 1 (p .0)) _ e in
+            rw (← k .1) (toss-group n m c (k .0) (eqb-true _ _ (a .1)) (F .backed))
+        go (Voting p) e k = never false refl e
+
+  -- a group that is kept by the statements that supply it, as `of` says by the lowest-numbered one's value
+  module _ (n question : ℕ) (p : Statement → Bool) (of : ℕ → Group) (h : List Statement) (r : Rising 0 h) (m : Statement) (c kept : List Statement)
+      (new : held-of (m .station) h ≡ false) (K : Kept form n question (pick (some p h) (of (leading p h)) no-group) kept)
+      (S : p m ≡ true → Kept form n question (of (m .value)) c) where
+    pub offered : Kept form n question (pick (some p (insert m h)) (of (leading p (insert m h))) no-group) (pick (takes p h m) c kept)
+    unfolding pick
+    offered = go (p m) refl (some (λ s. p s && ltb (s .station) (m .station)) h) refl
+      where
+        go : (a : Bool) → p m ≡ a → (b : Bool) → some (λ s. p s && ltb (s .station) (m .station)) h ≡ b
+            → Kept form n question (pick (some p (insert m h)) (of (leading p (insert m h))) no-group) (pick (takes p h m) c kept)
+        go true e false f = rw (some-insert p m h, e, f, leading-new p m h new e f) (S e)
+        go true e true f =
+            let z : some p h ≡ true = lower-some p m h f in
+            rw (some-insert p m h, e, f, leading-old p m 0 h r f) (rw z at K)
+        go false e b f = rw (some-insert p m h, e, leading-other p m h e) K
+
+  module _ (n number : ℕ) (t : State) (m : Statement) (c : List Statement) (S : Sane form n number t) (F : Fitting n (t .question) (t .stage) m c)
+      (new : held-of (m .station) (t .held) ≡ false) where
+    supplied : (g : Group) → Holds g (take (quorum n) c) → Kept form n (t .question) g (take (quorum n) c)
+    supplied g h = record { as-asked = h; proper = all-take (Proper form n) (quorum n) c (F .certificate); alike = all-take (λ s. s .question ≡ t .question) (quorum n) c (F .alike) }
+
+    pub kept-for-value-on : Kept form n (t .question) (kept-for-value n (t .stage) (insert m (t .held))) (keeping n t m c .for-value)
+    unfolding kept-for-value
+    kept-for-value-on =
+        offered n (t .question) (supplies-for-value (t .stage)) (value-group n (t .stage)) (t .held) (S .rising) m (take (quorum n) c) (t .for-value) new (S .for-value)
+        (λ e. supplied (value-group n (t .stage) (m .value)) (taken-for-value n (t .question) (t .stage) m c F (S .rounds) e))
+
+    pub kept-for-none-on : Kept form n (t .question) (kept-for-none n (t .stage) (insert m (t .held))) (keeping n t m c .for-none)
+    unfolding kept-for-none
+    kept-for-none-on =
+        offered n (t .question) (supplies-for-none (t .stage)) (λ v. none-votes n (round-in (t .stage) - 1)) (t .held) (S .rising) m (take (quorum n) c) (t .for-none) new (S .for-none)
+        (λ e. supplied (none-votes n (round-in (t .stage) - 1)) (taken-for-none n (t .question) (t .stage) m c F (S .rounds) e))
+
+    -- all but the number of statements held
+    pub record Grown : Type 0 where
+      pub rising : Rising 0 (insert m (t .held))
+      pub proper : All (Proper form n) (insert m (t .held))
+      pub alike : All (λ s. (s .question ≡ t .question) × (step s ≡ stage-step (t .stage))) (insert m (t .held))
+      pub mine : held-of number (insert m (t .held)) ≡ true
+      pub flag : All (λ s. s .station ≡ number → FlagOf (t .stage) s) (insert m (t .held))
+
+    pub grown : Grown
+    grown =
+        let f = formed-out form n m (F .proper .formed) in
+        record {
+          rising = insert-rising m 0 (t .held) (f .low) new (S .rising);
+          proper = insert-all (Proper form n) m (t .held) (F .proper) (S .proper);
+          alike = insert-all (λ s. (s .question ≡ t .question) × (step s ≡ stage-step (t .stage))) m (t .held) (F .asked, F .in-step) (S .alike);
+          mine = some-insert (λ s. eqb (s .station) number) m (t .held) ∙ either-way (eqb (m .station) number) (S .mine);
+          flag = insert-all (λ s. s .station ≡ number → FlagOf (t .stage) s) m (t .held) (λ e. absurd (other e)) (S .flag);
+        }
+      where
+        either-way : (b : Bool) → held-of number (t .held) ≡ true → (b || held-of number (t .held)) ≡ true
+        either-way true e = refl
+        either-way false e = e
+
+        other : m .station ≡ number → ⊥
+        other e = never (held-of number (t .held)) (ap (λ (k : ℕ). held-of k (t .held)) (sym e) ∙ new) (S .mine)
+
+    pub keep-sane : length (insert m (t .held)) < quorum n → Sane form n number (keeping n t m c)
+    keep-sane few =
+        record {
+          still-open = S .still-open;
+          rising = grown .rising;
+          proper = grown .proper;
+          alike = grown .alike;
+          few = few;
+          mine = grown .mine;
+          rounds = S .rounds;
+          flag = grown .flag;
+          decision = S .decision;
+          for-value = kept-for-value-on;
+          for-none = kept-for-none-on;
+        }

@@ -13,7 +13,7 @@ use Rattle.laws.specs.Bools.{never, both, join}
 use Rattle.station.specs.declared.Stage.{Stage}
 use Rattle.station.specs.declared.Stage.the-variants.{Gathering, Proposing, Voting}
 use Rattle.station.specs.declared.Station.{Station}
-use Rattle.station.specs.Words.{Lengths, slots-words, kept-words}
+use Rattle.station.specs.Present.{slots-words, kept-words, Lengths}
 use Rattle.station_words.specs.Words.{stage-at, closed-at, decision-at, heard-at, slots-at, value-at, none-at, jump-at, station-words, stage-words, truth-word, settings-of, sets-of, statements-of, words-of, is-stage, is-station, stage-in, part, station-in, flag-fits}
 
 -- ---- the head: eight settings and the set

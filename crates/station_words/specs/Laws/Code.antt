@@ -14,8 +14,8 @@ use Rattle.format.specs.Numbers.{malformed}
 use Rattle.station.specs.declared.Stage.{Stage}
 use Rattle.station.specs.declared.Stage.the-variants.{Gathering, Proposing, Voting}
 use Rattle.station.specs.declared.Station.{Station}
+use Rattle.station.specs.Present.{no-station}
 use Rattle.format.specs.Bundle.{over}
-use Rattle.station.specs.Calls.{no-station}
 use Rattle.station_words.specs.Words.{station-words, slots-at, stage-at, closed-at, jump-at, stage-words, truth-word, settings-of, sets-of, statements-of, words-of, is-stage, is-station, part, station-in, flag-fits, refusal, reading, writing, Writing, Wrote}
 use Rattle.station_words.specs.Laws.Put.{put-at, put-whole}
 use Rattle.station_words.specs.Laws.Back.{head-length}

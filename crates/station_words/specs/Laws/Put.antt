@@ -9,7 +9,7 @@ use lib.ListN.{length, drop, getD, set, length-append}
 use lib.Seq.{paste, paste-zero, paste-suc, take-length, take-at, drop-at, drop-drop, drop-length}
 use Rattle.format.specs.Bundle.{over}
 use Rattle.station_words.specs.Words.{slots-at, value-at, none-at, jump-at}
-use Rattle.station.specs.Words.{slots-words, kept-words}
+use Rattle.station.specs.Present.{slots-words, kept-words}
 
 unfoldable pub put-at : List ℕ → ℕ → List ℕ → List ℕ
 put-at out at ws = paste out at ws (length ws)

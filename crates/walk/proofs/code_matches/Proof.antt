@@ -4,7 +4,8 @@ use mathlib.Core.Bool.{_&&_}
 use mathlib.Core.Path.{_≡_, refl, sym, _∙_}
 use lib.ListN.{length, take, drop}
 use native.Mathlib.Omega.{arith}
-use Rattle.format.specs.Statement.{code-at, same-words}
+use Rattle.format.specs.Statement.{same-words}
+use Rattle.format.specs.Present.{code-at}
 use Rattle.walk.specs.Laws.Codes.{same-turn, same-end}
 use borrow.Author.Needs.{needs}
 use Rattle.walk.proofs.code_matches.Statement.{statement}

@@ -11,18 +11,19 @@ use borrow.Author.Tests.{eq-eqb, ne-eqb, eqb-true, eqb-false, ltb-false}
 use Rattle.laws.specs.Pick.{pick, here, skip}
 use Rattle.laws.specs.Bools.{and-assoc, or-assoc}
 use Rattle.laws.specs.Least.{least}
-use Rattle.format.specs.Numbers.{kind-INIT, place-of, statement-words}
-use Rattle.format.specs.Words.{fields-of, formed}
-use Rattle.format.specs.Statement.{Statement, statement, statements, fields-at}
-use Rattle.format.specs.Bundle.{all-formed, main-of}
+use Rattle.format.specs.Form.{present-form}
+use Rattle.format.specs.Numbers.{kind-INIT}
+use Rattle.format.specs.Words.{fields-of}
+use Rattle.format.specs.Statement.{Statement}
 use Rattle.rules.specs.declared.Group.{Group}
 use Rattle.rules.specs.Rules.{some, some-D-GET, in-order, holds, first-group, second-group, has-second, early-toss, rest-holds, spread, groups-hold, rule}
 use Rattle.walk.specs.Walk.{first-size, second-size}
 use Rattle.format.specs.Laws.Parts.{parts-length, parts-take, parts-drop}
+use Rattle.format.specs.Present.{place-of, statement-words, formed, statement, statements, fields-at, all-formed, main-of}
 
 -- ---- a certificate in two parts
 pub formed-split : (n : ℕ) (ws : List ℕ) (at k j : ℕ) → all-formed n ws at (k + j) ≡ (all-formed n ws at k && all-formed n ws (at + k * statement-words) j)
-unfolding all-formed
+unfolding Rattle.format.specs.Bundle.all-formed
 formed-split n ws at zero j =
     let e : at + 0 * 10 ≡ at = omega arith in
     let z : 0 + j ≡ j = omega arith in
@@ -34,7 +35,7 @@ formed-split n ws at (suc k) j =
 
 pub some-split : (p : Statement → Bool) (ws : List ℕ) (at k j : ℕ)
     → some p (statements ws at (k + j)) ≡ (some p (statements ws at k) || some p (statements ws (at + k * statement-words) j))
-unfolding some statements
+unfolding some Rattle.format.specs.Statement.statements
 some-split p ws at zero j =
     let e : at + 0 * 10 ≡ at = omega arith in
     let z : 0 + j ≡ j = omega arith in
@@ -106,7 +107,7 @@ module _ (n : ℕ) (ws : List ℕ) where
     groups-are have e =
         let c : List Statement = statements ws 11 have in
         let d : List Statement = statements ws (11 + have * 10) (count - have) in
-        rw (parts-take ws 11 (one .size) count, parts-drop ws 11 (one .size) count, e, rest-is c d, parts-length ws 11 have, parts-length ws (11 + have * 10) (count - have))
+        rw (parts-take present-form ws 11 (one .size) count, parts-drop present-form ws 11 (one .size) count, e, rest-is c d, parts-length present-form ws 11 have, parts-length present-form ws (11 + have * 10) (count - have))
 
     -- the main statement is no INIT
     module _ (k : main-of ws .kind ≡ kind-INIT → ⊥) where
@@ -152,11 +153,11 @@ module _ (n : ℕ) (ws : List ℕ) where
       of-init : (have : ℕ) → 0 ≡ have
           → missed have (statements ws (place-of 1) have) (count - have) (statements ws (place-of 1 + have * statement-words) (count - have))
           ≡ not (rule n (main-of ws) (statements ws (place-of 1) count))
-      unfolding statements in-order some
+      unfolding Rattle.format.specs.Statement.statements in-order some
       of-init have e =
           let d : List Statement = statements ws 11 count in
-          let rises : eqb count 0 ≡ (eqb count 0 && in-order two 0 d) = rw (parts-length ws 11 count) at (empty-rises two d) in
-          rw (← e, no-toss, no-spread [], no-size, no-second false, init-rule d, parts-length ws 11 count, sub-zero count)
+          let rises : eqb count 0 ≡ (eqb count 0 && in-order two 0 d) = rw (parts-length present-form ws 11 count) at (empty-rises two d) in
+          rw (← e, no-toss, no-spread [], no-size, no-second false, init-rule d, parts-length present-form ws 11 count, sub-zero count)
           (not-both (eqb count 0) (in-order two 0 d) ∙ ap not (sym rises))
 
     pub missed-is : (have : ℕ) → least (first-size (fields-at ws (place-of 0)) one) count ≡ have

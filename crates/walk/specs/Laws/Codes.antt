@@ -14,11 +14,13 @@ use Rattle.laws.specs.Bools.{neither, and-assoc, or-nothing}
 use Rattle.hmac.specs.declared.Prepared.{Prepared}
 use Rattle.hmac.specs.declared.Code.{Code}
 use Rattle.hmac.specs.Hmac.{code-from, short-code}
-use Rattle.format.specs.Numbers.{code-words, covered-words, statement-words}
+use Rattle.format.specs.Form.{present-form}
+use Rattle.format.specs.Numbers.{code-words}
 use Rattle.format.specs.declared.Fields.{Fields}
-use Rattle.format.specs.Words.{fields-of, formed}
-use Rattle.format.specs.Statement.{statement, code-at, covered, same-words, verifies}
+use Rattle.format.specs.Words.{fields-of}
+use Rattle.format.specs.Statement.{same-words}
 use Rattle.format.specs.Laws.Layout.{covered-formed, two-words}
+use Rattle.format.specs.Present.{covered-words, statement-words, formed, statement, code-at, covered, verifies}
 
 -- the code over two words
 pub two-coded : (p : Prepared) (a b : ℕ) → short-code p (a ∷ b ∷ []) ≡ record { number = 0; words = code-from p (a ∷ b ∷ []) }
@@ -29,14 +31,14 @@ two-coded p a b = refl
 pub failed : (p : Prepared) (t : List ℕ) (code : Code) (r : Bool) → length t ≡ statement-words → covered (statement t 0) ≡ getD t 0 0 ∷ getD t 1 0 ∷ []
     → code ≡ short-code p (take 2 (drop 0 t)) → r ≡ same-words (code-at t 0) (code .words)
     → not r ≡ not (verifies (code-from p) (statement t 0))
-unfolding verifies
+unfolding Rattle.format.specs.Statement.verifies
 failed p t code r h c e m =
     rw (m, e, two-words t 0 (omega (arith, h)), two-coded p (getD t 0 0) (getD t 1 0), c)
 
 -- a code is computed only where the fields are in place, and then covers the words read
 pub covers : (n : ℕ) (t : List ℕ) (s : Fields) (b o : Bool) → s ≡ fields-of (getD t 0 0) → b ≡ formed n s → (not b || o) ≡ false
     → covered (statement t 0) ≡ getD t 0 0 ∷ getD t 1 0 ∷ []
-covers n t s b o read good h = covered-formed n t 0 (sym (rw read at good) ∙ not-false b (neither (not b) o h .0))
+covers n t s b o read good h = covered-formed present-form n t 0 (sym (rw read at good) ∙ not-false b (neither (not b) o h .0))
 
 -- a second group has its size, or there is none and nothing follows
 pub chosen : (due : Bool) (rest size : ℕ) → (due && eqb rest size || not due && eqb rest 0) ≡ eqb rest (pick due size 0)

@@ -7,10 +7,8 @@ use native.Mathlib.Omega.{arith}
 use lib.Dec.{eqb, ltb}
 use Rattle.laws.specs.Pick.{pick}
 use Rattle.laws.specs.Bools.{both, neither, or-assoc, or-nothing}
-use Rattle.format.specs.Numbers.{place-of, statement-words}
-use Rattle.format.specs.Words.{formed}
-use Rattle.format.specs.Statement.{Statement, statement, statements, fields-at, verifies}
-use Rattle.format.specs.Bundle.{all-formed}
+use Rattle.format.specs.Statement.{Statement}
+use Rattle.format.specs.Present.{place-of, statement-words, formed, statement, statements, fields-at, verifies, all-formed}
 use Rattle.rules.specs.declared.Group.{Group}
 use Rattle.rules.specs.Rules.{some, some-D-GET, some-value, matches, in-order}
 use Rattle.walk.specs.declared.Findings.{Findings}
@@ -74,7 +72,7 @@ module _ (code : List ℕ → List ℕ) (n : ℕ) (g : Group) (question : ℕ) (
   -- 3
   pub finds-malformed : (k : ℕ) (f : Findings) (at : ℕ) → place-of (f .place) ≡ at → f .malformed ≡ false
       → walked code n g question ws f k .malformed ≡ not (all-formed n ws at k)
-  unfolding walked all-formed
+  unfolding walked Rattle.format.specs.Bundle.all-formed
   finds-malformed zero f at p h = h
   finds-malformed (suc k) f at p h =
       ap (λ (r : Findings). r .malformed) (onward f k h)
@@ -125,7 +123,7 @@ module _ (code : List ℕ → List ℕ) (n : ℕ) (g : Group) (question : ℕ) (
 
   pub finds : (k : ℕ) (f : Findings) (at : ℕ) → place-of (f .place) ≡ at → f .malformed ≡ false → all-formed n ws at k ≡ true
       → Finds code g question f (walked code n g question ws f k) k (statements ws at k)
-  unfolding walked statements in-order some all-formed
+  unfolding walked Rattle.format.specs.Statement.statements in-order some Rattle.format.specs.Bundle.all-formed
   finds zero f at p h a =
       record {
         place = omega arith;

@@ -2,7 +2,7 @@
 use mathlib.Core.Path.{_∙_}
 use borrow.Author.Needs.{needs}
 use Rattle.laws.specs.Pick.{pick}
-use Rattle.modules.specs.Counter.{no-module, making}
+use Rattle.modules.specs.Counter.{no-module}
 use Rattle.world.specs.Laws.Places.{low, high, at-inside, at-outside}
 use Rattle.world.proofs.module_at.Statement.{statement}
 use Rattle.world.proofs.module_at.Tie as tie
@@ -11,7 +11,7 @@ made-requires : tie.Need-made-requires
 made-requires c κs = search needs
 
 returns : tie.Need-returns
-unfolding making pick
+unfolding Rattle.modules.specs.Counter.making pick
 returns c = let a = c .before .before .args in
     c .made .ensures ∙ at-outside (a .t1) 7 (a .s) no-module (search needs) (c .before .if1 .taken)
 

@@ -1,7 +1,7 @@
 -- Where the number has no place the answer is the default; else it is what stands there.
 use mathlib.Core.Path.{_∙_}
 use borrow.Author.Needs.{needs}
-use Rattle.station.specs.Calls.{no-station}
+use Rattle.station.specs.Present.{no-station}
 use Rattle.world.specs.Laws.Places.{low, high, at-inside, at-outside}
 use Rattle.world.proofs.station_at.Statement.{statement}
 use Rattle.world.proofs.station_at.Tie as tie

@@ -15,8 +15,9 @@ use Rattle.modules.specs.declared.Module.{Module}
 use Rattle.modules.specs.Counter.{no-module}
 use Rattle.station.specs.declared.Station.{Station}
 use Rattle.station.specs.Machine.{stage-step}
-use Rattle.station.specs.Calls.{Returned, no-station, opening, giving}
+use Rattle.station.specs.Calls.{Returned}
 use Rattle.station.specs.Answers.{Answers}
+use Rattle.station.specs.Present.{no-station, opening, giving}
 use Rattle.world.specs.declared.Bundle.{Bundle}
 use Rattle.world.specs.declared.World.{World}
 use Rattle.world.specs.Valley.{most-n, most-bundles, no-bundle, group-of, at-number, module-at, station-at, bundle-at, the-question, jump-off, the-output, opens, after, shown-step, shown-decision, is-open, gives}

@@ -13,19 +13,22 @@ use Rattle.laws.specs.Pick.{pick, here}
 use Rattle.laws.specs.Bools.{join}
 use Rattle.laws.specs.All.{All, all-map, all-two}
 use Rattle.laws.specs.Sets.{bit}
+use Rattle.format.specs.Form.{present-form}
 use Rattle.format.specs.Group.{quorum}
-use Rattle.format.specs.Numbers.{bundle-words, code-words, most-statements, most-stations, output-words, statement-words}
-use Rattle.format.specs.Statement.{Statement, word-0, written}
+use Rattle.format.specs.Numbers.{code-words}
+use Rattle.format.specs.Statement.{Statement}
 use Rattle.format.specs.Laws.Shape.{formed-out}
 use Rattle.rules.specs.Rules.{Rising, some}
 use Rattle.station.specs.Machine.{held-of, those}
-use Rattle.station.specs.Words.{set-of, slot-of, slots-of, group-words, sites}
-use Rattle.format.specs.Bundle.{all-written, bundle-of, over}
+use Rattle.station.specs.Words.{set-of}
+use Rattle.format.specs.Bundle.{over}
 use Rattle.station.specs.Laws.ReadBack.{length-all}
 use Rattle.format.specs.Laws.ReadBack.{Proper, length-written}
+use Rattle.format.specs.Present.{bundle-words, most-statements, most-stations, output-words, statement-words, word-0, written, all-written, bundle-of}
 use Rattle.station.specs.Laws.Slots.{rising-above, below-not-held, bit-set, ones-set, set-low, slot-at, slot-held}
 use Rattle.station.specs.Laws.Pieces.{those-all, those-rising, take-rising}
 use Rattle.station.specs.Laws.Keep.{all-take}
+use Rattle.station.specs.Present.{slot-of, slots-of, group-words, sites}
 use Rattle.writer.specs.Written.{part, held-words, main-words, words-of, writable, lent-after, count-after}
 
 -- ---- a part of a list
@@ -53,7 +56,7 @@ InSlot slots s = part statement-words ((s .station - 1) * statement-words) slots
 
 gathered : (h : ℕ) (slots : List ℕ) (k i : ℕ) (c : List Statement) → Rising i c → All (λ s. s .station ≤ i + k) c
     → ((j : ℕ) → i ≤ j → bit h j ≡ held-of (suc j) c) → All (InSlot slots) c → held-words h slots i k ≡ all-written c
-unfolding held-words pick some all-written
+unfolding held-words pick some Rattle.format.specs.Bundle.all-written
 gathered h slots zero i [] r a b w = refl
 gathered h slots zero i (s ∷ c) r a b w = absurd (omega (arith, r .0, a .0))
 gathered h slots (suc k) i [] r a b w = rw (b i (omega arith)) (gathered h slots k (suc i) [] tt tt (λ j e. b j (omega arith)) tt)
@@ -85,27 +88,27 @@ pub held-written : (c : List Statement) (slots : List ℕ) → Rising 0 c → Al
 held-written c slots r a w = gathered (set-of c) slots sites 0 c r (all-map (λ t z. omega arith) c a) (λ j e. bit-set c r j) w
 
 -- the slots of the statements held have the words of each
-pub in-slots : (n : ℕ) (h : List Statement) → n ≤ most-stations → Rising 0 h → All (Proper n) h → All (InSlot (slots-of h 1 sites)) h
+pub in-slots : (n : ℕ) (h : List Statement) → n ≤ most-stations → Rising 0 h → All (Proper present-form n) h → All (InSlot (slots-of h 1 sites)) h
 in-slots n h top r a =
     all-map at h
-    (all-two (λ s. 0 < s .station) (λ s. Proper n s × (slot-of h (s .station) ≡ written s)) h (rising-above 0 h r)
-    (all-two (Proper n) (λ s. slot-of h (s .station) ≡ written s) h a (slot-held 0 h r)))
+    (all-two (λ s. 0 < s .station) (λ s. Proper present-form n s × (slot-of h (s .station) ≡ written s)) h (rising-above 0 h r)
+    (all-two (Proper present-form n) (λ s. slot-of h (s .station) ≡ written s) h a (slot-held present-form 0 h r)))
   where
-    at : (s : Statement) → (0 < s .station) × (Proper n s × (slot-of h (s .station) ≡ written s)) → InSlot (slots-of h 1 sites) s
+    at : (s : Statement) → (0 < s .station) × (Proper present-form n s × (slot-of h (s .station) ≡ written s)) → InSlot (slots-of h 1 sites) s
     at s p =
         let e : suc (s .station - 1) ≡ s .station = omega (arith, p .0) in
-        let low : s .station - 1 < sites = omega (arith, formed-out n s (p .1 .0 .formed) .high) in
+        let low : s .station - 1 < sites = omega (arith, formed-out present-form n s (p .1 .0 .formed) .high) in
         let d : drop ((s .station - 1) * 10) (slots-of h 1 sites) ≡ written s ++ slots-of h (suc (suc (s .station - 1))) (sites - suc (s .station - 1))
-        = slot-at n h (s .station - 1) a low ∙ ap (λ (l : List ℕ). l ++ slots-of h (suc (suc (s .station - 1))) (sites - suc (s .station - 1))) (ap (slot-of h) e ∙ p .1 .1) in
+        = slot-at present-form n h (s .station - 1) a low ∙ ap (λ (l : List ℕ). l ++ slots-of h (suc (suc (s .station - 1))) (sites - suc (s .station - 1))) (ap (slot-of h) e ∙ p .1 .1) in
         part-is 10 ((s .station - 1) * 10) (slots-of h 1 sites) (written s) (slots-of h (suc (suc (s .station - 1))) (sites - suc (s .station - 1)))
-        (length-written n s (p .1 .0)) d
+        (length-written present-form n s (p .1 .0)) d
 
 -- ---- a kept group
-pub group-written : (n : ℕ) (c : List Statement) (group rest : List ℕ) → All (Proper n) c → group ≡ all-written c ++ rest → part (length c * statement-words) 0 group ≡ all-written c
-group-written n c group rest a e = part-is (length c * 10) 0 group (all-written c) rest (length-all n c a) e
+pub group-written : (n : ℕ) (c : List Statement) (group rest : List ℕ) → All (Proper present-form n) c → group ≡ all-written c ++ rest → part (length c * statement-words) 0 group ≡ all-written c
+group-written n c group rest a e = part-is (length c * 10) 0 group (all-written c) rest (length-all present-form n c a) e
 
 all-written-append : (c d : List Statement) → all-written (c ++ d) ≡ all-written c ++ all-written d
-unfolding all-written
+unfolding Rattle.format.specs.Bundle.all-written
 all-written-append [] d = refl
 all-written-append (s ∷ c) d = ap (λ (x : List ℕ). written s ++ x) (all-written-append c d) ∙ sym (append-assoc (written s) (all-written c) (all-written d))
 
@@ -114,9 +117,9 @@ all-written-append (s ∷ c) d = ap (λ (x : List ℕ). written s ++ x) (all-wri
 pub record Certificate (n : ℕ) (first second : List Statement) (slots group : List ℕ) : Type 0 where
   pub top : n ≤ most-stations
   pub rising : Rising 0 first
-  pub proper : All (Proper n) first
+  pub proper : All (Proper present-form n) first
   pub slotted : All (InSlot slots) first
-  pub more-proper : All (Proper n) second
+  pub more-proper : All (Proper present-form n) second
   pub rest : List ℕ
   pub kept : group ≡ all-written second ++ rest
   pub few-kept : length second ≤ quorum sites
@@ -124,14 +127,14 @@ pub record Certificate (n : ℕ) (first second : List Statement) (slots group : 
 
 module _ (n : ℕ) (first second : List Statement) (slots group : List ℕ) (C : Certificate n first second slots group) where
   low : All (λ s. s .station ≤ most-stations) first
-  low = all-map (λ s p. omega (arith, formed-out n s (p .formed) .high, C .top)) first (C .proper)
+  low = all-map (λ s p. omega (arith, formed-out present-form n s (p .formed) .high, C .top)) first (C .proper)
 
   number : ones (set-of first) + length second ≡ length (first ++ second)
   number = omega (arith, ones-set first (C .rising), length-append first second)
 
   pub words-bundle : (s : Statement) → length (s .code) ≡ code-words
       → words-of (word-0 s) (s .question) (s .code) slots (set-of first) group (length second) ≡ bundle-of s (first ++ second)
-  unfolding words-of main-words bundle-of
+  unfolding words-of main-words Rattle.format.specs.Bundle.bundle-of
   words-bundle s e =
       let m : part 8 0 (s .code) ≡ s .code = part-whole 8 (s .code) e in
       let h : held-words (set-of first) slots 0 sites ≡ all-written first = held-written first slots (C .rising) low (C .slotted) in
@@ -168,7 +171,7 @@ pub alone : (c : List Statement) → [] ++ c ≡ c ++ []
 alone c = sym (append-nil c)
 
 -- ---- the certificates that a station writes
-module _ (n : ℕ) (h : List Statement) (top : n ≤ most-stations) (r : Rising 0 h) (a : All (Proper n) h) (second : List Statement) (b : All (Proper n) second)
+module _ (n : ℕ) (h : List Statement) (top : n ≤ most-stations) (r : Rising 0 h) (a : All (Proper present-form n) h) (second : List Statement) (b : All (Proper present-form n) second)
     (few : length second ≤ quorum sites) where
   -- the statements held, and a kept group behind them
   pub all-held : length h + length second ≤ most-statements → Certificate n h second (slots-of h 1 sites) (group-words second)
@@ -192,7 +195,7 @@ module _ (n : ℕ) (h : List Statement) (top : n ≤ most-stations) (r : Rising 
       record {
         top = top;
         rising = take-rising k 0 (those p h) (those-rising p 0 h r);
-        proper = all-take (Proper n) k (those p h) (all-map (λ s x. x .0) (those p h) (those-all (Proper n) p h a));
+        proper = all-take (Proper present-form n) k (those p h) (all-map (λ s x. x .0) (those p h) (those-all (Proper present-form n) p h a));
         slotted =
             all-take (InSlot (slots-of h 1 sites)) k (those p h)
             (all-map (λ s x. x .0) (those p h) (those-all (InSlot (slots-of h 1 sites)) p h (in-slots n h top r a)));
