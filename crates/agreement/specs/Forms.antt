@@ -3,7 +3,7 @@ use Prim.Native.Nat.{ℕ, _≤_}
 use mathlib.Core.List.{List}
 use Rattle.hmac.specs.Code.{hmac-code}
 use Rattle.format.specs.Form.{first-form, wide-form}
-use Rattle.agreement.specs.Demand.{Call, FewFaulty, Given, Claim}
+use Rattle.agreement.specs.Demand.{Call, FewFaulty, Given, Claim, Demand-3}
 use Rattle.agreement.specs.Theorem.{demand-3}
 
 -- document 01: "A group has n stations, 2 to 31"; ten words a statement, rounds to 65,535
@@ -15,3 +15,10 @@ of-first-form = demand-3 first-form
 pub of-wide-form : (key : List ℕ) (n : ℕ) → 2 ≤ n → n ≤ 31 → (cs : List Call) → Given wide-form hmac-code key n cs → FewFaulty wide-form hmac-code key n cs
     → Claim wide-form hmac-code key n cs
 of-wide-form = demand-3 wide-form
+
+-- each is the whole of demand 3 in its form: no premise is stronger than there, and nothing less is claimed
+pub first-form-whole : Demand-3 first-form hmac-code
+first-form-whole = of-first-form
+
+pub wide-form-whole : Demand-3 wide-form hmac-code
+wide-form-whole = of-wide-form

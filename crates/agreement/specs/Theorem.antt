@@ -34,6 +34,7 @@ use Rattle.station.specs.Laws.Keep.{same-step}
 use Rattle.station.specs.Laws.Pieces as P
 use Rattle.station.specs.Laws.Views.{conflicts, Nearly}
 use Rattle.station.specs.Returns.{unrefused}
+use Rattle.station.specs.Demand.{OfGroup}
 use Rattle.agreement.specs.Maths.Counting.{count-mono}
 use Rattle.agreement.specs.Maths.Log.{In, is, has, has-out, has-at, Supp, all-at}
 use Rattle.agreement.specs.Maths.Safe as Safe
@@ -43,7 +44,7 @@ use Rattle.agreement.specs.Maths.Took.{vote-out, one-more, none-there}
 use Rattle.agreement.specs.Laws.Effect.{plain-effect, toss-effect}
 use Rattle.agreement.specs.Laws.Line.{reads, AtSite, whole-came, Line, line-asked, line-low, line-named, line-names, line-open}
 use Rattle.agreement.specs.Maths.Standing.{Enough, Open}
-use Rattle.agreement.specs.Laws.Invariant.{Mine, start}
+use Rattle.agreement.specs.Laws.Invariant.{start}
 use Rattle.agreement.specs.Laws.Settings.{setting-known}
 use Rattle.agreement.specs.Laws.Run.{Inv, apart-step, open-step, give-step}
 use Rattle.agreement.specs.Maths.Votes.{is-vote, votes}
@@ -314,7 +315,7 @@ module _ (form : Form) where
         range-i : (1 ≤ i) × (i ≤ n)
         range-i = in-group cs g i k (p .line) (p .is)
 
-        mine : Mine form key n faulty i m
+        mine : OfGroup key n i m
         mine = I .logs .mods i (range-i .0) (range-i .1)
 
         -- what is known of the new statement and of those held

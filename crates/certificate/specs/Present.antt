@@ -6,29 +6,27 @@ use Rattle.laws.specs.Refusals.{Test}
 use Rattle.format.specs.Form.{present-form}
 use Rattle.format.specs.Statement.{Statement}
 use Rattle.rules.specs.declared.Which.{Which}
-use Rattle.certificate.specs.Check as Checks
-use Rattle.certificate.specs.Valid as Valids
 
 abbrev pub all-verify : (List ℕ → List ℕ) → List Statement → Bool
-all-verify = Checks.all-verify present-form
+all-verify = Rattle.certificate.specs.Check.all-verify present-form
 
 abbrev pub bundle-tests : (List ℕ → List ℕ) → ℕ → Which → List ℕ → List Test
-bundle-tests = Checks.bundle-tests present-form
+bundle-tests = Rattle.certificate.specs.Check.bundle-tests present-form
 
 abbrev pub check-tests : (List ℕ → List ℕ) → ℕ → Which → List ℕ → List Test
-check-tests = Checks.check-tests present-form
+check-tests = Rattle.certificate.specs.Check.check-tests present-form
 
 abbrev pub check-by : (List ℕ → List ℕ) → ℕ → Which → List ℕ → ℕ
-check-by = Checks.check-by present-form
+check-by = Rattle.certificate.specs.Check.check-by present-form
 
 abbrev pub judged : List ℕ → ℕ → Which → List ℕ → ℕ
-judged = Checks.judged present-form
+judged = Rattle.certificate.specs.Check.judged present-form
 
 abbrev pub checked : List ℕ → ℕ → List ℕ → ℕ
-checked = Checks.checked present-form
+checked = Rattle.certificate.specs.Check.checked present-form
 
 abbrev pub Bundle : ℕ → List ℕ → Type 0
-Bundle = Valids.Bundle present-form
+Bundle = Rattle.certificate.specs.Valid.Bundle present-form
 
 abbrev pub Valid : (List ℕ → List ℕ) → ℕ → List ℕ → Type 0
-Valid = Valids.Valid present-form
+Valid = Rattle.certificate.specs.Valid.Valid present-form

@@ -51,7 +51,7 @@ abbrev pub low-bits : Form → ℕ → ℕ
 low-bits first-form round = round
 low-bits wide-form round = 0
 
--- what follows words 0 and 1: the words behind them; "the round is the new word 2" and they follow it
+-- what stands after words 0 and 1: the given words; "the round is the new word 2", then the given words
 abbrev pub with-round : Form → ℕ → List ℕ → List ℕ
 with-round first-form round ws = ws
 with-round wide-form round ws = round ∷ ws

@@ -7,19 +7,18 @@ use Rattle.format.specs.Form.{present-form}
 use Rattle.format.specs.Statement.{Statement}
 use Rattle.modules.specs.declared.Module.{Module}
 use Rattle.sealed.specs.Sealed.{Coded}
-use Rattle.sealed.specs.Sealed as Codings
 
 abbrev pub signed : (List ℕ → List ℕ) → Statement → Statement
-signed = Codings.signed present-form
+signed = Rattle.sealed.specs.Sealed.signed present-form
 
 abbrev pub coding-tests : Module → List ℕ → Bool → List Test
-coding-tests = Codings.coding-tests present-form
+coding-tests = Rattle.sealed.specs.Sealed.coding-tests present-form
 
 abbrev pub coding : (List ℕ → List ℕ) → Module → Statement → List ℕ → ℕ → Coded
-coding = Codings.coding present-form
+coding = Rattle.sealed.specs.Sealed.coding present-form
 
 abbrev pub coding-plain : (List ℕ → List ℕ → List ℕ) → Module → List ℕ → Coded
-coding-plain = Codings.coding-plain present-form
+coding-plain = Rattle.sealed.specs.Sealed.coding-plain present-form
 
 abbrev pub coding-coin : (List ℕ → List ℕ → List ℕ) → Module → List ℕ → ℕ → Coded
-coding-coin = Codings.coding-coin present-form
+coding-coin = Rattle.sealed.specs.Sealed.coding-coin present-form

@@ -2,18 +2,18 @@
 -- last pair.
 use mathlib.Core.Path.{_≡_, refl, _∙_, ap}
 use mathlib.Core.Bool.{Bool, true, false, _&&_}
-use mathlib.Core.List.{List, [], _∷_, _++_}
+use mathlib.Core.List.{List, [], _∷_}
 use Prim.Native.Nat.{ℕ, _<_}
 use native.Mathlib.Omega.{arith}
 use lib.Dec.{eqb, ltb}
-use lib.ListN.{length, take, drop}
+use lib.ListN.{length, drop}
 use borrow.Author.Tests.{eqb-true, eqb-false, ltb-true}
 use Rattle.laws.specs.Pick.{pick}
 use Rattle.laws.specs.Bools.{never, both}
 use Rattle.laws.specs.Refusals.{Test, test, first-failed, all-passed}
-use Rattle.format.specs.Form.{Form, first-form, wide-form, covered-words, fields-at, statement-words}
+use Rattle.format.specs.Form.{Form, fields-at, statement-words}
 use Rattle.format.specs.Numbers.{out-of-range, code-words}
-use Rattle.format.specs.Statement.{Statement, statement, covered, step, well-formed, written, formed}
+use Rattle.format.specs.Statement.{Statement, statement, covered, step, well-formed, formed}
 use Rattle.format.specs.Laws.Layout.{formed-well}
 use Rattle.format.specs.Laws.Shape.{Shape, init, proposal, vote, formed-out, formed-in}
 use Rattle.modules.specs.declared.Module.{Module}
@@ -25,18 +25,10 @@ use Rattle.station.specs.Words.{Lengths}
 use Rattle.format.specs.Bundle.{bundle-of, all-written}
 use Rattle.station.specs.Calls.{returned, opening, giving, opening-outcome, giving-outcome, no-station}
 use Rattle.format.specs.Laws.ReadBack.{Proper}
+use Rattle.format.specs.Laws.Covered.{covered-front, covered-alone}
 use Rattle.station.specs.Laws.Views.{Opens, no-opening, begins, opens-view, Gives, refuses, holds-on, shuts, goes-on, enters, gives-view}
 use Rattle.station.specs.Returns.{unrefused, wrote, wrote-unrefused, sent-wrote}
 use Rattle.agreement.specs.Demand.{Action, opens, gives, codes, tosses, view, Entry, act, bundle-coded, statement-coded, coded-in, as-returned}
-
--- what a code covers stands in front
-front : (form : Form) (s : Statement) (x y : List ℕ) → take (covered-words form) (written form s ++ x ++ y) ≡ covered form s
-front first-form s x y = refl
-front wide-form s x y = refl
-
-alone : (form : Form) (s : Statement) → take (covered-words form) (written form s) ≡ covered form s
-alone first-form s = refl
-alone wide-form s = refl
 
 refused-silent : (k : ℕ) → unrefused k ≡ false → wrote k ≡ false
 refused-silent k e = go (wrote k) refl
@@ -80,7 +72,7 @@ module _ (form : Form) where
     logs-is i m t out (refused k) e = rw e
     logs-is i m t out (keeps k u) e = rw e
     logs-is i m t out (sends k s c u) e =
-        rw e (λ j. record { at = i; words = front form s (all-written form c) (drop (length (bundle-of form s c)) out) j } ∷ [])
+        rw e (λ j. record { at = i; words = covered-front form s (all-written form c) (drop (length (bundle-of form s c)) out) j } ∷ [])
 
     after-is : (m : Module) (t : Station) (out : List ℕ) (o : Outcome) → returned form m t out o .after ≡ after-of m o
     unfolding returned
@@ -131,7 +123,7 @@ module _ (form : Form) where
     coding-view m s ws i refusal = go (eqb refusal 0) refl
       where
         go : (b : Bool) → eqb refusal 0 ≡ b → Coding m s ws i refusal
-        go true e = is-coded (eqb-true _ _ e) (rw (e, alone form (signed form (mac (m .key)) s))) (rw e)
+        go true e = is-coded (eqb-true _ _ e) (rw (e, covered-alone form (signed form (mac (m .key)) s))) (rw e)
         go false e = not-coded (eqb-false _ _ e) (rw (e, e)) (rw e)
 
     -- what the tests of coding show of the words

@@ -11,15 +11,16 @@ use native.Mathlib.Omega.{arith}
 use Rattle.laws.specs.Pick.{pick}
 use Rattle.laws.specs.Bools.{never}
 use Rattle.laws.specs.All.{All, all-map, all-append}
-use Rattle.format.specs.Form.{Form, first-form, wide-form, most-stations, covered-words, low-bits, round-at, with-round-length}
+use Rattle.format.specs.Form.{Form, most-stations, covered-words, with-round-length}
 use Rattle.format.specs.Numbers.{kind-V, none, least-stations}
-use Rattle.format.specs.Statement.{Statement, statement, covered, step, word-0, code-at}
+use Rattle.format.specs.Statement.{Statement, statement, covered, step}
 use Rattle.format.specs.Laws.Shape.{Shape, init, proposal, vote, Formed, formed-out}
 use Rattle.modules.specs.declared.Module.{Module}
 use Rattle.modules.specs.Counter.{above, last-for, advanced, making}
 use Rattle.modules.specs.Above.{stays-below, coded-below}
+use Rattle.station.specs.Demand.{OfGroup}
 use Rattle.format.specs.Laws.ReadBack.{Proper, word-back}
-use Rattle.format.specs.Words.{low-of}
+use Rattle.format.specs.Laws.Covered.{covered-round, covered-code}
 use Rattle.agreement.specs.Maths.Log.{OtherPair, Distinct}
 use Rattle.agreement.specs.Maths.Safe.{Just, Split}
 use Rattle.agreement.specs.Maths.Just.{bare, just-more, split-more, bare-just}
@@ -31,21 +32,12 @@ use Rattle.agreement.specs.Demand.{Entry, member}
 abbrev pub NotAbove : Module → Statement → Type 0
 NotAbove m s = above (last-for m (s .question)) (s .question) (step s) ≡ false
 
--- the round and the code of the covered words of a statement
-covered-round : (form : Form) (s : Statement) → low-of (word-0 form s) ≡ low-bits form (s .round) → round-at form (covered form s) 0 ≡ s .round
-covered-round first-form s e = e
-covered-round wide-form s e = refl
-
-no-code : (form : Form) (s : Statement) → code-at form (covered form s) 0 ≡ []
-no-code first-form s = refl
-no-code wide-form s = refl
-
 module _ (form : Form) where
   -- the covered words of a statement, read again
   pub covered-back : (n : ℕ) (s : Statement) → n ≤ most-stations form → Proper form n s → statement form (covered form s) 0 ≡ bare s
   covered-back n s top p =
       let b = word-back form n s top (p .formed) in
-      λ i. record { kind = b .kind i; value = b .value i; flag = b .flag i; station = b .station i; round = covered-round form s (b .low) i; question = s .question; code = no-code form s i }
+      λ i. record { kind = b .kind i; value = b .value i; flag = b .flag i; station = b .station i; round = covered-round form s (b .low) i; question = s .question; code = covered-code form s i }
 
   -- the entry of a statement: it is read again, and is of its site
   pub entry-read : (n i : ℕ) (s : Statement) → n ≤ most-stations form → Proper form n s → reads form (entry form i s ∷ []) ≡ bare s ∷ []
@@ -66,18 +58,13 @@ module _ (form : Form) where
       same (vote a b c d e) = vote a b c d e
 
   module _ (key : List ℕ) (n : ℕ) (faulty : List ℕ) where
-    -- the module of site i, as it was made but for its last pair
-    pub record Mine (i : ℕ) (m : Module) : Type 0 where
-      pub same-key : m .key ≡ key
-      pub same-n : m .n ≡ n
-      pub same-number : m .station ≡ i
-
     -- `off` says of a site and a question that the site's stations on it do not jump: their none votes had two values before them
     abbrev HadBoth : (ℕ → ℕ → Type 0) → List Statement → Statement → Type 0
     HadBoth off l s = member (s .station) faulty ≡ false → off (s .station) (s .question) → s .kind ≡ kind-V → s .value ≡ none → Split n l (s .question) (s .round)
 
     pub record LogInv (off : ℕ → ℕ → Type 0) (f : ℕ → Module) (l : List Entry) : Type 0 where
-      pub mods : (i : ℕ) → 1 ≤ i → i ≤ n → Mine i (f i)
+      -- each site's module is as it was made but for its last pair
+      pub mods : (i : ℕ) → 1 ≤ i → i ≤ n → OfGroup key n i (f i)
       pub bound : All (λ s. NotAbove (f (s .station)) s) (reads form l)
       pub formed : All (Formed form n) (reads form l)
       pub sites : All (AtSite form) l
@@ -90,7 +77,7 @@ module _ (form : Form) where
     start off low top =
         record { mods = λ i lo hi. made i lo hi; bound = tt; formed = tt; sites = tt; distinct = tt; just = tt; split = tt }
       where
-        made : (i : ℕ) → 1 ≤ i → i ≤ n → Mine i (making form key n i .made)
+        made : (i : ℕ) → 1 ≤ i → i ≤ n → OfGroup key n i (making form key n i .made)
         made i lo hi =
             rw (le-leb 2 n low, le-leb n (most-stations form) top, le-leb 1 i lo, le-leb i n hi)
             (record { same-key = refl; same-n = refl; same-number = refl })
@@ -101,7 +88,7 @@ module _ (form : Form) where
     unchanged before off earlier f g es l none-there at e I =
         let same : reads form l ≡ reads form (es ++ l) = sym (reads-append form es l ∙ ap (λ (x : List Statement). x ++ reads form l) none-there) in
         record {
-          mods = λ i lo hi. subst (λ (m : Module). Mine i m) (e i) (I .mods i lo hi);
+          mods = λ i lo hi. subst (λ (m : Module). OfGroup key n i m) (e i) (I .mods i lo hi);
           bound = subst (λ (x : List Statement). All (λ s. NotAbove (g (s .station)) s) x) same (all-map (λ s b. subst (λ (m : Module). NotAbove m s) (e (s .station)) b) (reads form l) (I .bound));
           formed = subst (λ (x : List Statement). All (Formed form n) x) same (I .formed);
           sites = all-append (AtSite form) es l at (I .sites);
@@ -140,16 +127,16 @@ module _ (form : Form) where
           let w : above (last-for (f j) (s .question)) (s .question) (step s) ≡ false = sym (λ i. above (last-for (f ((x ∙ mine) i)) (y i)) (y i) ((z ∙ bare-step) i)) ∙ b in
           never _ w high
 
-      mods-on : (i : ℕ) → 1 ≤ i → i ≤ n → Mine i (g i)
+      mods-on : (i : ℕ) → 1 ≤ i → i ≤ n → OfGroup key n i (g i)
       mods-on i a b = go (eqb i j) refl
         where
-          go : (c : Bool) → eqb i j ≡ c → Mine i (g i)
+          go : (c : Bool) → eqb i j ≡ c → OfGroup key n i (g i)
           go true e =
               let x : i ≡ j = eqb-true i j e in
               let M = I .mods j lo hi in
-              subst (λ (z : ℕ). Mine z (g z)) (sym x) (subst (λ (m : Module). Mine j m) (sym now)
+              subst (λ (z : ℕ). OfGroup key n z (g z)) (sym x) (subst (λ (m : Module). OfGroup key n j m) (sym now)
               (record { same-key = M .same-key; same-n = M .same-n; same-number = M .same-number }))
-          go false e = subst (λ (m : Module). Mine i m) (sym (others i (eqb-false i j e))) (I .mods i a b)
+          go false e = subst (λ (m : Module). OfGroup key n i m) (sym (others i (eqb-false i j e))) (I .mods i a b)
 
       abbrev l2 : List Statement
       l2 = bare s ∷ reads form l

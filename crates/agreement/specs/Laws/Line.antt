@@ -11,7 +11,7 @@ use Rattle.laws.specs.Pick.{pick}
 use Rattle.laws.specs.Bools.{never, both}
 use Rattle.laws.specs.All.{All}
 use Rattle.laws.specs.Count.{count}
-use Rattle.format.specs.Form.{Form, first-form, wide-form, most-stations, covered-words, with-round, round-at, fields-at, statement-words, place-of, with-round-length}
+use Rattle.format.specs.Form.{Form, most-stations, covered-words, with-round, round-at, fields-at, statement-words, place-of, with-round-length}
 use Rattle.format.specs.Numbers.{none}
 use Rattle.format.specs.Group.{quorum}
 use Rattle.format.specs.Words.{station-of}
@@ -19,6 +19,7 @@ use Rattle.format.specs.Statement.{Statement, statement, statements, covered-at
 use Rattle.format.specs.Bundle.{all-formed}
 use Rattle.format.specs.Laws.Layout.{covered-formed, same-out, covered-taken}
 use Rattle.format.specs.Laws.Shape.{formed-out}
+use Rattle.format.specs.Laws.Covered.{covered-bare}
 use Rattle.station.specs.declared.Station.{Station}
 use Rattle.station.specs.Machine.{State}
 use Rattle.station.specs.Words as W
@@ -27,14 +28,9 @@ use Rattle.station.specs.Laws.Sane.{Sane, state-back}
 use Rattle.station.specs.Written.{lengths-of}
 use Rattle.agreement.specs.Maths.Votes.{votes}
 use Rattle.agreement.specs.Maths.Log.{In}
-use Rattle.agreement.specs.Maths.Just.{Coded, bare}
+use Rattle.agreement.specs.Maths.Just.{Coded}
 use Rattle.agreement.specs.Maths.Standing.{Enough, Open, Standing, standing-more}
 use Rattle.agreement.specs.Demand.{Entry, is-statement, logged, CodesCame}
-
--- the covered words alone, read: the statement but for its code
-bare-words : (form : Form) (ws : List ℕ) (at : ℕ) → statement form (getD ws at 0 ∷ getD ws (at + 1) 0 ∷ with-round form (round-at form ws at) []) 0 ≡ bare (statement form ws at)
-bare-words first-form ws at = refl
-bare-words wide-form ws at = refl
 
 module _ (form : Form) where
   -- the statements of a log: what other words were coded is left out
@@ -112,7 +108,7 @@ module _ (form : Form) where
     one-came k w h =
         let r = formed-out form n (statement form ws (1 + k * statement-words form)) w in
         record {
-          mem = subst (λ (s : Statement). In s (reads l)) (bare-words form ws (1 + k * statement-words form))
+          mem = subst (λ (s : Statement). In s (reads l)) (covered-bare form ws (1 + k * statement-words form))
               (in-reads l (station-of (getD ws (1 + k * statement-words form) 0)) (getD ws (1 + k * statement-words form) 0) (getD ws (1 + k * statement-words form + 1) 0) (round-at form ws (1 + k * statement-words form)) h);
           low = r .low;
           high = r .high;

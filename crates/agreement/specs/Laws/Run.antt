@@ -31,6 +31,7 @@ use Rattle.station.specs.Laws.Keep.{steps-0}
 use Rattle.station.specs.Laws.Views.{InRange, init-statement, Opens, no-opening, begins, opens-view, Gives, refuses, holds-on, shuts, goes-on, enters, gives-view, sent-statement, jump-statement, Accepted, Jumping, after, decision-then}
 use Rattle.station.specs.Returns.{unrefused, wrote, took, wrote-unrefused, sent-wrote, sent-took}
 use Rattle.station.specs.Laws.Fits.{own-proper, init-sane, sent-proper, jump-proper}
+use Rattle.station.specs.Demand.{OfGroup}
 use Rattle.agreement.specs.Maths.Safe.{Just, Split}
 use Rattle.agreement.specs.Maths.Just.{bare, backed-just}
 use Rattle.agreement.specs.Maths.Standing.{Standing}
@@ -39,7 +40,7 @@ use Rattle.agreement.specs.Laws.Lists.{same-line, module-now, module-oth
 use Rattle.agreement.specs.Laws.Effect.{entry, coded-at, Effect, silent, speaks, log-of, after-of, open-coded, open-after, give-coded, give-after}
 use Rattle.agreement.specs.Laws.Line.{reads, reads-append, AtSite, Line, line-more, open-line}
 use Rattle.agreement.specs.Laws.Giving.{kept-line, shut-line, sent-line, sent-just, sent-split, jump-line, jump-just}
-use Rattle.agreement.specs.Laws.Invariant.{Mine, LogInv, unchanged, log-add, entry-read, entry-at}
+use Rattle.agreement.specs.Laws.Invariant.{LogInv, unchanged, log-add, entry-read, entry-at}
 use Rattle.agreement.specs.Maths.Votes.{votes}
 use Rattle.agreement.specs.Demand.{Action, opens, gives, Call, call, site, action, apart, view, Entry, Lineage, Found, found, written-main, given-main, opened, gave, member, act, modules, answer, log, openings, lineage, Presents, JumpOff, CodesCame}
 
@@ -100,15 +101,15 @@ module _ (form : Form) where
 
   module _ (mac : List ℕ → List ℕ → List ℕ) (eight : (key ws : List ℕ) → length (mac key ws) ≡ code-words) (key : List ℕ) (n : ℕ) (low : least-stations ≤ n) (top : n ≤ most-stations form) (faulty : List ℕ) where
     -- a site's module is the group's: what holds by its words holds by the group's
-    of-mine : (i : ℕ) (m : Module) → Mine form key n faulty i m → (l : List Statement) (t : Station) (took : List Statement)
+    of-mine : (i : ℕ) (m : Module) → OfGroup key n i m → (l : List Statement) (t : Station) (took : List Statement)
         → Line form (m .n) l (m .station) t took → Line form n l i t took
     of-mine i m M l t took L = subst (λ (x : ℕ). Line form x l i t took) (M .same-n) (subst (λ (x : ℕ). Line form (m .n) l x t took) (M .same-number) L)
 
-    to-mine : (i : ℕ) (m : Module) → Mine form key n faulty i m → (l : List Statement) (t : Station) (took : List Statement)
+    to-mine : (i : ℕ) (m : Module) → OfGroup key n i m → (l : List Statement) (t : Station) (took : List Statement)
         → Line form n l i t took → Line form (m .n) l (m .station) t took
     to-mine i m M l t took L = subst (λ (x : ℕ). Line form (m .n) l x t took) (sym (M .same-number)) (subst (λ (x : ℕ). Line form x l i t took) (sym (M .same-n)) L)
 
-    came-mine : (i : ℕ) (m : Module) → Mine form key n faulty i m → (l : List Entry) (ws : List ℕ) → CodesCame form mac key n l ws → CodesCame form mac (m .key) (m .n) l ws
+    came-mine : (i : ℕ) (m : Module) → OfGroup key n i m → (l : List Entry) (ws : List ℕ) → CodesCame form mac key n l ws → CodesCame form mac (m .key) (m .n) l ws
     came-mine i m M l ws c = subst (λ (x : List ℕ). CodesCame form mac x n l ws) (sym (M .same-key)) c
 
     -- what is known of the stations of sites that are not named faulty
@@ -256,7 +257,7 @@ module _ (form : Form) where
       unfolding returned pick
       open-step = go (opening-outcome form mac mj q v setting out) refl (opens-view form mac mj q v setting out)
         where
-          mine : Mine form key n faulty j mj
+          mine : OfGroup key n j mj
           mine = I .logs .mods j lo hi
 
           refused-so : (k : ℕ) → opening-outcome form mac mj q v setting out ≡ refused k → unrefused k ≡ false → Inv (c ∷ cs)
@@ -324,7 +325,7 @@ module _ (form : Form) where
       abbrev before : List Statement
       before = reads form (log form mac key n cs)
 
-      mine-g : Mine form key n faulty j mg
+      mine-g : OfGroup key n j mg
       mine-g = I .logs .mods j lo hi
 
       abbrev given-by : Returned → ℕ → ℕ → Found

@@ -31,7 +31,7 @@ use Rattle.modules.specs.Present.{module-fits}
 use Rattle.station.specs.declared.Station.{Station}
 use Rattle.station.specs.Machine.{Next, refused, keeps, sends, began, shut, stage-of, jumps, moved, ended, taken, follows, closes, decision-at, held-of, conflict, stage-step, place-tests, step-tests}
 use Rattle.station.specs.Returns.{unrefused}
-use Rattle.station.specs.Demand.{by-opening, by-giving}
+use Rattle.station.specs.Demand.{by-opening, by-giving, OfGroup}
 use Rattle.station.specs.Written.{reached-good}
 use Rattle.station.specs.Laws.Fits.{opening-fits, giving-fits}
 use Rattle.station.specs.Laws.Sane.{Sane}
@@ -39,7 +39,6 @@ use Rattle.station.specs.Laws.FitSane.{fits-sane}
 use Rattle.station.specs.Laws.Views.{after, sent-statement, jump-statement, ten-tests}
 use Rattle.station.specs.Present.{state-of, fits, returned, opening, giving, station-tests, give-tests, Lengths, Reached}
 use Rattle.agreement.specs.Maths.Taking.{steps-up}
-use Rattle.agreement.specs.Laws.Invariant.{Mine}
 use Rattle.agreement.specs.Laws.Lists.{same-line}
 use Rattle.agreement.specs.Theorem.{claim, at, in-group, rest, rest-i, rest-sound}
 use Rattle.agreement.specs.Demand.{Call, call, gives, Lineage}
@@ -144,7 +143,7 @@ module _ (mac : List ℕ → List ℕ → List ℕ) (eight : (key ws : List ℕ)
       range-x : (1 ≤ x) × (x ≤ n)
       range-x = in-group present-form mac eight key n low top cs (P .given) x k (W .presents .line) (W .presents .is)
 
-      mine : Mine present-form key n (rest present-form mac eight key n low top cs (P .given) (P .few) x x) x m
+      mine : OfGroup key n x m
       mine = at present-form mac eight key n low top cs (P .given) (P .few) x x (W .sound) (W .sound) .logs .mods x (range-x .0) (range-x .1)
 
       up-t : Up mac eight key n low top cs x t

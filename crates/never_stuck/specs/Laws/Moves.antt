@@ -24,9 +24,9 @@ use Rattle.station.specs.Laws.Sane.{state-back}
 use Rattle.station.specs.Laws.Fits.{sent-sane, kept-sane, jump-sane}
 use Rattle.station.specs.Laws.Views.{Accepted, Jumping, sent-statement, jump-statement, Gives, refuses, holds-on, shuts, goes-on, enters, gives-view}
 use Rattle.station.specs.Present.{state-of, returned, giving, giving-outcome, Lengths}
-use Rattle.agreement.specs.Laws.Invariant.{Mine}
+use Rattle.station.specs.Demand.{OfGroup}
 use Rattle.agreement.specs.Laws.Lists.{module-now}
-use Rattle.agreement.specs.Theorem.{at, in-group, rest}
+use Rattle.agreement.specs.Theorem.{at, in-group}
 use Rattle.agreement.specs.Demand.{Call, call, gives}
 use Rattle.agreement.specs.Present.{modules, answer, Presents, Sound}
 use Rattle.never_stuck.specs.Claim.{room, Waits}
@@ -74,7 +74,7 @@ module _ (mac : List ℕ → List ℕ → List ℕ) (eight : (key ws : List ℕ)
     pub presents-then : Presents mac key n (g ∷ cs) x k then
     presents-then = presents-now mac key n cs x k t ws coin room p un
 
-    mine : Mine present-form key n (rest present-form mac eight key n low top cs (P .given) (P .few) x x) x (modules mac key n cs x)
+    mine : OfGroup key n x (modules mac key n cs x)
     mine = at present-form mac eight key n low top cs (P .given) (P .few) x x (waits .sound) (waits .sound) .logs .mods x (range-x .0) (range-x .1)
 
     abbrev mm : Module

@@ -47,7 +47,6 @@ use Rattle.station.specs.Present.{state-of, returned, opening, giving, opening-
 use Rattle.agreement.specs.Maths.Just.{Coded}
 use Rattle.agreement.specs.Laws.Line.{Line, reads}
 use Rattle.agreement.specs.Laws.Giving.{parts-coded, given-coded}
-use Rattle.agreement.specs.Laws.Invariant.{Mine}
 use Rattle.agreement.specs.Laws.Lists.{module-now, module-other, module-same, lineage-other, lineage-refused}
 use Rattle.agreement.specs.Laws.Run.{Inv}
 use Rattle.agreement.specs.Theorem.{inv, AllSound}
@@ -60,7 +59,7 @@ use Rattle.never_stuck.specs.Laws.Walk.{Up, Walk, up-later, up-past, sti
 module _ (mac : List ℕ → List ℕ → List ℕ) (eight : (key ws : List ℕ) → length (mac key ws) ≡ code-words) (key : List ℕ) (n : ℕ) (low : least-stations ≤ n) (top : n ≤ most-stations) where
   -- ---- a call at the site itself
   module _ (faulty : List ℕ) (cs : List Call) (I : Inv present-form mac eight key n low top faulty cs) (i : ℕ) (lo : 1 ≤ i) (hi : i ≤ n) (h : member i faulty ≡ false) (w : Walk mac eight key n low top cs i) where
-    mine : Mine present-form key n faulty i (modules mac key n cs i)
+    mine : OfGroup key n i (modules mac key n cs i)
     mine = I .logs .mods i lo hi
 
     abbrev mm : Module

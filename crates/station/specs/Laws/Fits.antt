@@ -109,8 +109,8 @@ module _ (form : Form) where
   decision-before n number t S = S .decision
 
   -- a round that is not the last is below it
-  more : (r : ℕ) → r ≤ last-round form → eqb r (last-round form) ≡ false → r < last-round form
-  more r x y = omega (arith, eqb-false r (last-round form) y)
+  below-last : (r : ℕ) → r ≤ last-round form → eqb r (last-round form) ≡ false → r < last-round form
+  below-last r x y = omega (arith, eqb-false r (last-round form) y)
 
   -- ---- what follows is ready, and backed
   module _ (n : ℕ) (k : State) (F : Full form n k) (coin : ℕ) (bit : coin < 2) where
@@ -118,7 +118,7 @@ module _ (form : Form) where
     unfolding follows
     ready Gathering e c = inits-ready form n k F e
     ready (Proposing r f) e c = votes-ready form n k F (r .0) f e
-    ready (Voting r) e c = proposals-ready form n k F (r .0) e (more (r .0) (subst (InRounds form) e (F .rounds) .1) c) coin bit
+    ready (Voting r) e c = proposals-ready form n k F (r .0) e (below-last (r .0) (subst (InRounds form) e (F .rounds) .1) c) coin bit
 
     pub backed : Given (k .held) → (g : Stage) → k .stage ≡ g → closes (last-round form) g ≡ false → (s : Statement)
         → s .kind ≡ follows n g k coin .kind → s .value ≡ follows n g k coin .value → s .flag ≡ follows n g k coin .flag → s .round ≡ follows n g k coin .round
@@ -129,7 +129,7 @@ module _ (form : Form) where
     backed early (Voting p) e c s a b d r = go (ltb (carried (k .held)) none) refl
       where
         top : p .0 < last-round form
-        top = more (p .0) (subst (InRounds form) e (F .rounds) .1) c
+        top = below-last (p .0) (subst (InRounds form) e (F .rounds) .1) c
 
         go : (z : Bool) → ltb (carried (k .held)) none ≡ z → Backed n s (after-votes (p .0) k coin .first ++ after-votes (p .0) k coin .second)
         go true q =

@@ -60,9 +60,6 @@ find P j (s ∷ h) a e = go (eqb (s .station) j) refl e (find P j h (a .1))
 getD-at : (ws : List ℕ) (at : ℕ) (l : List ℕ) → drop at ws ≡ l → getD ws at 0 ≡ getD l 0 0
 getD-at ws at l e = sym (getD-drop at ws 0 0 ∙ ap (λ (k : ℕ). getD ws k 0) (add-zero at)) ∙ ap (λ (x : List ℕ). getD x 0 0) e
 
-getD-next : (ws : List ℕ) (at : ℕ) (l : List ℕ) → drop at ws ≡ l → getD ws (at + 1) 0 ≡ getD l 1 0
-getD-next ws at l e = sym (getD-drop at ws 1 0) ∙ ap (λ (x : List ℕ). getD x 1 0) e
-
 pub zeros-drop : (ws : List ℕ) (at k : ℕ) → zeros ws at k ≡ zeros (drop at ws) 0 k
 unfolding zeros
 zeros-drop ws at zero = refl
