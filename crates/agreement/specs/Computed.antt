@@ -7,7 +7,7 @@ use mathlib.Core.Path.{_≡_, refl, sym, _∙_, subst}
 use native.Mathlib.Omega.{arith}
 use lib.Count.{ones}
 use lib.Dec.{eqb, leb}
-use lib.ListN.{length, getD, take}
+use lib.ListN.{length, getD}
 use borrow.Author.Tests.{eqb-true, eqb-false, eq-eqb, leb-true}
 use Rattle.laws.specs.Pick.{pick}
 use Rattle.laws.specs.Bools.{never, both}
@@ -97,6 +97,11 @@ implied : (a b : Bool) → (not a || b) ≡ true → a ≡ true → b ≡ true
 implied true b h p = h
 implied false b h p = never false refl p
 
+allowed : (a b : Bool) → (b || not a) ≡ true → a ≡ true → b ≡ true
+allowed a true h p = refl
+allowed true false h p = h
+allowed false false h p = never false refl p
+
 denied : (a : Bool) → not a ≡ true → a ≡ true → ⊥
 denied true h p = never false refl h
 denied false h p = never false refl p
@@ -141,13 +146,10 @@ there-out nothing e = never false refl e
 there-out (found l) e = refl
 
 module _ (mac : List ℕ → List ℕ → List ℕ) (key : List ℕ) (n : ℕ) where
-  -- what the last call of a list returned, and the words of the bundle that it wrote
+  -- what the last call of a list returned
   abbrev pub last : List Call → Returned
   last [] = record { number = 0; count = 0; station = no-station; after = making key n 0 .made; lent = [] }
   last (c ∷ cs) = answer mac key n cs c
-
-  abbrev pub written : List Call → List ℕ
-  written cs = take (last cs .count) (last cs .lent)
 
   -- what each call answered, the newest first
   abbrev pub numbers : List Call → List ℕ
@@ -240,7 +242,7 @@ module _ (mac : List ℕ → List ℕ → List ℕ) (key : List ℕ) (n : ℕ) w
   pub few-out : (faulty : List ℕ) (cs : List Call) → few faulty cs ≡ true → FewFaulty mac key n cs
   few-out faulty cs e = record { faulty = faulty; few = leb-true _ _ (both (below (but faulty cs) n) _ e .1); others = others-out faulty cs e }
 
-  -- ---- the premise on settings: each opening on the question, at the sites that a test takes, brings 0
+  -- ---- the premise on settings: each opening on the question, at the sites that a test takes, brings 0 or is refused
   abbrev brings-off : ℕ → View → Bool
   brings-off question (starting q jump) = not (eqb q question) || eqb jump 0
   brings-off question (going-on k t ws) = true
@@ -253,14 +255,16 @@ module _ (mac : List ℕ → List ℕ → List ℕ) (key : List ℕ) (n : ℕ) w
 
   unfoldable pub off : (ℕ → Bool) → ℕ → List Call → Bool
   off at question [] = true
-  off at question (c ∷ cs) = off at question cs && (not (at (site c)) || brings-off question (view (action c)))
+  off at question (c ∷ cs) =
+      off at question cs && (not (at (site c)) || (brings-off question (view (action c)) || not (unrefused (answer mac key n cs c .number))))
 
   pub off-out : (at : ℕ → Bool) (question : ℕ) (cs : List Call) → off at question cs ≡ true → (i : ℕ) → at i ≡ true → JumpOff mac key n i question cs
   unfolding off Rattle.agreement.specs.Demand.JumpOff
   off-out at question [] e i a = tt
   off-out at question (c ∷ cs) e i a =
       let h = both (off at question cs) _ e in (
-        (λ here done. brings-off-out question (view (action c)) (implied (at (site c)) _ (h .1) (subst (λ (j : ℕ). at j ≡ true) (sym here) a))),
+        (λ here done. brings-off-out question (view (action c))
+            (allowed (unrefused (answer mac key n cs c .number)) _ (implied (at (site c)) _ (h .1) (subst (λ (j : ℕ). at j ≡ true) (sym here) a)) done)),
         off-out at question cs (h .0) i a,
       )
 
@@ -272,6 +276,10 @@ module _ (mac : List ℕ → List ℕ → List ℕ) (key : List ℕ) (n : ℕ) w
   decides-out cs i k question v round b e =
       let h = both (there (lineage mac key n cs i k)) _ e in
       record { line = line cs i k; is = there-out (lineage mac key n cs i k) (h .0); bit = b; round = round; enough = leb-true _ _ (h .1) }
+
+  -- a station that decides is there
+  pub decides-there : (cs : List Call) (i k question v : ℕ) → Decides mac key n cs i k question v → lineage mac key n cs i k ≡ found (line cs i k)
+  decides-there cs i k question v d = there-out (lineage mac key n cs i k) (subst (λ (f : Found). there f ≡ true) (sym (d .is)) refl)
 
 -- ---- all that the tests compute by
 unfoldable pub computes : Unit {0}

@@ -20,7 +20,7 @@ use Rattle.sealed.specs.Sealed.{Coded, coding-plain, coding-coin}
 use Rattle.station.specs.declared.Station.{Station}
 use Rattle.station.specs.Calls.{Returned, opening, giving, no-station}
 use Rattle.station.specs.Words.{Lengths}
-use Rattle.station.specs.Returns.{unrefused, wrote, took}
+use Rattle.station.specs.Returns.{unrefused, wrote, took-given}
 use Rattle.agreement.specs.Maths.Votes.{votes}
 
 -- ---- the list
@@ -103,11 +103,11 @@ module _ (form : Form) where
   written-main r = pick (wrote (r .number)) (main-of form (r .lent) ∷ []) []
 
   abbrev pub given-main : Returned → List ℕ → List Statement
-  given-main r ws = pick (took (r .number)) (main-of form ws ∷ []) []
+  given-main r ws = pick (took-given (r .number)) (main-of form ws ∷ []) []
 
   -- an opening that is not refused starts a station's history; a giving goes on with it
-  abbrev pub opened : Returned → Found
-  opened r = found (record { present = r .station; took = written-main r })
+  abbrev pub started : Returned → Found
+  started r = found (record { present = r .station; took = written-main r })
 
   abbrev pub gave : Returned → List ℕ → Found → Found
   gave r ws nothing = nothing
@@ -115,7 +115,7 @@ module _ (form : Form) where
 
   -- by the view likewise: the history of the site's station k, where so many openings were before
   abbrev pub went : View → Bool → Returned → ℕ → ℕ → Found → Found
-  went (starting question jump) now r openings k l = pick (now && eqb openings k) (opened r) l
+  went (starting question jump) now r openings k l = pick (now && eqb openings k) (started r) l
   went (going-on opening t ws) now r openings k l = pick (now && eqb opening k) (gave r ws l) l
   went apart now r openings k l = l
 

@@ -1,6 +1,5 @@
 -- A list of calls that an attacker would write, within the premises of demand 3: n is 3, and site 3 is faulty. It never codes an INIT, and yet makes a
 -- proposal of 1 and a none vote that rests on it. Site 1 takes that vote, and decides a round later than site 2. All is computed from the definitions.
--- The code is a toy one, the covered words and zeros, so that the checker can compute it; `claim` takes any code of eight words.
 use Prim.Native.Nat.{ℕ, _+_, _*_, _^_, _≤_}
 use mathlib.Core.Bool.{Bool, true, false, _&&_}
 use mathlib.Core.List.{List, [], _∷_, _++_}
@@ -9,9 +8,9 @@ use native.Mathlib.Omega.{arith}
 use lib.ListN.{getD, take, replicate}
 use Rattle.laws.specs.Count.{count}
 use Rattle.format.specs.Form.{present-form}
-use Rattle.format.specs.Numbers.{kind-P, kind-V, none, D-GET, R-GET, code-words}
+use Rattle.format.specs.Numbers.{kind-P, kind-V, none, D-GET, R-GET}
 use Rattle.format.specs.Group.{backing}
-use Rattle.format.specs.Present.{statement-words, output-words, words-at, main-of}
+use Rattle.format.specs.Present.{statement-words, words-at, main-of}
 use Rattle.rules.specs.declared.Which.the-variants.{Any}
 use Rattle.certificate.specs.Present.{check-by}
 use Rattle.station.specs.declared.Stage.the-variants.{Gathering}
@@ -19,33 +18,27 @@ use Rattle.station.specs.declared.Station.{Station}
 use Rattle.station.specs.Present.{kept-words}
 use Rattle.agreement.specs.Maths.Votes.{votes}
 use Rattle.agreement.specs.Demand.{opens, gives, codes, tosses, Call, call, member}
+use Rattle.agreement.specs.Toy as Toy
+use Rattle.agreement.specs.Toy.{toy, toy-eight, out, to-code}
 use Rattle.agreement.specs.Prefix.{given-before, sound-before}
-use Rattle.agreement.specs.Theorem.{claim}
+use Rattle.agreement.specs.Theorem.{demand-3-by}
 use Rattle.agreement.specs.FirstVotes.{names-proposer, FirstVote, first-votes-by}
-use Rattle.agreement.specs.Computed.{computes, last, written, numbers, line, present, given, given-out, few, others-out, few-out, off-out, decides, decides-out}
+use Rattle.agreement.specs.Computed.{computes, last, numbers, line, present, given, given-out, few, others-out, few-out, off-out, decides, decides-out}
 use Rattle.agreement.specs.Present.{proposed, log, Sound, AllOff, FewFaulty, CodesCame, Given, Decides, Claim}
 
-abbrev pub toy : List ℕ → List ℕ → List ℕ
-toy key ws = getD ws 0 0 ∷ getD ws 1 0 ∷ 0 ∷ 0 ∷ 0 ∷ 0 ∷ 0 ∷ 0 ∷ []
-
 -- ---- what the calls bring
-abbrev pub out : List ℕ
-out = replicate output-words 0
-
--- the list with one call more: a site gives words to its first station, as the last call on that station returned it
 abbrev pub give : ℕ → List ℕ → ℕ → List Call → List Call
-give i ws coin cs = call i (gives 0 (present toy [] 3 cs i 0) ws coin out) ∷ cs
+give = Toy.give 3
 
--- the bundle that the last call of a list wrote; all the words that it left in its output
 abbrev pub bundle : List Call → List ℕ
-bundle cs = written toy [] 3 cs
+bundle = Toy.bundle 3
 
 abbrev pub lent : List Call → List ℕ
-lent cs = last toy [] 3 cs .lent
+lent = Toy.lent 3
 
 -- a statement of station 3 on question 1, to be coded
-abbrev pub of-3 : ℕ → ℕ → ℕ → ℕ → List ℕ
-of-3 kind value flag round = (kind * 2 ^ 30 + value * 2 ^ 28 + flag * 2 ^ 27 + 3 * 2 ^ 16 + round) ∷ 1 ∷ replicate code-words 0
+abbrev pub of-3 : (kind value flag round : ℕ) → List ℕ
+of-3 = to-code 3 1
 
 -- a station of site 3 on question 2 that no call returned: it holds an INIT of station 3 with value 1, which no module coded
 abbrev pub forged : Station
@@ -127,21 +120,25 @@ calls-14 = give 2 (bundle calls-10) 1 calls-13
 abbrev pub calls-15 : List Call
 calls-15 = give 1 (bundle calls-14) 1 calls-14
 
--- 12: site 2 brings its station of before its decision, and is given the same V again
+-- 20: site 2 is given site 1's V of round 2, and so has q votes for 0 of that round too
 abbrev pub calls-16 : List Call
-calls-16 = call 2 (gives 0 (present toy [] 3 calls-10 2 0) (bundle calls-7) 1 out) ∷ calls-15
+calls-16 = give 2 (bundle calls-13) 1 calls-15
+
+-- 12: site 2 brings its station of before its decision, and is given the same V again
+abbrev pub calls-17 : List Call
+calls-17 = call 2 (gives 0 (present toy [] 3 calls-10 2 0) (bundle calls-7) 1 out) ∷ calls-16
 
 -- 20: site 1 opens on question 2 with 1
-abbrev pub calls-17 : List Call
-calls-17 = call 1 (opens 2 1 0 out) ∷ calls-16
+abbrev pub calls-18 : List Call
+calls-18 = call 1 (opens 2 1 0 out) ∷ calls-17
 
 -- 20: site 3 brings the forged station, and is given that INIT
 abbrev pub example : List Call
-example = call 3 (gives 0 forged (bundle calls-17) 1 out) ∷ calls-17
+example = call 3 (gives 0 forged (bundle calls-18) 1 out) ∷ calls-18
 
 -- the numbers, the newest first as the calls are
 abbrev pub answers : List ℕ
-answers = 20 ∷ 20 ∷ 12 ∷ 21 ∷ 20 ∷ 20 ∷ 0 ∷ 21 ∷ 20 ∷ 0 ∷ 20 ∷ 20 ∷ 20 ∷ 20 ∷ 0 ∷ 5 ∷ 20 ∷ 20 ∷ []
+answers = 20 ∷ 20 ∷ 12 ∷ 20 ∷ 21 ∷ 20 ∷ 20 ∷ 0 ∷ 21 ∷ 20 ∷ 0 ∷ 20 ∷ 20 ∷ 20 ∷ 20 ∷ 0 ∷ 5 ∷ 20 ∷ 20 ∷ []
 
 -- ---- what is computed of the list, all at once, since to compute the list again takes as long again
 record Facts : Type 0 where
@@ -150,6 +147,7 @@ record Facts : Type 0 where
   few : Bool
   first : Bool
   second : Bool
+  again : Bool
   in-round-1 : ℕ
   held-unbacked : Bool
   proposed : ℕ
@@ -163,13 +161,14 @@ facts cs =
       few = few toy [] 3 (3 ∷ []) cs;
       first = decides toy [] 3 cs 2 0 1 0 1;
       second = decides toy [] 3 cs 1 0 1 0 2;
+      again = decides toy [] 3 cs 2 0 1 0 2;
       in-round-1 = count (votes (line toy [] 3 cs 1 0 .took) 1 1 0) 3;
       held-unbacked = votes (line toy [] 3 cs 1 0 .took) 1 1 none 3;
       proposed = count (proposed (log toy [] 3 cs) 1 1) 3;
       vote = check-by (toy []) 3 Any (bundle calls-7) ∷ main-of (bundle calls-7) .kind ∷ main-of (bundle calls-7) .round ∷ main-of (bundle calls-7) .value ∷ main-of (bundle calls-7) .question ∷ [];
     }
 
-computed : facts example ≡ record { numbers = answers; given = true; few = true; first = true; second = true; in-round-1 = 1; held-unbacked = true; proposed = 0; vote = 0 ∷ kind-V ∷ 1 ∷ 0 ∷ 1 ∷ [] }
+computed : facts example ≡ record { numbers = answers; given = true; few = true; first = true; second = true; again = true; in-round-1 = 1; held-unbacked = true; proposed = 0; vote = 0 ∷ kind-V ∷ 1 ∷ 0 ∷ 1 ∷ [] }
 unfolding computes
 computed = refl
 
@@ -181,19 +180,19 @@ pub record Answered : Type 0 where
   pub first-decision : last toy [] 3 calls-11 .number ≡ 21
   pub toss : last toy [] 3 calls-12 .number ≡ 0
   pub second-decision : last toy [] 3 calls-15 .number ≡ 21
-  pub old-station : last toy [] 3 calls-16 .number ≡ 12
-  pub other-question : last toy [] 3 calls-17 .number ≡ 20
+  pub old-station : last toy [] 3 calls-17 .number ≡ 12
+  pub other-question : last toy [] 3 calls-18 .number ≡ 20
   pub forged-station : last toy [] 3 example .number ≡ 20
 
 pub answered : Answered
 answered =
     record {
       all = ap (λ (f : Facts). f .numbers) computed;
-      damaged-code = at 15;
-      none-vote = at 8;
-      first-decision = at 7;
-      toss = at 6;
-      second-decision = at 3;
+      damaged-code = at 16;
+      none-vote = at 9;
+      first-decision = at 8;
+      toss = at 7;
+      second-decision = at 4;
       old-station = at 2;
       other-question = at 1;
       forged-station = at 0;
@@ -220,7 +219,7 @@ all-off i low high sound = off-out toy [] 3 (λ j. true) 1 example refl i refl
 -- the toss was coded
 faulty-3 : Sound toy [] 3 3 example → ⊥
 unfolding Rattle.agreement.specs.Demand.Sound
-faulty-3 s = sound-before toy [] 3 3 (take 6 example) calls-12 s .0 refl (answered .toss)
+faulty-3 s = sound-before toy [] 3 3 (take 7 example) calls-12 s .0 refl (answered .toss)
 
 -- ---- the vote of round 1 that site 1 sent in calls-7 and site 2 is given in calls-11
 first-vote : FirstVote toy [] 3 (bundle calls-7) 1 0
@@ -231,7 +230,7 @@ first-vote = record { valid = at 0; kind = at 1; round = at 2; value = at 3; bit
 
 vote-came : CodesCame toy [] 3 (log toy [] 3 calls-10) (bundle calls-7)
 unfolding Rattle.agreement.specs.Demand.Given
-vote-came = given-before toy [] 3 (take 7 example) calls-11 within .1 .0 .1
+vote-came = given-before toy [] 3 (take 8 example) calls-11 within .1 .0 .1
 
 -- ---- all of it: a list within the premises, for which the claim therefore holds
 pub record Witness (cs : List Call) : Type 1 where
@@ -246,6 +245,10 @@ pub record Witness (cs : List Call) : Type 1 where
   pub second : Decides toy [] 3 cs 1 0 1 0
   pub second-round : second .round ≡ 2
   pub not-before : count (votes (second .line .took) 1 1 0) 3 ≡ 1
+  -- site 2 has q votes for 0 of round 2 as well: one station's decisions agree too
+  pub again : Decides toy [] 3 cs 2 0 1 0
+  pub again-round : again .round ≡ 2
+  pub one-station : (v w : ℕ) → Decides toy [] 3 cs 2 0 1 v → Decides toy [] 3 cs 2 0 1 w → v ≡ w
   -- no sound site has jump on, so that 0 has its backing, which is 2; no site proposed 1 on question 1, and site 1's station took station 3's none vote of round 1
   pub off : AllOff toy [] 3 cs 1
   pub backed : backing 3 0 ≤ count (proposed (log toy [] 3 cs) 1 0) 3
@@ -269,6 +272,9 @@ witness =
       first-round = refl;
       second = decides-out toy [] 3 example 1 0 1 0 2 (omega arith) (ap (λ (f : Facts). f .second) computed);
       second-round = refl;
+      again = decides-out toy [] 3 example 2 0 1 0 2 (omega arith) (ap (λ (f : Facts). f .again) computed);
+      again-round = refl;
+      one-station = λ v w. claimed .agreement 2 2 0 0 1 v w (others 2 (omega arith) (omega arith) refl) (others 2 (omega arith) (omega arith) refl);
       not-before = ap (λ (f : Facts). f .in-round-1) computed;
       off = all-off;
       backed = claimed .backed 2 0 1 0 (others 2 (omega arith) (omega arith) refl) all-off (decides-out toy [] 3 example 2 0 1 0 1 (omega arith) (ap (λ (f : Facts). f .first) computed));
@@ -280,4 +286,4 @@ witness =
     }
   where
     claimed : Claim toy [] 3 example
-    claimed = claim present-form toy (λ key ws. refl) [] 3 (omega arith) (omega arith) example within few-faulty
+    claimed = demand-3-by present-form toy toy-eight [] 3 (omega arith) (omega arith) example within few-faulty

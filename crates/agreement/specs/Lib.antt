@@ -6,6 +6,8 @@ pub mod Theorem
 pub mod Forms
 pub mod FirstVotes
 pub mod Computed
+pub mod Toy
 pub mod Example
+pub mod Edges
 pub mod Unbacked
 pub mod Laws

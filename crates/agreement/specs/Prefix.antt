@@ -15,7 +15,7 @@ use Rattle.station.specs.Calls.{Returned}
 use Rattle.agreement.specs.Maths.Counting.{count-mono}
 use Rattle.agreement.specs.Maths.Votes.{votes}
 use Rattle.agreement.specs.Demand.{Call, action, View, starting, going-on, apart, view, Lineage, Found, nothing, found, counted}
-use Rattle.agreement.specs.Present.{written-main, given-main, opened, gave, went, answer, unrefused-at, openings, lineage, Sound, FewFaulty, Given, Decides}
+use Rattle.agreement.specs.Present.{written-main, given-main, started, gave, went, answer, unrefused-at, openings, lineage, Sound, FewFaulty, Given, Decides}
 
 -- what is among some statements is among more of them
 some-behind : (p : Statement → Bool) (new l : List Statement) → some p l ≡ true → some p (new ++ l) ≡ true
@@ -66,12 +66,12 @@ and-false false = refl
 
 -- both, by the view of the call
 there-by : (v : View) (now : Bool) (r : Returned) (o k : ℕ) (f : Found) (l : Lineage) → ((l : Lineage) → f ≡ found l → k < o) → went v now r o k f ≡ found l → k < counted v now o
-there-by (starting q j) now r o k f l h e = opened-there now o k (opened r) f l h e
+there-by (starting q j) now r o k f l h e = opened-there now o k (started r) f l h e
 there-by (going-on j t ws) now r o k f l h e = given-there (now && eqb j k) r ws f l h e
 there-by apart now r o k f l h e = h l e
 
 on-by : (v : View) (now : Bool) (r : Returned) (o k : ℕ) (f : Found) (l : Lineage) → f ≡ found l → k < o → Grown (went v now r o k f) l
-on-by (starting q j) now r o k f l e below = passed-by (now && eqb o k) (opened r) f l e (rw (ne-eqb o k (λ z. omega arith), and-false))
+on-by (starting q j) now r o k f l e below = passed-by (now && eqb o k) (started r) f l e (rw (ne-eqb o k (λ z. omega arith), and-false))
 on-by (going-on j t ws) now r o k f l e below = given-on (now && eqb j k) r ws f l e
 on-by apart now r o k f l e below = record { line = l; is = e; more = λ p h. h }
 

@@ -18,8 +18,8 @@ written-main = Rattle.agreement.specs.Demand.written-main present-form
 abbrev pub given-main : Returned → List ℕ → List Statement
 given-main = Rattle.agreement.specs.Demand.given-main present-form
 
-abbrev pub opened : Returned → Found
-opened = Rattle.agreement.specs.Demand.opened present-form
+abbrev pub started : Returned → Found
+started = Rattle.agreement.specs.Demand.started present-form
 
 abbrev pub gave : Returned → List ℕ → Found → Found
 gave = Rattle.agreement.specs.Demand.gave present-form

@@ -48,7 +48,7 @@ use Rattle.agreement.specs.Laws.Invariant.{start}
 use Rattle.agreement.specs.Laws.Settings.{setting-known}
 use Rattle.agreement.specs.Laws.Run.{Inv, apart-step, open-step, give-step}
 use Rattle.agreement.specs.Maths.Votes.{is-vote, votes}
-use Rattle.agreement.specs.Demand.{opens, gives, codes, tosses, Call, call, site, action, View, starting, going-on, apart, view, Entry, is-statement, Lineage, Found, found, opened, gave, went, member, proposed, act, modules, answer, log, openings, lineage, Presents, Sound, JumpOff, AllOff, FewFaulty, CodesCame, Given, Decides, Claim, Demand-3}
+use Rattle.agreement.specs.Demand.{opens, gives, codes, tosses, Call, call, site, action, View, starting, going-on, apart, view, Entry, is-statement, Lineage, Found, found, started, gave, went, member, proposed, act, modules, answer, log, openings, lineage, Presents, Sound, JumpOff, AllOff, FewFaulty, CodesCame, Given, Decides, Claim, Demand-3}
 
 -- ---- the premise on numbers
 member-few : (l : List ℕ) (n : ℕ) → count (λ i. member i l) n ≤ length l
@@ -152,7 +152,7 @@ module _ (form : Form) where
 
     by-view : (v : View) (j i : ℕ) (x : Bool) (r : Returned) (o k : ℕ) (f : Found) (line : Lineage) → (1 ≤ j) × (j ≤ n) → (f ≡ found line → (1 ≤ i) × (i ≤ n))
         → went form v (eqb j i && x) r o k f ≡ found line → (1 ≤ i) × (i ≤ n)
-    by-view (starting q setting) j i x r o k f line range ih e = by-site j i x (eqb o k) (opened form r) f line range ih e
+    by-view (starting q setting) j i x r o k f line range ih e = by-site j i x (eqb o k) (started form r) f line range ih e
     by-view (going-on h t ws) j i x r o k f line range ih e = by-site j i x (eqb h k) (gave form r ws f) f line range ih e
     by-view apart j i x r o k f line range ih e = ih e
 
@@ -453,6 +453,10 @@ module _ (form : Form) where
           not-named i k line si e no-v true x = absurd (no-v (line .present .decision) (decides-named i k (line .present .decision) line si e (ltb-true _ _ x) refl))
           not-named i k line si e no-v false x = omega (arith, ltb-false (line .present .decision) none x, line-low form n (reads form (log form mac key n cs)) i (line .present) (line .took) (here i k line si e))
 
-  -- ---- the theorem, for HMAC-SHA-256
+  -- ---- the theorem, for every code of eight words
+  pub demand-3-by : (mac : List ℕ → List ℕ → List ℕ) → ((key ws : List ℕ) → length (mac key ws) ≡ code-words) → Demand-3 form mac
+  demand-3-by mac eight key n low top cs g f = claim mac eight key n low top cs g f
+
+  -- and for HMAC-SHA-256
   pub demand-3 : Demand-3 form hmac-code
-  demand-3 key n low top cs g f = claim hmac-code hmac-eight key n low top cs g f
+  demand-3 = demand-3-by hmac-code hmac-eight

@@ -19,7 +19,7 @@ use Rattle.rules.specs.declared.Which.the-variants.{Any}
 use Rattle.certificate.specs.Check.{every, one-question, check-tests, check-by, judged, checked}
 use Rattle.format.specs.Laws.Shape.{formed-out}
 use Rattle.rules.specs.Backed.{rule-backed, backed-rule}
-use Rattle.certificate.specs.Valid.{Bundle, Valid, Exact}
+use Rattle.certificate.specs.Valid.{IsBundle, Valid, Exact}
 
 pub every-out : (p : Statement → Bool) (c : List Statement) → every p c ≡ true → All (λ s. p s ≡ true) c
 unfolding every
@@ -32,7 +32,7 @@ every-in p [] h = refl
 every-in p (s ∷ c) h = join (p s) _ (h .0) (every-in p c (h .1))
 
 module _ (form : Form) where
-  pub bundle-out : (n : ℕ) (ws : List ℕ) → bundle-fits form n ws ≡ true → Bundle form n ws
+  pub bundle-out : (n : ℕ) (ws : List ℕ) → bundle-fits form n ws ≡ true → IsBundle form n ws
   unfolding bundle-fits laid-out
   bundle-out n ws h =
       let a = both (head-fits form (getD ws 0 0) && eqb (length ws) (bundle-words form (count-in ws))) _ h in
@@ -47,7 +47,7 @@ module _ (form : Form) where
         fields = a .1;
       }
 
-  bundle-in : (n : ℕ) (ws : List ℕ) → Bundle form n ws → bundle-fits form n ws ≡ true
+  bundle-in : (n : ℕ) (ws : List ℕ) → IsBundle form n ws → bundle-fits form n ws ≡ true
   unfolding bundle-fits laid-out
   bundle-in n ws b =
       join (head-fits form (getD ws 0 0) && eqb (length ws) (bundle-words form (count-in ws))) _

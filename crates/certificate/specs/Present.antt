@@ -25,8 +25,8 @@ judged = Rattle.certificate.specs.Check.judged present-form
 abbrev pub checked : List ℕ → ℕ → List ℕ → ℕ
 checked = Rattle.certificate.specs.Check.checked present-form
 
-abbrev pub Bundle : ℕ → List ℕ → Type 0
-Bundle = Rattle.certificate.specs.Valid.Bundle present-form
+abbrev pub IsBundle : ℕ → List ℕ → Type 0
+IsBundle = Rattle.certificate.specs.Valid.IsBundle present-form
 
 abbrev pub Valid : (List ℕ → List ℕ) → ℕ → List ℕ → Type 0
 Valid = Rattle.certificate.specs.Valid.Valid present-form

@@ -16,7 +16,7 @@ use Rattle.certificate.specs.Check.{checked}
 module _ (form : Form) where
   -- "A bundle is a head word (bits 31..30 are 3, bits 29..16 zero, bits 15..0 the count of certificate statements, 0 to 32), one main statement, then
   -- the certificate. It has 1 + 10 × (1 + count) words": so in the first form; and each statement has its fields in place
-  pub record Bundle (n : ℕ) (ws : List ℕ) : Type 0 where
+  pub record IsBundle (n : ℕ) (ws : List ℕ) : Type 0 where
     pub head-kind : getD ws 0 0 / 2 ^ mark-bit ≡ head-mark
     pub head-middle : getD ws 0 0 / 2 ^ count-bits % 2 ^ middle-bits ≡ head-bits form
     pub few : count-in ws ≤ most-statements form
@@ -26,7 +26,7 @@ module _ (form : Form) where
   pub record Valid (code : List ℕ → List ℕ) (n : ℕ) (ws : List ℕ) : Type 0 where
     pub at-least : least-stations ≤ n
     pub at-most : n ≤ most-stations form
-    pub bundle : Bundle n ws
+    pub bundle : IsBundle n ws
     pub question : All (λ s. s .question ≡ main-of form ws .question) (certificate-of form ws)
     pub codes : All (λ s. verifies form code s ≡ true) (statements form ws 1 (suc (count-in ws)))
     pub backed : Backed n (main-of form ws) (certificate-of form ws)

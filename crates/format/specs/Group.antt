@@ -36,6 +36,10 @@ quorum-sound n f faulty one p q = meet f (λ i. not (faulty i)) n (omega (arith,
 pub quorum-there : (n : ℕ) → 1 ≤ n → quorum n ≤ n - most-faulty n
 quorum-there n h = omega arith
 
+-- and without one more than the faulty it cannot: the bound is the largest under which a quorum is sure
+pub quorum-gone : (n : ℕ) → 1 ≤ n → n - (most-faulty n + 1) < quorum n
+quorum-gone n h = omega arith
+
 -- the backing of 1 is the least number that is at least half of the quorum; that of 0 the least that is over half of it
 pub backing-0 : (n : ℕ) → backing n 0 ≡ quorum n / 2 + 1
 unfolding backing pick

@@ -4,5 +4,6 @@ pub mod Group
 pub mod Form
 pub mod Statement
 pub mod Bundle
+pub mod Tables
 pub mod Present
 pub mod Laws

@@ -1,8 +1,7 @@
 -- One jumper is enough: a list of calls within the premises of demand 3, computed from the definitions, as `both-jump` in agreement. Sites 1 and 2 are sound and
--- propose 1, site 3 is faulty and codes no INIT. Site 2 has jump on. Site 1, with jump off, decides 0, which no site proposed. So the premise of the backing is
+-- propose 1, site 3 is faulty and codes no INIT. Site 2 has jump on. Both decide 0, which no site proposed, site 1 with jump off. So the premise of the backing is
 -- not to be asked of the deciding site alone.
 use Prim.Native.Nat.{ℕ, _≤_}
-use mathlib.Core.Bool.{true}
 use mathlib.Core.List.{List, [], _∷_}
 use mathlib.Core.Path.{_≡_, refl}
 use lib.Dec.{eqb}
@@ -11,8 +10,9 @@ use Rattle.format.specs.Numbers.{kind-P, kind-V, none, D-GET}
 use Rattle.format.specs.Group.{backing}
 use Rattle.agreement.specs.Demand.{opens, codes, Call, call}
 use Rattle.agreement.specs.Computed.{computes, off-out}
-use Rattle.agreement.specs.Example.{toy, out, give, bundle, lent, of-3}
-use Rattle.agreement.specs.Unbacked.{unbacked-none, facts, Unbacked, unbacked, enough-0}
+use Rattle.agreement.specs.Toy.{toy, out}
+use Rattle.agreement.specs.Example.{give, bundle, lent, of-3}
+use Rattle.agreement.specs.Unbacked.{unbacked-none, facts, comes-to, Unbacked, unbacked, enough-0}
 use Rattle.agreement.specs.Present.{proposed, log, Sound, JumpOff, Decides}
 
 -- ---- the list
@@ -72,20 +72,20 @@ lone-15 = give 1 (bundle lone-14) 0 lone-14
 abbrev pub lone-16 : List Call
 lone-16 = give 2 (bundle lone-13) 0 lone-15
 
--- 21: site 1 is given site 2's vote, and decides 0
+-- 21, 21: each is given the other's vote, and decides 0
 abbrev pub lone-jump : List Call
-lone-jump = give 1 (bundle lone-16) 0 lone-16
+lone-jump = give 2 (bundle lone-15) 0 (give 1 (bundle lone-16) 0 lone-16)
 
 -- ---- all of it
 abbrev pub lone-answers : List ℕ
-lone-answers = 21 ∷ 20 ∷ 20 ∷ 20 ∷ 20 ∷ 20 ∷ 20 ∷ 20 ∷ 20 ∷ 20 ∷ 23 ∷ 0 ∷ 0 ∷ 20 ∷ 20 ∷ 20 ∷ 20 ∷ []
+lone-answers = 21 ∷ 21 ∷ 20 ∷ 20 ∷ 20 ∷ 20 ∷ 20 ∷ 20 ∷ 20 ∷ 20 ∷ 20 ∷ 23 ∷ 0 ∷ 0 ∷ 20 ∷ 20 ∷ 20 ∷ 20 ∷ []
 
-lone-computed : facts lone-jump 1 3 ≡ record { numbers = lone-answers; given = true; few = true; decided = true; proposed = 0 }
+lone-computed : facts lone-jump 3 ≡ comes-to lone-answers
 unfolding computes
 lone-computed = refl
 
-pub lone-unbacked : Unbacked lone-jump lone-answers 1
-lone-unbacked = unbacked lone-jump lone-answers 1 3 lone-computed
+pub lone-unbacked : Unbacked lone-jump lone-answers
+lone-unbacked = unbacked lone-jump lone-answers 3 lone-computed
 
 -- ---- the deciding site has jump off
 off-at-1 : JumpOff toy [] 3 1 1 lone-jump
@@ -94,4 +94,4 @@ off-at-1 = off-out toy [] 3 (λ i. eqb i 1) 1 lone-jump refl 1 refl
 
 pub backing-needs-every-site :
     ((i k v : ℕ) → Sound toy [] 3 i lone-jump → JumpOff toy [] 3 i 1 lone-jump → Decides toy [] 3 lone-jump i k 1 v → backing 3 v ≤ count (proposed (log toy [] 3 lone-jump) 1 v) 3) → ⊥
-backing-needs-every-site f = let w = lone-unbacked in enough-0 _ (w .unproposed) (f 1 0 0 (w .sound-1) off-at-1 (w .decided))
+backing-needs-every-site f = let w = lone-unbacked in enough-0 _ (w .unproposed) (f 1 0 0 (w .sound-1) off-at-1 (w .decided-1))

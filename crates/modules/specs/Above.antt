@@ -1,14 +1,19 @@
--- What it is for a pair to be above the last, and that a pair once coded is above it never again.
+-- What it is for a pair to be above the last; that a pair once coded is above it never again, and that every pair is above that of a made module.
 use Prim.Native.Nat.{ℕ, _<_}
 use mathlib.Core.Bool.{Bool, true, false, not, _&&_, _||_}
+use mathlib.Core.List.{List}
 use mathlib.Core.Path.{_≡_, refl, _∙_}
 use native.Mathlib.Omega.{arith}
 use lib.Dec.{eqb, ltb}
 use borrow.Author.Tests.{eqb-true, eq-eqb, ltb-true, lt-ltb}
+use Rattle.laws.specs.Pick.{pick}
 use Rattle.laws.specs.Bools.{never, both, join, left, right, is-false}
+use Rattle.format.specs.Form.{Form, size-fits}
+use Rattle.format.specs.Numbers.{out-of-range}
+use Rattle.format.specs.Words.{of-group}
 use Rattle.modules.specs.declared.Last.{Last}
 use Rattle.modules.specs.declared.Module.{Module}
-use Rattle.modules.specs.Counter.{above, pair, advanced, last-for}
+use Rattle.modules.specs.Counter.{above, pair, advanced, last-for, Made, fresh, no-module, making}
 
 -- a pair above another, which was coded: a later question, or the same and a later step
 pub data Above (l : Last) (q s : ℕ) : Type 0 where
@@ -61,3 +66,13 @@ stays-below m q s q′ s′ up low = is-false _ (λ e. never _ low (above-in (la
     go (later-step x w) (first y) = never true y refl
     go (later-step x w) (later-question y) = later-question (omega arith)
     go (later-step x w) (later-step y z) = later-step (x ∙ y) (omega arith)
+
+-- "each made once and with nothing coded": every pair is above the last of a made module
+pub made-above : (form : Form) (key : List ℕ) (n number q s : ℕ) → above (last-for (making form key n number .made) q) q s ≡ true
+unfolding making above pick
+made-above form key n number q s = go (size-fits form n && of-group n number)
+  where
+    go : (b : Bool)
+        → above (last-for (pick {A = Made} b (record { number = 0; made = fresh key n number }) (record { number = out-of-range; made = no-module }) .made) q) q s ≡ true
+    go true = refl
+    go false = refl

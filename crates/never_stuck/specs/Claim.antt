@@ -70,6 +70,8 @@ module _ (mac : List ℕ → List ℕ → List ℕ) (key : List ℕ) (n : ℕ) w
     pub station : Station
     pub presents : Presents mac key n cs y opening station
     pub decides : Decides mac key n cs y opening question v
+    -- by q votes of that round
+    pub in-round : decides .round ≡ r
     pub named : station .decision ≡ v
     pub counted : Counted r station
 

@@ -1,20 +1,19 @@
 -- Never stuck, proved: the team catches up to the votes of round r, step by step with jump off, by jumping onto the leader's last bundle with jump on; then one
 -- coin for all makes the next round unanimous.
-use mathlib.Core.Path.{_≡_, refl, _∙_, ap, subst}
+use mathlib.Core.Path.{_≡_, refl, sym, _∙_, ap, subst}
 use mathlib.Core.Bool.{Bool, true, false}
 use mathlib.Core.List.{List}
 use Prim.Native.Nat.{ℕ, _+_, _*_, _≤_, _<_}
 use native.Mathlib.Omega.{arith}
 use lib.ListN.{length}
 use Rattle.laws.specs.Bools.{never}
-use Rattle.laws.specs.Count.{meet}
 use Rattle.format.specs.Form.{present-form}
 use Rattle.format.specs.Numbers.{none, code-words, least-stations}
 use Rattle.format.specs.Present.{last-round, most-stations}
 use Rattle.hmac.specs.Code.{hmac-code, hmac-eight}
 use Rattle.station.specs.declared.Station.{Station}
 use Rattle.station.specs.Machine.{stage-step}
-use Rattle.agreement.specs.Theorem.{every-one, claim}
+use Rattle.agreement.specs.Theorem.{claim}
 use Rattle.agreement.specs.Demand.{Call}
 use Rattle.agreement.specs.Laws.Line.{reads}
 use Rattle.agreement.specs.Present.{log, Presents, Sound, FewFaulty, Given, Decides}
@@ -43,24 +42,21 @@ module _ (mac : List ℕ → List ℕ → List ℕ) (eight : (key ws : List ℕ)
       subst (λ (z : ℕ). Decides mac key n cs y k z (t .decision)) (ap (λ (u : Station). u .identity .question) (p .now) ∙ asked)
       (claim present-form mac eight key n low top cs (P .given) (P .few) .names y k (t .decision) (p .line) s (p .is) named (ap (λ (u : Station). u .decision) (p .now)))
 
-  -- all of them the same
-  all-decided : (cs : List Call) → Premises mac key n cs → (q : ℕ) (team : ℕ → Bool) (floor : ℕ) (enough : Quorate n team) (r y z : ℕ) → Done mac eight key n low top q team floor enough cs r y
-      → (d : Done mac eight key n low top q team floor enough cs r z) → Decided mac key n cs q r (d .station .decision) y
-  all-decided cs P q team floor enough r y z c d =
-      let same : c .station .decision ≡ d .station .decision
-      = claim present-form mac eight key n low top cs (P .given) (P .few) .agreement y z (c .opening) (d .opening) q (c .station .decision) (d .station .decision) (c .sound) (d .sound)
-      (decision y c) (decision z d) in
+  -- a site that took q votes of round r for v has decided v by them, and names it
+  all-decided : (cs : List Call) → Premises mac key n cs → (q : ℕ) (team : ℕ → Bool) (floor : ℕ) (enough : Quorate n team) (r v y : ℕ) → v < none
+      → Done mac eight key n low top q team floor enough cs r v y → Decided mac key n cs q r v y
+  all-decided cs P q team floor enough r v y bit d =
+      let by-votes : Decides mac key n cs y (d .opening) q v = record { line = d .presents .line; is = d .presents .is; bit = bit; round = r; enough = d .voted } in
       record {
-        opening = c .opening;
-        station = c .station;
-        presents = c .presents;
-        decides = subst (λ (v : ℕ). Decides mac key n cs y (c .opening) q v) same (decision y c);
-        named = same;
-        counted = c .counted;
+        opening = d .opening;
+        station = d .station;
+        presents = d .presents;
+        decides = by-votes;
+        in-round = refl;
+        named = ap (λ (u : Station). u .decision) (sym (d .presents .now))
+            ∙ claim present-form mac eight key n low top cs (P .given) (P .few) .named y (d .opening) q v (d .presents .line) (d .sound) (d .presents .is) by-votes;
+        counted = d .counted;
       }
-    where
-      decision : (y : ℕ) (d : Done mac eight key n low top q team floor enough cs r y) → Decides mac key n cs y (d .opening) q (d .station .decision)
-      decision y d = decides cs P q y (d .opening) (d .station) (d .sound) (d .presents) (d .asked) (d .named)
 
   module _ (cs : List Call) (g : Given mac key n cs) (F : FewFaulty mac key n cs) (q r : ℕ) (team : ℕ → Bool) (enough : Quorate n team) (from : 1 ≤ r) (last : r + 1 ≤ last-round) where
     P : Premises mac key n cs
@@ -71,10 +67,10 @@ module _ (mac : List ℕ → List ℕ → List ℕ) (eight : (key ws : List ℕ)
         → (jump ≡ true → (y k : ℕ) (t : Station) → 1 ≤ y → y ≤ n → team y ≡ true → Waits mac key n cs q y k t → stage-step (t .stage) ≤ floor)
         → Arrived mac eight key n low top q team floor cs (λ c y. Voting q team floor enough c y r) → CanDecide mac key n cs q (r + 1) team jump
     ended jump floor fl last-enough A =
-        let B = unanimous mac eight key n low top q team floor enough r (coin mac eight key n low top q team floor enough r (A .list) (A .premises)) fl from last (coin-low n (reads present-form (log mac key n (A .list))) q r) (A .list) (A .premises)
+        let v = coin mac eight key n low top q team floor enough r (A .list) (A .premises) in
+        let bit : v < none = coin-low n (reads present-form (log mac key n (A .list))) q r in
+        let B = unanimous mac eight key n low top q team floor enough r v fl from last bit (A .list) (A .premises)
         (λ y a b c. let o = A .each y a b c in calmed mac eight key n low top q team floor enough r (A .list) (A .premises) (o .jump) y (o .waiting)) in
-        let s = meet team (λ i. true) n (omega (arith, every-one n)) in
-        let d = B .each (s .at) (s .low) (s .high) (s .in-first) in
         let on = then-onward mac eight key n low top q team floor cs (A .list) (B .list) (A .onward) (B .onward) in
         record {
           list = B .list;
@@ -84,9 +80,9 @@ module _ (mac : List ℕ → List ℕ → List ℕ) (eight : (key ws : List ℕ)
           given = B .premises .given;
           few = B .premises .few;
           still-sound = λ i h. onward-sound mac eight key n low top q team floor i cs (B .list) on h;
-          value = d .station .decision;
-          bit = d .named;
-          each = λ y a b c. all-decided (B .list) (B .premises) q team floor enough (r + 1) y (s .at) (B .each y a b c) d;
+          value = v;
+          bit = bit;
+          each = λ y a b c. all-decided (B .list) (B .premises) q team floor enough (r + 1) v y bit (B .each y a b c);
         }
 
     -- jump off: all catch up step by step, and every step's bundle may be needed

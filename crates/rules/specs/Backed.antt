@@ -11,7 +11,7 @@ use lib.Seq.{take-at, drop-at}
 use borrow.Author.Tests.{eqb-true, eqb-false, eq-eqb, ne-eqb, ltb-true, ltb-false, lt-ltb, le-ltb}
 use Rattle.laws.specs.Pick.{pick}
 use Rattle.laws.specs.Bools.{never, both, join, either, left, right, is-false}
-use Rattle.laws.specs.All.{All}
+use Rattle.laws.specs.All.{All, all-map}
 use Rattle.format.specs.Form.{Form}
 use Rattle.format.specs.Numbers.{kind-INIT, kind-P, kind-V, none, D-GET, R-GET}
 use Rattle.format.specs.Group.{quorum, backing, backing-most}
@@ -19,7 +19,7 @@ use Rattle.format.specs.Statement.{Statement}
 use Rattle.format.specs.Laws.Shape.{Shape, init, proposal, vote}
 use Rattle.rules.specs.declared.Which.the-variants.{Any, Only}
 use Rattle.rules.specs.declared.Group.{Group}
-use Rattle.rules.specs.Rules.{matches, Rising, Holds, in-order, holds, inits, proposals, none-votes, some-D-GET, some-value, BothValues, NeedsSecond, Backed, rule-1, rule-2, rule-3, rule-4, rule-5, rule-6, rule-7, d-get-group, first-group, second-group, has-second, early-toss, rest-holds, spread, groups-hold, rule}
+use Rattle.rules.specs.Rules.{wanted, matches, Rising, Holds, in-order, holds, inits, proposals, none-votes, some-D-GET, some-value, BothValues, NeedsSecond, Backed, rule-1, rule-2, rule-3, rule-4, rule-5, rule-6, rule-7, d-get-group, first-group, second-group, has-second, early-toss, rest-holds, spread, groups-hold, rule}
 
 -- ---- groups
 order-out : (g : Group) (above : ℕ) (c : List Statement) → in-order g above c ≡ true → Rising above c × All (λ s. matches g s ≡ true) c
@@ -322,6 +322,20 @@ pub rule-backed : (form : Form) (n : ℕ) (m : Statement) (c : List Statement) �
 rule-backed form n m c (init k z v g) h = out-init n m c k h
 rule-backed form n m c (proposal k r l v f) h = out-P n m c k r f (rw (not-init n m c (λ e. omega arith)) at h)
 rule-backed form n m c (vote k r l v g) h = out-V n m c k r v (rw (not-init n m c (λ e. omega arith)) at h)
+
+-- "6. V none, round 1: q P of round 1, all D-GET": no R-GET stands in such a certificate
+pub first-none-D-GET : (n : ℕ) (m : Statement) (c : List Statement) → rule n m c ≡ true → m .kind ≡ kind-V → m .value ≡ none → m .round ≡ 1 → All (λ s. s .flag ≡ D-GET) c
+unfolding wanted
+first-none-D-GET n m c h k v r = go c (out-V n m c k (omega arith) (omega arith) (rw (not-init n m c (λ e. omega arith)) at h))
+  where
+    go : (x : List Statement) → Backed n m x → All (λ s. s .flag ≡ D-GET) x
+    go _ (rule-1 a) = absurd (omega arith)
+    go x (rule-2 a b d g) = absurd (omega arith)
+    go x (rule-3 a b d g) = absurd (omega arith)
+    go x (rule-4 a b d g) = absurd (omega arith)
+    go _ (rule-5 a b g i s o) = absurd (omega arith)
+    go x (rule-6 a b d g s) = all-map (λ s e. eqb-true (s .flag) D-GET (both (eqb (s .kind) kind-P && eqb (s .round) 1 && true) _ e .1)) x (g .each)
+    go _ (rule-7 a b d g s o) = absurd (omega arith)
 
 in-rest : (n : ℕ) (m : Statement) (c : List Statement) (g : Group) → (m .kind ≡ kind-INIT → ⊥) → early-toss (m .kind) (m .flag) (m .round) ≡ false
     → first-group n (m .kind) (m .value) (m .flag) (m .round) ≡ g → groups-hold n m g c ≡ true → rule n m c ≡ true

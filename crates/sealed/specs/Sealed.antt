@@ -54,13 +54,20 @@ module _ (form : Form) where
         code = code (covered form s);
       }
 
-  -- "Coding tests 2 (n, station number, coin), 3, 5, 12": of the words as given, and whether they are for this way to code
+  -- what both ways test: 3, 5 and 12 of the words as given, and whether they are for this way to code
   abbrev pub coding-tests : Module → List ℕ → Bool → List Test
   coding-tests m ws way =
       test (eqb (length ws) (statement-words form) && formed form (m .n) (fields-at form ws 0) && way) malformed
       ∷ test (eqb (statement form ws 0 .station) (m .station)) wrong-code
       ∷ test (above (last-for m (statement form ws 0 .question)) (statement form ws 0 .question) (step (statement form ws 0))) not-above
       ∷ []
+
+  -- "Coding tests 2 (n, station number, coin), 3, 5, 12": the plain way, and with the coin
+  abbrev pub plain-tests : Module → List ℕ → List Test
+  plain-tests m ws = test (module-fits form m) out-of-range ∷ coding-tests m ws (by-plain (statement form ws 0 .kind) (statement form ws 0 .flag))
+
+  abbrev pub coin-tests : Module → List ℕ → ℕ → List Test
+  coin-tests m ws coin = test (module-fits form m && ltb coin 2) out-of-range ∷ coding-tests m ws (by-coin (statement form ws 0 .kind) (statement form ws 0 .flag))
 
   -- coded: the statement's words with the code, and the module one pair on; refused: as it was
   abbrev pub coding : (List ℕ → List ℕ) → Module → Statement → List ℕ → ℕ → Coded
@@ -73,11 +80,9 @@ module _ (form : Form) where
     -- "The plain way takes every other statement and refuses an R-GET."
     unfoldable pub coding-plain : Module → List ℕ → Coded
     coding-plain m ws =
-        coding (mac (m .key)) m (statement form ws 0) ws
-        (first-failed (test (module-fits form m) out-of-range ∷ coding-tests m ws (by-plain (statement form ws 0 .kind) (statement form ws 0 .flag))))
+        coding (mac (m .key)) m (statement form ws 0) ws (first-failed (plain-tests m ws))
 
     -- "The coin way is only for a P flagged R-GET: it puts the coin in as the value and codes in the same call."
     unfoldable pub coding-coin : Module → List ℕ → ℕ → Coded
     coding-coin m ws coin =
-        coding (mac (m .key)) m (tossed coin (statement form ws 0)) ws
-        (first-failed (test (module-fits form m && ltb coin 2) out-of-range ∷ coding-tests m ws (by-coin (statement form ws 0 .kind) (statement form ws 0 .flag))))
+        coding (mac (m .key)) m (tossed coin (statement form ws 0)) ws (first-failed (coin-tests m ws coin))

@@ -1,5 +1,5 @@
 -- What the marked table says of bundles that are read already, it says of the calls: giving words that are a bundle with codes that verify, to an open
--- and fitting station, comes to the table's `given`, and the station returned is read as the state that is kept.
+-- and fitting station, comes to the table's `giving-read`, and the station returned is read as the state that is kept.
 use Prim.Native.Nat.{ℕ, suc, _≤_, _<_}
 use mathlib.Core.Bool.{true, false, not, _&&_}
 use mathlib.Core.List.{List, [], _∷_, _++_}
@@ -25,7 +25,7 @@ use Rattle.modules.specs.Counter.{last-for}
 use Rattle.modules.specs.Present.{module-fits}
 use Rattle.station.specs.declared.Station.{Station}
 use Rattle.station.specs.Machine.{State, Outcome, refused, keeps, sends, answered, step-tests}
-use Rattle.station.specs.Marked.{_by_, given}
+use Rattle.station.specs.Marked.{_by_, giving-read}
 use Rattle.station.specs.Laws.Views.{after, Gives, refuses, holds-on, shuts, goes-on, enters, gives-view}
 use Rattle.station.specs.Laws.Sane.{state-back}
 use Rattle.station.specs.Laws.Fits.{kept-sane}
@@ -37,7 +37,7 @@ module _ (mac : List ℕ → List ℕ → List ℕ) (m : Module) (t : Station) (
       → bundle-fits (m .n) ws ≡ true → question-fits (Only (t .identity .question)) (main-of ws) (certificate-of ws) ≡ true
       → all-verify (mac (m .key)) (statements ws 1 (suc (count-in ws))) ≡ true
       → giving-outcome mac m t ws coin out
-      ≡ given (statement-code (mac (m .key))) (m .n) (m .station) (last-for m (t .identity .question)) coin (state-of t) (main-of ws by certificate-of ws)
+      ≡ giving-read (statement-code (mac (m .key))) (m .n) (m .station) (last-for m (t .identity .question)) coin (state-of t) (main-of ws by certificate-of ws)
   given-as-called room fit bit fitting still three four five =
       ap (λ (k : ℕ). pick (eqb k 0) whole (refused k)) (passed-front front rest passed)
     where

@@ -1,19 +1,20 @@
--- The setting jump (Job 3 of document 02), in two laws of the one definition of giving: "8 is given only with jump off", and a bundle whose step is not above
--- the station's has one outcome, whatever the setting.
+-- The setting jump (Job 3 of document 02), in laws of the one definition of opening and giving: "8 is given only with jump off"; with jump on a valid bundle
+-- of a later step is 23 or 12; a bundle whose step is not above the station's has one outcome, whatever the setting; an open station keeps the setting that
+-- its opening brought; "a jump setting outside 0 and 1 is 2".
 use Prim.Native.Nat.{ℕ, _≤_, _<_}
-use mathlib.Core.Bool.{Bool, true, false, _||_}
+use mathlib.Core.Bool.{Bool, true, false, _&&_, _||_}
 use mathlib.Core.List.{List, _++_}
 use mathlib.Core.Path.{_≡_, refl, sym, ap, _∙_}
 use native.Mathlib.Omega.{arith}
 use lib.Dec.{eqb, ltb}
 use lib.ListN.{length}
-use borrow.Author.Tests.{le-leb, lt-leb, le-ltb}
+use borrow.Author.Tests.{le-leb, lt-leb, lt-ltb, le-ltb}
 use Rattle.laws.specs.Pick.{pick}
-use Rattle.laws.specs.Bools.{never}
+use Rattle.laws.specs.Bools.{never, join}
 use Rattle.laws.specs.Refusals.{Test, first-failed, passed-front}
 use Rattle.laws.specs.All.{All}
-use Rattle.format.specs.Form.{Form, last-round}
-use Rattle.format.specs.Numbers.{none, kept, sent, sent-decided, closed-now, not-above, too-early}
+use Rattle.format.specs.Form.{Form, last-round, output-words}
+use Rattle.format.specs.Numbers.{none, kept, sent, sent-decided, closed-now, jumped, out-of-range, not-above, too-early}
 use Rattle.format.specs.Group.{quorum}
 use Rattle.format.specs.Statement.{Statement, step, statement-code}
 use Rattle.format.specs.Bundle.{main-of, certificate-of}
@@ -21,16 +22,17 @@ use Rattle.rules.specs.declared.Which.the-variants.{Only}
 use Rattle.certificate.specs.Check.{bundle-tests}
 use Rattle.modules.specs.declared.Last.{Last}
 use Rattle.modules.specs.declared.Module.{Module}
-use Rattle.modules.specs.Counter.{above, last-for}
+use Rattle.modules.specs.Counter.{above, module-fits, last-for}
 use Rattle.station.specs.declared.Stage.{Stage}
 use Rattle.station.specs.declared.Stage.the-variants.{Gathering, Proposing, Voting}
 use Rattle.station.specs.declared.Station.{Station}
-use Rattle.station.specs.Machine.{State, Outcome, refused, keeps, sends, Next, own, began, shut, stage-step, closes, decision-at, follows, keeping, insert, moved, ended, taken, answered, step-tests}
+use Rattle.station.specs.Machine.{State, Outcome, refused, keeps, sends, Next, own, began, shut, stage-step, closes, decision-at, follows, keeping, insert, moved, ended, taken, stage-of, jumps, copied-value, entered, answered, step-tests}
 use Rattle.station.specs.Words.{state-of, as-station, Lengths}
 use Rattle.station.specs.Fit.{fits}
-use Rattle.station.specs.Calls.{Returned, returned, station-tests, give-tests, giving, giving-outcome}
+use Rattle.station.specs.Returns.{unrefused}
+use Rattle.station.specs.Calls.{Returned, returned, no-station, opening, opening-outcome, station-tests, give-tests, giving, giving-outcome}
 use Rattle.station.specs.Demand.{as-given}
-use Rattle.station.specs.Laws.Views.{Gives, refuses, holds-on, shuts, goes-on, enters, gives-view}
+use Rattle.station.specs.Laws.Views.{Gives, refuses, holds-on, shuts, goes-on, enters, gives-view, Opens, no-opening, begins, opens-view}
 
 -- ---- the setting alone
 abbrev pub set-jump : Bool → Station → Station
@@ -130,6 +132,41 @@ module _ (form : Form) where
       eight : first-failed (step-tests (state-of form t) (main-of form ws)) ≡ too-early
       eight = rw (off, le-leb (stage-step (t .stage)) (step (main-of form ws)) (omega arith), lt-leb (step (main-of form ws)) (stage-step (t .stage)) up)
 
+  -- ---- with jump on a valid bundle of a later step is answered 23, or 12 where the module's last pair is not below that step, and nothing else
+  pub on-is-23-or-12 : (mac : List ℕ → List ℕ → List ℕ) (m : Module) (t : Station) (ws : List ℕ) (coin : ℕ) (out : List ℕ) → t .jump ≡ true
+      → All (λ x. x .ok ≡ true) (station-tests form m t coin out) → All (λ x. x .ok ≡ true) (bundle-tests form (mac (m .key)) (m .n) (Only (t .identity .question)) ws)
+      → stage-step (t .stage) < step (main-of form ws)
+      → giving form mac m t ws coin out .number ≡ pick (above (last-for m (t .identity .question)) (t .identity .question) (step (main-of form ws))) jumped not-above
+  unfolding giving returned state-of first-failed pick step
+  on-is-23-or-12 mac m t ws coin out on ready valid up =
+      ap (λ (k : ℕ). returned form m t out (pick (eqb k 0) (pick (jumps (state-of form t) (main-of form ws)) entering staying) (refused k)) .number)
+      (passed-front (station-tests form m t coin out) (bundle ++ step-tests (state-of form t) (main-of form ws)) ready ∙ passed-front bundle (step-tests (state-of form t) (main-of form ws)) valid ∙ passes)
+      ∙ ap (λ (b : Bool). returned form m t out (pick b entering staying) .number) ahead
+      ∙ go (above (last-for m (t .identity .question)) (t .identity .question) (step (main-of form ws)))
+    where
+      bundle : List Test
+      bundle = bundle-tests form (mac (m .key)) (m .n) (Only (t .identity .question)) ws
+
+      entering : Outcome
+      entering = entered (statement-code form (mac (m .key))) (last-round form) (m .n) (m .station) (last-for m (t .identity .question)) (state-of form t) (main-of form ws) (certificate-of form ws) coin
+
+      staying : Outcome
+      staying = taken (statement-code form (mac (m .key))) (last-round form) (m .n) (m .station) (last-for m (t .identity .question)) (state-of form t) (main-of form ws) (certificate-of form ws) coin
+
+      ahead : jumps (state-of form t) (main-of form ws) ≡ true
+      ahead = join (t .jump) (ltb (stage-step (t .stage)) (step (main-of form ws))) on (lt-ltb (stage-step (t .stage)) (step (main-of form ws)) up)
+
+      passes : first-failed (step-tests (state-of form t) (main-of form ws)) ≡ 0
+      passes = rw (ahead, le-leb (stage-step (t .stage)) (step (main-of form ws)) (omega arith))
+
+      s : Statement
+      s = own (statement-code form (mac (m .key))) (m .station) (t .identity .question) (main-of form ws .kind) (copied-value (main-of form ws) coin) (main-of form ws .flag) (main-of form ws .round)
+
+      go : (a : Bool) → returned form m t out (pick a (sends jumped s (certificate-of form ws)
+          (began (m .n) (t .identity .question) (t .jump) (stage-of (main-of form ws)) (t .decision) s (certificate-of form ws))) (refused not-above)) .number ≡ pick a jumped not-above
+      go true = refl
+      go false = refl
+
   returned-same : (m : Module) (t : Station) (out : List ℕ) (b : Bool) (o : Outcome) → but-setting (returned form m (set-jump b t) out o) ≡ but-setting (returned form m (set-jump false t) out (but-jump o))
   unfolding returned as-station
   returned-same m t out b (refused k) = refl
@@ -172,3 +209,38 @@ module _ (form : Form) where
       go _ (shuts A size c) = (refl, λ j. never false refl j)
       go _ (goes-on A size c later k) = (refl, λ j. j)
       go _ (enters J later) = (refl, λ j. j)
+
+  -- ---- an open station keeps its setting, on or off, through every outcome
+  pub open-keeps-setting : (mac : List ℕ → List ℕ → List ℕ) (m : Module) (t : Station) (ws : List ℕ) (coin : ℕ) (out : List ℕ) → Lengths form t
+      → giving form mac m t ws coin out .station .closed ≡ false → giving form mac m t ws coin out .station .jump ≡ t .jump
+  unfolding giving returned as-station state-of
+  open-keeps-setting mac m t ws coin out L = go (giving-outcome form mac m t ws coin out) (gives-view form mac m t ws coin out L)
+    where
+      go : (o : Outcome) → Gives form mac m t ws coin out o → returned form m t out o .station .closed ≡ false → returned form m t out o .station .jump ≡ t .jump
+      go _ (refuses e) open-still = refl
+      go _ (holds-on A few) open-still = refl
+      go _ (shuts A size c) open-still = never true open-still refl
+      go _ (goes-on A size c later k) open-still = refl
+      go _ (enters J later) open-still = refl
+
+  -- ---- and an opening that is not refused gives it the setting that it brings
+  pub opened-with-setting : (mac : List ℕ → List ℕ → List ℕ) (m : Module) (question proposal jump : ℕ) (out : List ℕ) → unrefused (opening form mac m question proposal jump out .number) ≡ true
+      → opening form mac m question proposal jump out .station .jump ≡ eqb jump 1
+  unfolding opening returned as-station
+  opened-with-setting mac m question proposal jump out = go (opening-outcome form mac m question proposal jump out) (opens-view form mac m question proposal jump out)
+    where
+      go : (o : Outcome) → Opens form mac m question proposal jump out o → unrefused (returned form m (no-station form) out o .number) ≡ true
+          → returned form m (no-station form) out o .station .jump ≡ eqb jump 1
+      go _ (no-opening {k} e) u = never (unrefused k) e u
+      go _ (begins room range bit later) u = refl
+
+  -- ---- "a jump setting outside 0 and 1 is 2"
+  pub setting-out-of-range : (mac : List ℕ → List ℕ → List ℕ) (m : Module) (question proposal jump : ℕ) (out : List ℕ) → output-words form ≤ length out → 2 ≤ jump
+      → opening form mac m question proposal jump out ≡ as-given out-of-range m (no-station form) out
+  unfolding opening returned first-failed pick
+  setting-out-of-range mac m question proposal jump out room wide =
+      rw (le-leb (output-words form) (length out) room, le-ltb jump 2 wide, fails (module-fits form m && ltb proposal 2))
+    where
+      fails : (b : Bool) → (b && false) ≡ false
+      fails true = refl
+      fails false = refl

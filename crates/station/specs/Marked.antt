@@ -55,12 +55,12 @@ abbrev pub nones : List Statement
 nones = vote 1 1 none ∷ vote 1 2 none ∷ vote 1 3 none ∷ []
 
 -- ---- a bundle, and what is seen of a call
-pub record Bundle : Type 0 where
+pub record ReadBundle : Type 0 where
   pub main : Statement
   pub certificate : List Statement
 
 infixl 70 _by_
-abbrev pub _by_ : Statement → List Statement → Bundle
+abbrev pub _by_ : Statement → List Statement → ReadBundle
 m by c = record { main = m; certificate = c }
 
 -- the number returned; and, where a bundle is written, its main statement's kind, value, flag and round, its certificate, and the decision then named
@@ -75,15 +75,15 @@ unless-kept f (sends k s c t) = writes k (s .kind) (s .value) (s .flag) (s .roun
 
 -- a station is given a bundle that is read already, well-formed, of its question and with codes that verify: what giving comes to then
 -- (`given-as-called`)
-abbrev pub given : (Statement → List ℕ) → ℕ → ℕ → Last → ℕ → State → Bundle → Outcome
-given code n number last coin t b =
+abbrev pub giving-read : (Statement → List ℕ) → ℕ → ℕ → Last → ℕ → State → ReadBundle → Outcome
+giving-read code n number last coin t b =
     unless (test (rule n (b .main) (b .certificate)) no-certificate ∷ step-tests t (b .main)) (answered code last-round n number last t (b .main) (b .certificate) coin)
 
 module _ (code : Statement → List ℕ) (n number coin : ℕ) where
   -- a station whose module has coded nothing yet; while it keeps, it is given the next
-  unfoldable pub seen : List Bundle → Outcome → Seen
+  unfoldable pub seen : List ReadBundle → Outcome → Seen
   seen [] o = unless-kept (λ k t. answers k) o
-  seen (b ∷ l) o = unless-kept (λ k t. seen l (given code n number no-pair coin t b)) o
+  seen (b ∷ l) o = unless-kept (λ k t. seen l (giving-read code n number no-pair coin t b)) o
 
 -- what a station that has just sent is left with: the stations of the statements that it holds, the two groups that it keeps, and its decision
 pub record Left : Type 0 where
@@ -107,12 +107,12 @@ pub data Row : Type 0 where
   counts : (n q of-0 of-1 : ℕ) → Row
   -- a station of n in a stage, its own bundle, the bundles given, and the coin: what is seen
   -- in the end
-  gives : (n : ℕ) → Stage → Bundle → List Bundle → (coin : ℕ) → Seen → Row
+  gives : (n : ℕ) → Stage → ReadBundle → List ReadBundle → (coin : ℕ) → Seen → Row
   -- the same of a station with jump on
-  catches : (n : ℕ) → Stage → Bundle → List Bundle → (coin : ℕ) → Seen → Row
+  catches : (n : ℕ) → Stage → ReadBundle → List ReadBundle → (coin : ℕ) → Seen → Row
   -- a station of 4 with jump on, whose module has coded a step, and its decision: a bundle given, and what is seen, or what it is left with
-  meets : (last : ℕ) → Stage → Bundle → Bundle → Seen → Row
-  lands : (decision : ℕ) → Stage → Bundle → Bundle → Left → Row
+  meets : (last : ℕ) → Stage → ReadBundle → ReadBundle → Seen → Row
+  lands : (decision : ℕ) → Stage → ReadBundle → ReadBundle → Left → Row
   -- the step last coded, the statement to code plain: the number returned
   codes : (last : ℕ) → Statement → (number : ℕ) → Row
 
@@ -120,15 +120,15 @@ pub data Row : Type 0 where
 abbrev pub module-at : List ℕ → ℕ → Module
 module-at key last = record { key = key; n = 4; station = 1; last = pair 1 last }
 
-abbrev pub Holds : (List ℕ → List ℕ → List ℕ) → List ℕ → Row → Type 0
-Holds mac key (counts n q a b) = (quorum n ≡ q) × ((backing n 0 ≡ a) × (backing n 1 ≡ b))
-Holds mac key (gives n g b l coin x) = seen (statement-code (mac key)) n (b .main .station) coin l (keeps kept (began n 1 false g none (b .main) (b .certificate))) ≡ x
-Holds mac key (catches n g b l coin x) = seen (statement-code (mac key)) n (b .main .station) coin l (keeps kept (began n 1 true g none (b .main) (b .certificate))) ≡ x
-Holds mac key (meets last g b x y) =
-    seen (statement-code (mac key)) 4 (b .main .station) 0 [] (given (statement-code (mac key)) 4 (b .main .station) (pair 1 last) 0 (began 4 1 true g none (b .main) (b .certificate)) x) ≡ y
-Holds mac key (lands d g b x l) =
-    left-by (given (statement-code (mac key)) 4 (b .main .station) no-pair 0 (began 4 1 true g d (b .main) (b .certificate)) x) ≡ l ∷ []
-Holds mac key (codes last s k) = coding-plain mac (module-at key last) (written s) .number ≡ k
+abbrev pub RowHolds : (List ℕ → List ℕ → List ℕ) → List ℕ → Row → Type 0
+RowHolds mac key (counts n q a b) = (quorum n ≡ q) × ((backing n 0 ≡ a) × (backing n 1 ≡ b))
+RowHolds mac key (gives n g b l coin x) = seen (statement-code (mac key)) n (b .main .station) coin l (keeps kept (began n 1 false g none (b .main) (b .certificate))) ≡ x
+RowHolds mac key (catches n g b l coin x) = seen (statement-code (mac key)) n (b .main .station) coin l (keeps kept (began n 1 true g none (b .main) (b .certificate))) ≡ x
+RowHolds mac key (meets last g b x y) =
+    seen (statement-code (mac key)) 4 (b .main .station) 0 [] (giving-read (statement-code (mac key)) 4 (b .main .station) (pair 1 last) 0 (began 4 1 true g none (b .main) (b .certificate)) x) ≡ y
+RowHolds mac key (lands d g b x l) =
+    left-by (giving-read (statement-code (mac key)) 4 (b .main .station) no-pair 0 (began 4 1 true g d (b .main) (b .certificate)) x) ≡ l ∷ []
+RowHolds mac key (codes last s k) = coding-plain mac (module-at key last) (written s) .number ≡ k
 
 abbrev pub marked : List Row
 marked =
@@ -168,26 +168,49 @@ marked =
     ∷ []
 
 -- every row holds, whatever the code and the key
-pub marked-hold : (mac : List ℕ → List ℕ → List ℕ) (key : List ℕ) → All (Holds mac key) marked
+pub marked-hold : (mac : List ℕ → List ℕ → List ℕ) (key : List ℕ) → All (RowHolds mac key) marked
 unfolding pick backing seen first-failed rule wanted some in-order holds d-get-group first-group second-group has-second early-toss rest-holds spread groups-hold every insert number-of first-value those vote-value decided carried follows ended taken conflict step step-of above Rattle.sealed.specs.Sealed.coding-plain fields-of word-of Rattle.format.specs.Statement.formed
 marked-hold mac key =
     ((refl, (refl, refl)), ((refl, (refl, refl)), ((refl, (refl, refl)), (refl, (refl, (refl, (refl, (refl, (refl, (refl, (refl, (refl, (refl, tt)))))))))))))
 
--- "Where several held bundles could supply a second group or a rule 3 group, the lowest-numbered station's is taken.", in either order of coming
+-- "Of the INITs with that value, the lowest-numbered go into the certificate.", and "Where several held bundles could supply a second group or a rule 3 group,
+-- the lowest-numbered station's is taken.", in either order of coming
 abbrev pub others : List Statement
 others = proposal 1 2 1 D-GET ∷ proposal 1 3 1 D-GET ∷ proposal 1 4 1 D-GET ∷ []
 
+abbrev pub other-nones : List Statement
+other-nones = vote 1 2 none ∷ vote 1 3 none ∷ vote 1 4 none ∷ []
+
 abbrev pub lowest : List Row
 lowest =
-    gives 4 (voting 1) (vote 1 1 none by mixed) (vote 1 3 1 by (others ++ inits-of 1 2 1) ∷ vote 1 2 1 by voted-for 1 ∷ []) 0
+    -- more INITs than the backing: three of 1, and three of 0, where two go into the certificate
+    gives 4 Gathering (init 3 1 by []) (init 2 1 by [] ∷ init 1 1 by [] ∷ []) 0
+    (writes sent kind-P 1 D-GET 1 (inits-of 1 2 1) none)
+    ∷ gives 4 Gathering (init 1 0 by []) (init 3 0 by [] ∷ init 2 0 by [] ∷ []) 1
+    (writes sent kind-P 0 D-GET 1 (inits-of 1 2 0) none)
+    -- n 6, INITs 1, 0, 1, 1 of stations 1 to 4, the last its own: two of the three of 1
+    ∷ gives 6 Gathering (init 4 1 by []) (init 3 1 by [] ∷ init 2 0 by [] ∷ init 1 1 by [] ∷ []) 0
+    (writes sent kind-P 1 D-GET 1 (inits-of 1 3 1) none)
+    -- two votes for 1: the next round's proposal has the proposals of station 2's
+    ∷ gives 4 (voting 1) (vote 1 1 none by mixed) (vote 1 3 1 by (others ++ inits-of 1 2 1) ∷ vote 1 2 1 by voted-for 1 ∷ []) 0
     (writes sent kind-P 1 D-GET 2 (all-of 1) none)
     ∷ gives 4 (voting 1) (vote 1 1 none by mixed) (vote 1 2 1 by voted-for 1 ∷ vote 1 3 1 by (others ++ inits-of 1 2 1) ∷ []) 0
     (writes sent kind-P 1 D-GET 2 (all-of 1) none)
+    -- two D-GET proposals of round 2: behind the vote for 1 stands the certificate of station 2's
+    ∷ gives 4 (proposing 2 R-GET) (proposal 2 1 1 R-GET by nones) (proposal 2 3 1 D-GET by others ∷ proposal 2 2 1 D-GET by all-of 1 ∷ []) 0
+    (writes sent kind-V 1 D-GET 2 (proposal 2 1 1 R-GET ∷ proposal 2 2 1 D-GET ∷ proposal 2 3 1 D-GET ∷ all-of 1) none)
+    ∷ gives 4 (proposing 2 R-GET) (proposal 2 1 1 R-GET by nones) (proposal 2 2 1 D-GET by all-of 1 ∷ proposal 2 3 1 D-GET by others ∷ []) 0
+    (writes sent kind-V 1 D-GET 2 (proposal 2 1 1 R-GET ∷ proposal 2 2 1 D-GET ∷ proposal 2 3 1 D-GET ∷ all-of 1) none)
+    -- two R-GET proposals of round 2: behind the none vote stands the certificate of station 2's
+    ∷ gives 4 (proposing 2 D-GET) (proposal 2 1 0 D-GET by all-of 0) (proposal 2 3 1 R-GET by other-nones ∷ proposal 2 2 0 R-GET by nones ∷ []) 0
+    (writes sent kind-V none D-GET 2 (proposal 2 1 0 D-GET ∷ proposal 2 2 0 R-GET ∷ proposal 2 3 1 R-GET ∷ nones) none)
+    ∷ gives 4 (proposing 2 D-GET) (proposal 2 1 0 D-GET by all-of 0) (proposal 2 2 0 R-GET by nones ∷ proposal 2 3 1 R-GET by other-nones ∷ []) 0
+    (writes sent kind-V none D-GET 2 (proposal 2 1 0 D-GET ∷ proposal 2 2 0 R-GET ∷ proposal 2 3 1 R-GET ∷ nones) none)
     ∷ []
 
-pub lowest-hold : (mac : List ℕ → List ℕ → List ℕ) (key : List ℕ) → All (Holds mac key) lowest
+pub lowest-hold : (mac : List ℕ → List ℕ → List ℕ) (key : List ℕ) → All (RowHolds mac key) lowest
 unfolding pick backing seen first-failed rule wanted some in-order holds d-get-group first-group second-group has-second early-toss rest-holds spread groups-hold every insert number-of first-value those vote-value decided carried follows ended taken conflict step step-of above
-lowest-hold mac key = (refl, (refl, tt))
+lowest-hold mac key = (refl, (refl, (refl, (refl, (refl, (refl, (refl, (refl, (refl, tt)))))))))
 
 -- Job 2 of document 02: behind a first-round vote for v stands the backing of v in INITs with v, "taken from the lowest-numbered proposer's
 -- certificate", whether that came first or last, was the station's own or another's; behind a none vote stands nothing
@@ -223,7 +246,7 @@ inits-carried =
     ∷ gives 4 (voting 1) (vote 1 1 none by mixed) (vote 1 2 1 by (all-of 1 ++ inits-of 1 2 0) ∷ []) 0 (answers no-certificate)
     ∷ []
 
-pub inits-carried-hold : (mac : List ℕ → List ℕ → List ℕ) (key : List ℕ) → All (Holds mac key) inits-carried
+pub inits-carried-hold : (mac : List ℕ → List ℕ → List ℕ) (key : List ℕ) → All (RowHolds mac key) inits-carried
 unfolding pick backing seen first-failed rule wanted some in-order holds d-get-group first-group second-group has-second early-toss rest-holds spread groups-hold every insert number-of first-value those vote-value decided carried follows ended taken conflict step step-of above
 inits-carried-hold mac key = (refl, (refl, (refl, (refl, (refl, (refl, (refl, (refl, (refl, tt)))))))))
 
@@ -257,7 +280,7 @@ caught-up =
     ∷ lands 0 (voting 1) (vote 1 1 none by mixed) (proposal 2 2 0 R-GET by nones) (record { stations = 1 ∷ []; for-value = []; for-none = nones; decision = 0 })
     ∷ []
 
-pub caught-up-hold : (mac : List ℕ → List ℕ → List ℕ) (key : List ℕ) → All (Holds mac key) caught-up
+pub caught-up-hold : (mac : List ℕ → List ℕ → List ℕ) (key : List ℕ) → All (RowHolds mac key) caught-up
 unfolding pick backing seen first-failed rule wanted some in-order holds d-get-group first-group second-group has-second early-toss rest-holds spread groups-hold every insert number-of first-value those vote-value decided carried follows ended taken conflict step step-of above
 caught-up-hold mac key =
     (refl, (refl, (refl, (refl, (refl, (refl, (refl, (refl, (refl, (refl, (refl, (refl, (refl, (refl, (refl, (refl, tt))))))))))))))))

@@ -32,8 +32,8 @@ unrefused k = listed (λ r. true) classes k
 abbrev pub wrote : ℕ → Bool
 wrote k = listed (λ r. r .writes) classes k
 
-abbrev pub took : ℕ → Bool
-took k = listed (λ r. r .takes) classes k
+abbrev pub took-given : ℕ → Bool
+took-given k = listed (λ r. r .takes) classes k
 
 -- what is written is not refused
 pub wrote-unrefused : (k : ℕ) → wrote k ≡ true → unrefused k ≡ true
@@ -54,7 +54,7 @@ sent-wrote true = refl
 sent-wrote false = refl
 
 -- and with it the given statement was taken
-pub sent-took : (b : Bool) → took (pick b sent sent-decided) ≡ true
+pub sent-took-given : (b : Bool) → took-given (pick b sent sent-decided) ≡ true
 unfolding pick
-sent-took true = refl
-sent-took false = refl
+sent-took-given true = refl
+sent-took-given false = refl

@@ -29,7 +29,7 @@ use Rattle.station.specs.Calls.{Returned, returned, opening, giving, opening-ou
 use Rattle.format.specs.Laws.ReadBack.{Proper, statement-drop, statement-back}
 use Rattle.station.specs.Laws.Keep.{steps-0}
 use Rattle.station.specs.Laws.Views.{InRange, init-statement, Opens, no-opening, begins, opens-view, Gives, refuses, holds-on, shuts, goes-on, enters, gives-view, sent-statement, jump-statement, Accepted, Jumping, after, decision-then}
-use Rattle.station.specs.Returns.{unrefused, wrote, took, wrote-unrefused, sent-wrote, sent-took}
+use Rattle.station.specs.Returns.{unrefused, wrote, took-given, wrote-unrefused, sent-wrote, sent-took-given}
 use Rattle.station.specs.Laws.Fits.{own-proper, init-sane, sent-proper, jump-proper}
 use Rattle.station.specs.Demand.{OfGroup}
 use Rattle.agreement.specs.Maths.Safe.{Just, Split}
@@ -42,7 +42,7 @@ use Rattle.agreement.specs.Laws.Line.{reads, reads-append, AtSite, Line,
 use Rattle.agreement.specs.Laws.Giving.{kept-line, shut-line, sent-line, sent-just, sent-split, jump-line, jump-just}
 use Rattle.agreement.specs.Laws.Invariant.{LogInv, unchanged, log-add, entry-read, entry-at}
 use Rattle.agreement.specs.Maths.Votes.{votes}
-use Rattle.agreement.specs.Demand.{Action, opens, gives, Call, call, site, action, apart, view, Entry, Lineage, Found, found, written-main, given-main, opened, gave, member, act, modules, answer, log, openings, lineage, Presents, JumpOff, CodesCame}
+use Rattle.agreement.specs.Demand.{Action, opens, gives, Call, call, site, action, apart, view, Entry, Lineage, Found, found, written-main, given-main, started, gave, member, act, modules, answer, log, openings, lineage, Presents, JumpOff, CodesCame}
 
 module _ (form : Form) where
   -- the main statement of a written bundle, read again
@@ -238,7 +238,7 @@ module _ (form : Form) where
       -- the stations, by what the call returned
       abbrev lines-by : Returned → ℕ → ℕ → Found
       lines-by r i k =
-          pick (eqb j i && unrefused (r .number) && eqb (openings form mac key n cs i) k) (opened form r) (lineage form mac key n cs i k)
+          pick (eqb j i && unrefused (r .number) && eqb (openings form mac key n cs i) k) (started form r) (lineage form mac key n cs i k)
 
       lines-are : (r : Returned) → answer form mac key n cs c ≡ r → (l : List Statement) → Lines l (lines-by r) → Lines l (lineage form mac key n (c ∷ cs))
       unfolding lineage
@@ -409,7 +409,7 @@ module _ (form : Form) where
       main-is k s c u e p small = rw e (ap (λ (y : Statement). y ∷ []) (main-written (mg .n) s c out small p))
 
       -- the given statement, where the number says that it is taken
-      given-is : (k : ℕ) → took k ≡ true → pick (took k) (main-of form ws ∷ []) [] ≡ main-of form ws ∷ []
+      given-is : (k : ℕ) → took-given k ≡ true → pick (took-given k) (main-of form ws ∷ []) [] ≡ main-of form ws ∷ []
       unfolding pick
       given-is k e = rw e
 
@@ -454,7 +454,7 @@ module _ (form : Form) where
                   let proper : Proper form (mg .n) s = sent-proper form mac eight mg t ws coin out len A size more in
                   let coded = one-read g cs lo hi (I .logs) s proper refl (log-g o' e) in
                   let wr : wrote k ≡ true = ap wrote w ∙ sent-wrote (ltb (t .decision) none || eqb (decision-then form mac mg t ws coin out) none) in
-                  let tk : took k ≡ true = ap took w ∙ sent-took (ltb (t .decision) none || eqb (decision-then form mac mg t ws coin out) none) in
+                  let tk : took-given k ≡ true = ap took-given w ∙ sent-took-given (ltb (t .decision) none || eqb (decision-then form mac mg t ws coin out) none) in
                   let un : unrefused (answer form mac key n cs g .number) ≡ true = number-g o' e (wrote-unrefused k wr) in
                   let T : Station = W.as-station form (mg .n) (mg .station) u in
                   record {

@@ -18,7 +18,7 @@ use Rattle.station.specs.Returns.{unrefused}
 use Rattle.station.specs.Jump.{setting-kept}
 use Rattle.station.specs.Laws.Views.{Opens, no-opening, begins, opens-view}
 use Rattle.agreement.specs.Laws.Lists.{same-line}
-use Rattle.agreement.specs.Demand.{opens, gives, codes, tosses, Call, call, Lineage, Found, nothing, found, opened, gave, act, modules, answer, openings, lineage, Presents, Sound, JumpOff, Given}
+use Rattle.agreement.specs.Demand.{opens, gives, codes, tosses, Call, call, Lineage, Found, nothing, found, started, gave, act, modules, answer, openings, lineage, Presents, Sound, JumpOff, Given}
 
 -- a choice of two histories, by a test
 chosen : (b : Bool) (x y : Found) (line : Lineage) {A : Type 0} → (b ≡ true → x ≡ found line → A) → (y ≡ found line → A) → pick b x y ≡ found line → A
@@ -58,7 +58,7 @@ module _ (form : Form) where
         r : Returned
         r = opening form mac (modules form mac key n cs j) q v jump out
 
-        here : (eqb j i && unrefused (r .number) && eqb (openings form mac key n cs i) k) ≡ true → opened form r ≡ found line → ⊥
+        here : (eqb j i && unrefused (r .number) && eqb (openings form mac key n cs i) k) ≡ true → started form r ≡ found line → ⊥
         here b f =
             let a = both (eqb j i) _ (both (eqb j i && unrefused (r .number)) _ b .0) in
             let o = opening-setting mac (modules form mac key n cs j) q v jump out (a .1) in

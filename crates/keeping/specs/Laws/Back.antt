@@ -18,7 +18,7 @@ use Rattle.format.specs.Words.{fields-of, station-of}
 use Rattle.format.specs.Statement.{Statement}
 use Rattle.format.specs.Bundle.{count-in}
 use Rattle.format.specs.Laws.Layout.{covered-read}
-use Rattle.certificate.specs.Present.{Bundle}
+use Rattle.certificate.specs.Present.{IsBundle}
 use Rattle.format.specs.Laws.Parts.{parts-length}
 use Rattle.format.specs.Present.{statement-words, formed, statement, statements, word-0, written, main-of, certificate-of, all-formed, all-written, bundle-of}
 use Rattle.station.specs.Words.{set-of}
@@ -51,7 +51,7 @@ all-back n ws low (suc k) at room h =
     rw (e, take-add 10 (k * 10) (drop at ws)) (λ i. one i ++ more i)
 
 -- the words of a bundle, which is read and written again
-pub bundle-back : (n : ℕ) (ws : List ℕ) → Below ws → Bundle n ws → ws ≡ bundle-of (main-of ws) (certificate-of ws)
+pub bundle-back : (n : ℕ) (ws : List ℕ) → Below ws → IsBundle n ws → ws ≡ bundle-of (main-of ws) (certificate-of ws)
 unfolding Rattle.format.specs.Bundle.bundle-of Rattle.format.specs.Bundle.all-formed
 bundle-back n ws low B =
     let b = both (formed n (fields-of (getD ws 1 0))) _ (B .fields) in

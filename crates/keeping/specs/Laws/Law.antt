@@ -18,7 +18,7 @@ use Rattle.format.specs.Statement.{Statement}
 use Rattle.format.specs.Bundle.{count-in}
 use Rattle.format.specs.Laws.Layout.{formed-well}
 use Rattle.format.specs.Laws.Shape.{Formed, formed-out}
-use Rattle.certificate.specs.Present.{Bundle}
+use Rattle.certificate.specs.Present.{IsBundle}
 use Rattle.modules.specs.declared.Module.{Module}
 use Rattle.station.specs.declared.Station.{Station}
 use Rattle.station.specs.Machine.{stage-step, keeping, insert, held-of, takes, supplies-for-value, supplies-for-none}
@@ -42,7 +42,7 @@ use Rattle.keeping.specs.Laws.One.{LowWords, Fit, fit-out, rising, set-s
 use Rattle.keeping.specs.Kept.{with-station, with-slot, group-from, is-lowest, taken-from, held-with, groups-with, with-bundle}
 use Rattle.keeping.specs.Laws.Parts.{set-insert, slot-insert, put-slot, group-kept, first-inserted}
 
-module _ (n number : ℕ) (t : Station) (ws : List ℕ) (top : n ≤ most-stations) (L : Lengths t) (A : LowWords t) (low : Below ws) (F : Fit n number t) (B : Bundle n ws)
+module _ (n number : ℕ) (t : Station) (ws : List ℕ) (top : n ≤ most-stations) (L : Lengths t) (A : LowWords t) (low : Below ws) (F : Fit n number t) (B : IsBundle n ws)
     (new : held-of (main-of ws .station) (held-by t) ≡ false) where
   formed-all : (formed n (fields-of (getD ws 1 0)) ≡ true) × (all-formed n ws (place-of 1) (count-in ws) ≡ true)
   unfolding Rattle.format.specs.Bundle.all-formed

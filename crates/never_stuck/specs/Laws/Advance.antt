@@ -24,13 +24,13 @@ use Rattle.station.specs.Returns.{unrefused}
 use Rattle.station.specs.Laws.Insert.{insert-length, every-insert}
 use Rattle.station.specs.Present.{state-of}
 use Rattle.agreement.specs.Maths.Took.{count-held, number-few}
-use Rattle.agreement.specs.Laws.Lists.{module-other}
+use Rattle.agreement.specs.Laws.Lists.{module-other, lineage-other}
 use Rattle.agreement.specs.Demand.{Call, call, gives}
-use Rattle.agreement.specs.Present.{modules, answer, Presents, Sound}
+use Rattle.agreement.specs.Present.{modules, answer, lineage, Presents, Sound}
 use Rattle.never_stuck.specs.Claim.{Quorate, room, Waits, Onward, Last, ByLast, done, give}
 use Rattle.never_stuck.specs.Laws.Spoken.{Premises, Spoke, spoke-later, Said, presents-other, sound-next}
 use Rattle.never_stuck.specs.Laws.Heard.{heard}
-use Rattle.never_stuck.specs.Laws.Moves.{with-bundle, Ended, Moved, stays, ends, moved, premises-then, sound-then, presents-then}
+use Rattle.never_stuck.specs.Laws.Moves.{with-bundle, Ended, Voted, Moved, stays, ends, moved, premises-then, sound-then, presents-then}
 
 pub state-stage : (t : Station) → state-of t .stage ≡ t .stage
 unfolding Rattle.station.specs.Words.state-of
@@ -70,7 +70,7 @@ module _ (mac : List ℕ → List ℕ → List ℕ) (eight : (key ws : List ℕ)
     pub premises : Premises mac key n list
     pub onward : Onward mac key n q team floor cs list
     pub module-on : (z : ℕ) → (z ≡ x → ⊥) → modules mac key n list z ≡ modules mac key n cs z
-    pub presents-on : (z o : ℕ) (t : Station) → (z ≡ x → ⊥) → Presents mac key n cs z o t → Presents mac key n list z o t
+    pub line-on : (z o : ℕ) → (z ≡ x → ⊥) → lineage mac key n list z o ≡ lineage mac key n cs z o
     pub spoken : (y σ : ℕ) (ws : List ℕ) → Spoke mac key n cs y q σ ws → Spoke mac key n list y q σ ws
 
   abbrev then-step : (cs : List Call) (x : ℕ) (a : Step cs x) → Step (a .list) x → Step cs x
@@ -80,15 +80,19 @@ module _ (mac : List ℕ → List ℕ → List ℕ) (eight : (key ws : List ℕ)
         premises = b .premises;
         onward = then-onward cs (a .list) (b .list) (a .onward) (b .onward);
         module-on = λ z ne. b .module-on z ne ∙ a .module-on z ne;
-        presents-on = λ z o t ne p. b .presents-on z o t ne (a .presents-on z o t ne p);
+        line-on = λ z o ne. b .line-on z o ne ∙ a .line-on z o ne;
         spoken = λ y σ ws h. b .spoken y σ ws (a .spoken y σ ws h);
       }
+
+  -- a station of another site is there as it was, with its history
+  abbrev pub presents-on : (cs : List Call) (x : ℕ) (s : Step cs x) (z o : ℕ) (t : Station) → (z ≡ x → ⊥) → Presents mac key n cs z o t → Presents mac key n (s .list) z o t
+  presents-on cs x s z o t ne p = record { line = p .line; is = s .line-on z o ne ∙ p .is; now = p .now }
 
   pub waits-on : (cs : List Call) (x : ℕ) (s : Step cs x) (z o : ℕ) (t : Station) → (z ≡ x → ⊥) → Waits mac key n cs q z o t → Waits mac key n (s .list) q z o t
   waits-on cs x s z o t ne w =
       record {
         sound = onward-sound z cs (s .list) (s .onward) (w .sound);
-        presents = s .presents-on z o t ne (w .presents);
+        presents = presents-on cs x s z o t ne (w .presents);
         still-open = w .still-open;
         asked = w .asked;
         not-gone-on = ap (λ (m : Module). last-for m q .question) (s .module-on z ne) ∙ w .not-gone-on;
@@ -127,6 +131,7 @@ module _ (mac : List ℕ → List ℕ → List ℕ) (eight : (key ws : List ℕ)
     pub full : length (state .held) ≡ quorum n
     pub all-ok : every ok (state .held) ≡ true
     pub ended : Ended mac eight key n low top q (step .list) x k g d state coin station
+    pub voted : Voted mac eight key n low top q g state (presents .line .took)
     pub by-last : ((y : ℕ) → 1 ≤ y → y ≤ n → team y ≡ true → Stands cs y (stage-step g)) → ByLast mac key n q team cs (step .list)
 
   module _ (enough : Quorate n team) (x k coin : ℕ) (ok : Statement → Bool) (tx : team x ≡ true) (bit : coin < 2) where
@@ -162,7 +167,7 @@ module _ (mac : List ℕ → List ℕ → List ℕ) (eight : (key ws : List ℕ)
                   premises = premises-then mac eight key n low top q cs P x k t W y (stage-step (t .stage)) (w .words) (w .spoke) coin bit un;
                   onward = give done x k t y (w .words) coin tx ty (W .presents) (W .asked) (w .spoke .by-call) (omega (arith, w .spoke .in-step)) bit un;
                   module-on = module-other present-form mac key n (call x (gives k t (w .words) coin room)) cs;
-                  presents-on = presents-other mac key n cs x k t (w .words) coin room (W .presents);
+                  line-on = lineage-other present-form mac key n (call x (gives k t (w .words) coin room)) cs;
                   spoken = λ y σ ws h. spoke-later mac key n (call x (gives k t (w .words) coin room)) cs y q σ ws h;
                 }
 
@@ -202,11 +207,12 @@ module _ (mac : List ℕ → List ℕ → List ℕ) (eight : (key ws : List ℕ)
                   full = a .full;
                   all-ok = a .all-ok;
                   ended = a .ended;
+                  voted = a .voted;
                   by-last = λ st. then-last cs (call x (gives k t (w .words) coin room) ∷ cs) (a .step .list) (last-one st) (a .by-last (λ z b c d. stands-on sx z (st z b c d)));
                 }
 
             split : Moved mac eight key n low top q cs P x k t W y (stage-step (t .stage)) (w .words) (w .spoke) coin bit un → Advanced cs x k (t .stage) (t .decision) (t .jump) coin ok
-            split (ends full e) =
+            split (ends full e vs) =
                 record {
                   step = one;
                   station = answer mac key n cs (call x (gives k t (w .words) coin room)) .station;
@@ -217,6 +223,7 @@ module _ (mac : List ℕ → List ℕ → List ℕ) (eight : (key ws : List ℕ)
                   full = full;
                   all-ok = oks1;
                   ended = e;
+                  voted = vs;
                   by-last = last-one;
                 }
             split (stays W' few1 e) =

@@ -16,7 +16,7 @@ use Rattle.format.specs.Words.{fields-of, station-of}
 use Rattle.format.specs.Statement.{Statement, same-words}
 use Rattle.format.specs.Bundle.{count-in}
 use Rattle.format.specs.Present.{statement-words, place-of, formed, statement, statements, covered, covered-at, all-formed}
-use Rattle.certificate.specs.Present.{Bundle}
+use Rattle.certificate.specs.Present.{IsBundle}
 use Rattle.station.specs.Written.{same-self}
 use Rattle.agreement.specs.Maths.Log.{In}
 use Rattle.agreement.specs.Maths.Just.{bare, Coded}
@@ -63,7 +63,7 @@ nth-formed n ws (suc c) (suc k) at a h =
     let e : (at + statement-words) + k * statement-words ≡ at + suc k * statement-words = omega arith in
     subst (λ (z : ℕ). formed n (fields-of (getD ws z 0)) ≡ true) e (nth-formed n ws c k (at + statement-words) (both (formed n (fields-of (getD ws at 0))) _ a .1) (omega arith))
 
-pub codes-came : (mac : List ℕ → List ℕ → List ℕ) (key : List ℕ) (n : ℕ) (l : List Entry) (ws : List ℕ) → All (AtSite present-form) l → Bundle n ws
+pub codes-came : (mac : List ℕ → List ℕ → List ℕ) (key : List ℕ) (n : ℕ) (l : List Entry) (ws : List ℕ) → All (AtSite present-form) l → IsBundle n ws
     → All (Coded n (reads present-form l)) (statements ws (place-of 0) (suc (count-in ws))) → CodesCame mac key n l ws
 codes-came mac key n l ws sites B a k room v =
     let c : Coded n (reads present-form l) (statement ws (place-of k)) = nth (Coded n (reads present-form l)) ws (suc (count-in ws)) k 1 a (omega (arith, B .size)) in

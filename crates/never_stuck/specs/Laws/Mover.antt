@@ -21,11 +21,11 @@ use Rattle.station.specs.declared.Station.{Station}
 use Rattle.station.specs.Machine.{State, follows, closes, decision-at, stage-step, copied-value}
 use Rattle.station.specs.Returns.{unrefused}
 use Rattle.station.specs.Laws.Sane.{InRounds}
-use Rattle.agreement.specs.Laws.Lists.{module-other}
+use Rattle.agreement.specs.Laws.Lists.{module-other, lineage-other}
 use Rattle.agreement.specs.Demand.{Call, call, gives}
 use Rattle.agreement.specs.Present.{answer}
 use Rattle.never_stuck.specs.Claim.{Quorate, room, Waits, ByLast, done, give}
-use Rattle.never_stuck.specs.Laws.Spoken.{Premises, Said, spoke-later, presents-other}
+use Rattle.never_stuck.specs.Laws.Spoken.{Premises, Said, spoke-later}
 use Rattle.never_stuck.specs.Laws.Steps.{not-one, before-last}
 use Rattle.never_stuck.specs.Laws.Heard.{sane-of, jump-heard}
 use Rattle.never_stuck.specs.Laws.Moves.{saying, Ended, went, shut, premises-then, jumped-there}
@@ -107,7 +107,7 @@ module _ (mac : List ℕ → List ℕ → List ℕ) (eight : (key ws : List ℕ)
                   premises = premises-then mac eight key n low top q cs P y (o .opening) (o .station) (o .waits) x σ (w .words) (w .spoke) coin bit un;
                   onward = give done y (o .opening) (o .station) x (w .words) coin ty tx (o .waits .presents) (o .waits .asked) (w .spoke .by-call) (omega arith) bit un;
                   module-on = module-other present-form mac key n (call y (gives (o .opening) (o .station) (w .words) coin room)) cs;
-                  presents-on = presents-other mac key n cs y (o .opening) (o .station) (w .words) coin room (o .waits .presents);
+                  line-on = lineage-other present-form mac key n (call y (gives (o .opening) (o .station) (w .words) coin room)) cs;
                   spoken = λ z τ ws h. spoke-later mac key n (call y (gives (o .opening) (o .station) (w .words) coin room)) cs z q τ ws h;
                 }
 

@@ -1,37 +1,56 @@
 -- One giving that is heard: the station keeps the bundle, or ends its step with it and goes on, or is closed behind the last votes; or it jumps.
 use mathlib.Core.Path.{_≡_, refl, sym, _∙_, ap, subst}
-use mathlib.Core.Bool.{true, false}
-use mathlib.Core.List.{List, [], _∷_, _++_}
-use Prim.Native.Nat.{ℕ, _≤_, _<_}
+use mathlib.Core.Bool.{Bool, true, false}
+use mathlib.Core.List.{List, [], _∷_, _++_, List·Memᴰ·head, List·Memᴰ·tail}
+use Prim.Native.Nat.{ℕ, _+_, _*_, _≤_, _<_}
 use native.Mathlib.Omega.{arith}
 use lib.ListN.{length}
+use Rattle.laws.specs.Pick.{pick}
 use Rattle.laws.specs.Bools.{never}
+use Rattle.laws.specs.All.{all-map, all-two}
+use Rattle.laws.specs.Count.{count}
 use Rattle.format.specs.Form.{present-form}
 use Rattle.format.specs.Numbers.{kept, closed-now, jumped, code-words, least-stations}
 use Rattle.format.specs.Group.{quorum}
-use Rattle.format.specs.Statement.{Statement}
+use Rattle.format.specs.Statement.{Statement, step}
 use Rattle.format.specs.Present.{last-round, most-stations, statement-code, main-of, certificate-of}
+use Rattle.certificate.specs.Check.{every}
 use Rattle.modules.specs.declared.Module.{Module}
 use Rattle.modules.specs.Counter.{last-for}
 use Rattle.station.specs.declared.Stage.{Stage}
 use Rattle.station.specs.declared.Station.{Station}
 use Rattle.station.specs.Machine as Mach
-use Rattle.station.specs.Machine.{State, Next, Outcome, keeps, sends, own, began, stage-of, follows, closes, decision-at, keeping, stage-step, copied-value}
+use Rattle.station.specs.Machine.{State, Next, Outcome, keeps, sends, own, began, stage-of, follows, closes, decision-at, keeping, stage-step, has-value, copied-value}
 use Rattle.station.specs.Calls.{Returned}
-use Rattle.station.specs.Returns.{unrefused}
+use Rattle.station.specs.Returns.{unrefused, wrote, took-given, sent-took-given}
 use Rattle.station.specs.Written.{reached-good}
+use Rattle.station.specs.Laws.Insert.{insert-all}
 use Rattle.station.specs.Laws.Sane.{state-back}
+use Rattle.station.specs.Laws.End.{Full, Known, known}
 use Rattle.station.specs.Laws.Fits.{sent-sane, kept-sane, jump-sane}
-use Rattle.station.specs.Laws.Views.{Accepted, Jumping, sent-statement, jump-statement, Gives, refuses, holds-on, shuts, goes-on, enters, gives-view}
+use Rattle.station.specs.Laws.Views.{Accepted, Jumping, full-after, sent-statement, jump-statement, Gives, refuses, holds-on, shuts, goes-on, enters, gives-view}
 use Rattle.station.specs.Present.{state-of, returned, giving, giving-outcome, Lengths}
 use Rattle.station.specs.Demand.{OfGroup}
+use Rattle.agreement.specs.Maths.Votes.{votes}
+use Rattle.agreement.specs.Maths.Log.{In}
+use Rattle.agreement.specs.Maths.Took.{enough-after, held-enough}
+use Rattle.agreement.specs.Laws.Line.{Line, line-open, reads}
 use Rattle.agreement.specs.Laws.Lists.{module-now}
-use Rattle.agreement.specs.Theorem.{at, in-group}
+use Rattle.agreement.specs.Theorem.{at, here, in-group}
 use Rattle.agreement.specs.Demand.{Call, call, gives}
-use Rattle.agreement.specs.Present.{modules, answer, Presents, Sound}
+use Rattle.agreement.specs.Present.{modules, answer, log, Presents, Sound}
 use Rattle.never_stuck.specs.Claim.{room, Waits}
 use Rattle.never_stuck.specs.Laws.Spoken.{Premises, Spoke, presents-now, sound-next, premises-next}
+use Rattle.never_stuck.specs.Laws.Steps.{in-votes}
 use Rattle.never_stuck.specs.Laws.Heard.{up-of}
+
+-- votes enough with the given statement are enough with the written one too
+enough-written : (a b : Bool) (s m : Statement) (l : List Statement) (q r v n k : ℕ) → b ≡ true → k ≤ count (votes (m ∷ l) q r v) n
+    → k ≤ count (votes (pick a (s ∷ []) [] ++ (pick b (m ∷ []) [] ++ l)) q r v) n
+unfolding pick
+enough-written true true s m l q r v n k e h = enough-after q r v n k s (m ∷ l) h
+enough-written false true s m l q r v n k e h = h
+enough-written a false s m l q r v n k e h = never false refl e
 
 module _ (mac : List ℕ → List ℕ → List ℕ) (eight : (key ws : List ℕ) → length (mac key ws) ≡ code-words) (key : List ℕ) (n : ℕ) (low : least-stations ≤ n) (top : n ≤ most-stations) (q : ℕ) where
   -- the statement that follows a step of site x with what is held in u
@@ -47,6 +66,10 @@ module _ (mac : List ℕ → List ℕ → List ℕ) (eight : (key ws : List ℕ)
         → state-of t ≡ began n q (u .jump) (follows n g u coin .stage) (decision-at g d (u .held)) (saying x g u coin) (follows n g u coin .first ++ follows n g u coin .second)
         → Ended cs x k g d u coin t
     shut : closes last-round g ≡ true → t .closed ≡ true → t .identity .question ≡ q → t .decision ≡ decision-at g d (u .held) → Ended cs x k g d u coin t
+
+  -- what is held in u at the end of a round's votes, where it is all for one value, is q votes of the round among those taken
+  abbrev pub Voted : Stage → State → List Statement → Type 0
+  Voted g u taken = (r v : ℕ) → stage-step g ≡ 2 * r + 1 → every (has-value v) (u .held) ≡ true → quorum n ≤ count (votes taken q r v) n
 
   module _ (cs : List Call) (P : Premises mac key n cs) (x k : ℕ) (t : Station) (waits : Waits mac key n cs q x k t) (y σ : ℕ) (ws : List ℕ) (sp : Spoke mac key n cs y q σ ws)
       (coin : ℕ) (bit : coin < 2) (un : unrefused (answer mac key n cs (call x (gives k t ws coin room)) .number) ≡ true) where
@@ -103,7 +126,34 @@ module _ (mac : List ℕ → List ℕ → List ℕ) (eight : (key ws : List ℕ)
 
     pub data Moved : Type 0 where
       stays : Waits mac key n (g ∷ cs) q x k then → length (with-bundle t ws .held) < quorum n → state-of then ≡ with-bundle t ws → Moved
-      ends : length (with-bundle t ws .held) ≡ quorum n → Ended (g ∷ cs) x k (t .stage) (t .decision) (with-bundle t ws) coin then → Moved
+      ends : length (with-bundle t ws .held) ≡ quorum n → Ended (g ∷ cs) x k (t .stage) (t .decision) (with-bundle t ws) coin then → Voted (t .stage) (with-bundle t ws) (presents-then .line .took) → Moved
+
+    -- what is known of the station before the call, and of what it had taken
+    abbrev l : List Statement
+    l = reads present-form (log mac key n cs)
+
+    line-t : Line present-form n l x t (p .line .took)
+    line-t = subst (λ (z : Station). Line present-form n l x z (p .line .took)) (p .now) (here present-form mac eight key n low top cs (P .given) (P .few) x k (p .line) (waits .sound) (p .is))
+
+    -- what is held with the bundle was taken, the bundle's main statement by this call
+    voted : Accepted present-form mac mm t ws coin room → length (with-bundle t ws .held) ≡ quorum n → took-given (answer mac key n cs g .number) ≡ true
+        → Voted (t .stage) (with-bundle t ws) (presents-then .line .took)
+    unfolding presents-then Rattle.never_stuck.specs.Laws.Spoken.presents-now Rattle.station.specs.Words.state-of
+    voted A size taken r v e all =
+        let F : Full present-form n (with-bundle t ws) = full-after present-form mac mm t ws coin room len A size in
+        let i = in-votes (t .stage) r e in
+        enough-written (wrote (answer mac key n cs g .number)) (took-given (answer mac key n cs g .number)) (main-of (answer mac key n cs g .lent)) (main-of ws) (p .line .took) q r v n (quorum n) taken
+        (omega (
+          arith,
+          size,
+          held-enough q r v n (with-bundle t ws .held) (main-of ws ∷ p .line .took) (F .rising)
+              (all-map (λ s h. ((h .0 .formed .low, h .0 .formed .high), (h .1 .0, (h .0 .kind ∙ i .0, (h .1 .1 .0 ∙ waits .asked, h .0 .round ∙ i .1))))) (with-bundle t ws .held)
+              (all-two (Known present-form n (with-bundle t ws .stage)) (λ s. In s (main-of ws ∷ p .line .took) × ((s .question ≡ with-bundle t ws .question) × (step s ≡ stage-step (with-bundle t ws .stage)))) (with-bundle t ws .held)
+              (known present-form n (with-bundle t ws) F)
+              (all-two (λ s. In s (main-of ws ∷ p .line .took)) (λ s. (s .question ≡ with-bundle t ws .question) × (step s ≡ stage-step (with-bundle t ws .stage))) (with-bundle t ws .held)
+              (insert-all (λ s. In s (main-of ws ∷ p .line .took)) (main-of ws) (state-of t .held) (List·Memᴰ·head refl)
+              (all-map (λ s h. List·Memᴰ·tail h) (state-of t .held) (line-open present-form n l x t (p .line .took) line-t (waits .still-open) .among))) (F .alike)))) all,
+        ))
 
     kept-so : (A : Accepted present-form mac mm t ws coin room) → length (with-bundle t ws .held) < quorum n → answer mac key n cs g ≡ returned mm t room (keeps kept (with-bundle t ws)) → Moved
     unfolding Rattle.station.specs.Calls.returned Rattle.station.specs.Words.as-station Rattle.station.specs.Words.state-of
@@ -111,11 +161,12 @@ module _ (mac : List ℕ → List ℕ → List ℕ) (eight : (key ws : List ℕ)
         stays (waits-then (subst Onto (sym e) (waits .still-open, (waits .asked, waits .not-gone-on)))) few
         (ap (λ (r : Returned). state-of (r .station)) e ∙ state-back present-form n x (with-bundle t ws) top (range-x .0) (range-x .1) (kept-sane present-form mac eight mm t ws coin room len A few))
 
-    shut-so : length (with-bundle t ws .held) ≡ quorum n → closes last-round (t .stage) ≡ true
+    shut-so : Accepted present-form mac mm t ws coin room → length (with-bundle t ws .held) ≡ quorum n → closes last-round (t .stage) ≡ true
         → answer mac key n cs g ≡ returned mm t room (keeps closed-now (Mach.shut (with-bundle t ws) (decision-at (t .stage) (t .decision) (with-bundle t ws .held)))) → Moved
     unfolding Rattle.station.specs.Calls.returned Rattle.station.specs.Words.as-station Rattle.station.specs.Words.state-of
-    shut-so size c e =
+    shut-so A size c e =
         ends size (shut c (ap (λ (r : Returned). r .station .closed) e) (ap (λ (r : Returned). r .station .identity .question) e ∙ waits .asked) (ap (λ (r : Returned). r .station .decision) e))
+        (voted A size (ap (λ (r : Returned). took-given (r .number)) e))
 
     abbrev f : Next
     f = follows n (t .stage) (with-bundle t ws) coin
@@ -123,15 +174,16 @@ module _ (mac : List ℕ → List ℕ → List ℕ) (eight : (key ws : List ℕ)
     abbrev u : State
     u = began n (t .identity .question) (t .jump) (f .stage) (decision-at (t .stage) (t .decision) (with-bundle t ws .held)) (sent-statement present-form mac mm t ws coin room) (f .first ++ f .second)
 
-    sent-so : (j : ℕ) (A : Accepted present-form mac mm t ws coin room) (size : length (with-bundle t ws .held) ≡ quorum n) (more : closes last-round (t .stage) ≡ false)
+    sent-so : (j : ℕ) → took-given j ≡ true → (A : Accepted present-form mac mm t ws coin room) (size : length (with-bundle t ws .held) ≡ quorum n) (more : closes last-round (t .stage) ≡ false)
         → answer mac key n cs g ≡ returned mm t room (sends j (sent-statement present-form mac mm t ws coin room) (f .first ++ f .second) u) → Moved
     unfolding Rattle.station.specs.Calls.returned Rattle.station.specs.Words.as-station Rattle.station.specs.Words.state-of
-    sent-so j A size more e =
+    sent-so j taken A size more e =
         ends size
         (went more (waits-then (subst Onto (sym e) (refl, (waits .asked, waits .asked))))
         (subst (λ (z : ℕ). state-of then ≡ began n z (t .jump) (f .stage) (decision-at (t .stage) (t .decision) (with-bundle t ws .held))
         (own (statement-code (mac key)) x z (f .kind) (f .value) (f .flag) (f .round)) (f .first ++ f .second)) (waits .asked)
         (ap (λ (r : Returned). state-of (r .station)) e ∙ state-back present-form n x u top (range-x .0) (range-x .1) (sent-sane present-form mac eight mm t ws coin room len A size more))))
+        (voted A size (ap (λ (r : Returned). took-given (r .number)) e ∙ taken))
 
     -- a bundle of the station's step
     pub moved : σ ≡ stage-step (t .stage) → Moved
@@ -141,8 +193,8 @@ module _ (mac : List ℕ → List ℕ → List ℕ) (eight : (key ws : List ℕ)
         go : (o : Outcome) → giving-outcome mac mm t ws coin room ≡ o → Gives present-form mac mm t ws coin room o → Moved
         go _ e (refuses {k} w) = never (unrefused k) w (sym (ap (λ (r : Returned). unrefused (r .number)) (a-is ∙ ap (returned mm t room) e)) ∙ un)
         go _ e (holds-on A few) = kept-so A few (a-is ∙ ap (returned mm t room) e)
-        go _ e (shuts A size c) = shut-so size c (a-is ∙ ap (returned mm t room) e)
-        go _ e (goes-on {k} A size c a w) = sent-so k A size c (a-is ∙ ap (returned mm t room) e)
+        go _ e (shuts A size c) = shut-so A size c (a-is ∙ ap (returned mm t room) e)
+        go _ e (goes-on {k} A size c a w) = sent-so k (ap took-given w ∙ sent-took-given _) A size c (a-is ∙ ap (returned mm t room) e)
         go _ e (enters J a) = absurd (omega (arith, J .ahead, sp .in-step))
 
     -- a bundle of a later step

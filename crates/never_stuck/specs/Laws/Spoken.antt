@@ -62,7 +62,8 @@ module _ (mac : List ℕ → List ℕ → List ℕ) (key : List ℕ) (n : ℕ) w
     abbrev g : Call
     g = call x (gives k t ws coin out)
 
-    pub presents-now : unrefused (answer mac key n cs g .number) ≡ true → Presents mac key n (g ∷ cs) x k (answer mac key n cs g .station)
+    -- the station that the call returns, with what it took by it
+    unfoldable pub presents-now : unrefused (answer mac key n cs g .number) ≡ true → Presents mac key n (g ∷ cs) x k (answer mac key n cs g .station)
     unfolding Rattle.agreement.specs.Demand.lineage
     presents-now u =
         record {

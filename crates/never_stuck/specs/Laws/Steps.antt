@@ -20,7 +20,7 @@ use Rattle.certificate.specs.Check.{every}
 use Rattle.certificate.specs.Exact.{every-out}
 use Rattle.station.specs.declared.Stage.{Stage}
 use Rattle.station.specs.declared.Stage.the-variants.{Gathering, Proposing, Voting}
-use Rattle.station.specs.Machine.{State, Next, round-in, follows, closes, decision-at, decided, stage-step, has-value, carried, vote-value, after-votes}
+use Rattle.station.specs.Machine.{State, Next, kind-in, round-in, follows, closes, decision-at, decided, stage-step, has-value, carried, vote-value, after-votes}
 use Rattle.station.specs.Laws.Sane.{InRounds}
 use Rattle.station.specs.Laws.Keep.{steps-P, steps-V, steps-0}
 use Rattle.station.specs.Laws.Pieces as P
@@ -101,6 +101,12 @@ pub round-of-proposals : (g : Stage) (r : ℕ) → 1 ≤ r → stage-step g ≡ 
 round-of-proposals Gathering r from e = absurd (omega (arith, steps-0 kind-INIT 0 refl))
 round-of-proposals (Proposing p f) r from e = omega (arith, steps-P kind-P (p .0) refl)
 round-of-proposals (Voting p) r from e = absurd (omega (arith, steps-V kind-V (p .0) refl))
+
+-- the kind and the round of what a station in votes holds
+pub in-votes : (g : Stage) (r : ℕ) → stage-step g ≡ 2 * r + 1 → (kind-in g ≡ kind-V) × (round-in g ≡ r)
+in-votes Gathering r e = absurd (omega (arith, steps-0 kind-INIT 0 refl))
+in-votes (Proposing p f) r e = absurd (omega (arith, steps-P kind-P (p .0) refl))
+in-votes (Voting p) r e = (refl, omega (arith, steps-V kind-V (p .0) refl))
 
 -- only the votes of the last round close
 pub before-last : (g : Stage) → stage-step g < 2 * last-round + 1 → closes last-round g ≡ false

@@ -17,11 +17,11 @@ use Rattle.station.specs.declared.Station.{Station}
 use Rattle.station.specs.Machine.{State, follows, closes, stage-step}
 use Rattle.station.specs.Returns.{unrefused}
 use Rattle.station.specs.Laws.Sane.{InRounds}
-use Rattle.agreement.specs.Laws.Lists.{module-other}
+use Rattle.agreement.specs.Laws.Lists.{module-other, lineage-other}
 use Rattle.agreement.specs.Demand.{Call, call, gives}
 use Rattle.agreement.specs.Present.{answer}
 use Rattle.never_stuck.specs.Claim.{Quorate, room, Waits, done, give}
-use Rattle.never_stuck.specs.Laws.Spoken.{Premises, Spoke, spoke-later, presents-other}
+use Rattle.never_stuck.specs.Laws.Spoken.{Premises, Spoke, spoke-later}
 use Rattle.never_stuck.specs.Laws.Steps.{any, every-any, Follows, next-is, not-one, before-last}
 use Rattle.never_stuck.specs.Laws.Heard.{sane-of, jump-heard}
 use Rattle.never_stuck.specs.Laws.Moves.{Ended, went, shut, premises-then, jumped-there}
@@ -90,7 +90,7 @@ module _ (mac : List ℕ → List ℕ → List ℕ) (eight : (key ws : List ℕ)
               premises = premises-then mac eight key n low top q cs P x (o .waiting .opening) (o .waiting .station) W l f ws (o .lead) 0 (omega arith) un;
               onward = give done x (o .waiting .opening) (o .waiting .station) l ws 0 tx of-team (W .presents) (W .asked) (o .lead .by-call) (omega (arith, o .lead .in-step)) (omega arith) un;
               module-on = module-other present-form mac key n (call x (gives (o .waiting .opening) (o .waiting .station) ws 0 room)) cs;
-              presents-on = presents-other mac key n cs x (o .waiting .opening) (o .waiting .station) ws 0 room (W .presents);
+              line-on = lineage-other present-form mac key n (call x (gives (o .waiting .opening) (o .waiting .station) ws 0 room)) cs;
               spoken = λ y σ ws' h. spoke-later mac key n (call x (gives (o .waiting .opening) (o .waiting .station) ws 0 room)) cs y q σ ws' h;
             }
 

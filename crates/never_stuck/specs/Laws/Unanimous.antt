@@ -1,46 +1,47 @@
 -- A unanimous round: the whole team tosses alike, proposes alike, votes alike and decides.
-use mathlib.Core.Path.{_≡_, refl, sym, _∙_, ap, subst}
+use mathlib.Core.Path.{_≡_, refl, sym, _∙_, ap}
 use mathlib.Core.Bool.{Bool}
 use mathlib.Core.List.{List}
 use Prim.Native.Nat.{ℕ, suc, _+_, _*_, _≤_, _<_}
 use native.Mathlib.Omega.{arith}
 use lib.ListN.{length}
 use borrow.Author.Tests.{eq-eqb}
-use Rattle.format.specs.Numbers.{none, code-words, least-stations}
+use Rattle.laws.specs.Count.{count}
+use Rattle.format.specs.Numbers.{code-words, least-stations}
+use Rattle.format.specs.Group.{quorum}
 use Rattle.format.specs.Present.{last-round, most-stations}
 use Rattle.station.specs.declared.Station.{Station}
-use Rattle.station.specs.Machine.{State, stage-step, has-value, follows, decision-at}
+use Rattle.station.specs.Machine.{State, stage-step, has-value, follows}
+use Rattle.agreement.specs.Maths.Votes.{votes}
 use Rattle.agreement.specs.Demand.{Call}
 use Rattle.agreement.specs.Present.{Presents, Sound}
 use Rattle.never_stuck.specs.Claim.{Quorate, Counted, goes-on, closes}
 use Rattle.never_stuck.specs.Laws.Spoken.{Premises}
-use Rattle.never_stuck.specs.Laws.Steps.{calm, calm-of, round-of-proposals, before-last, closes-last, votes-go, proposals-go, votes-decide}
+use Rattle.never_stuck.specs.Laws.Steps.{calm, calm-of, round-of-proposals, before-last, closes-last, votes-go, proposals-go}
 use Rattle.never_stuck.specs.Laws.Moves.{Ended, went, shut}
-use Rattle.never_stuck.specs.Laws.Advance.{then-onward, onward-sound, Advanced, state-stage, state-decision}
+use Rattle.never_stuck.specs.Laws.Advance.{then-onward, onward-sound, presents-on, Advanced, state-stage}
 use Rattle.never_stuck.specs.Laws.Sweep.{Team, Stable, Arrived}
 use Rattle.never_stuck.specs.Laws.Phase.{At, at-on, gone-on, phase}
 
 module _ (mac : List ℕ → List ℕ → List ℕ) (eight : (key ws : List ℕ) → length (mac key ws) ≡ code-words) (key : List ℕ) (n : ℕ) (low : least-stations ≤ n) (top : n ≤ most-stations) (q : ℕ) (team : ℕ → Bool) (floor : ℕ)
     (enough : Quorate n team) where
-  -- a site whose station has counted the votes of round r, and names a decision
-  pub record Done (cs : List Call) (r y : ℕ) : Type 0 where
+  -- a site whose station has counted the votes of round r, and took q of them for v
+  pub record Done (cs : List Call) (r v y : ℕ) : Type 0 where
     pub opening : ℕ
     pub station : Station
     pub sound : Sound mac key n y cs
     pub presents : Presents mac key n cs y opening station
-    pub asked : station .identity .question ≡ q
-    pub named : station .decision < none
+    pub voted : quorum n ≤ count (votes (presents .line .took) q r v) n
     pub counted : Counted mac key n r station
 
-  done-on : (r : ℕ) → Stable mac eight key n low top q team floor (λ cs y. Done cs r y)
-  done-on r cs x s y ne d =
+  done-on : (r v : ℕ) → Stable mac eight key n low top q team floor (λ cs y. Done cs r v y)
+  done-on r v cs x s y ne d =
       record {
         opening = d .opening;
         station = d .station;
         sound = onward-sound mac eight key n low top q team floor y cs (s .list) (s .onward) (d .sound);
-        presents = s .presents-on y (d .opening) (d .station) ne (d .presents);
-        asked = d .asked;
-        named = d .named;
+        presents = presents-on mac eight key n low top q team floor cs x s y (d .opening) (d .station) ne (d .presents);
+        voted = d .voted;
         counted = d .counted;
       }
 
@@ -63,13 +64,13 @@ module _ (mac : List ℕ → List ℕ → List ℕ) (eight : (key ws : List ℕ)
 
     -- equal votes: all have decided, and go on or are closed
     decided : (cs : List Call) (x k : ℕ) (t : Station) (A : Advanced mac eight key n low top q team floor cs x k (t .stage) (t .decision) (t .jump) v (has-value v)) → t .identity .question ≡ q
-        → stage-step (t .stage) ≡ 2 * (r + 1) + 1 → Done (A .step .list) (r + 1) x
+        → stage-step (t .stage) ≡ 2 * (r + 1) + 1 → Done (A .step .list) (r + 1) v x
     decided cs x k t A asked e = go (A .ended)
       where
-        named : decision-at (t .stage) (t .decision) (A .state .held) < none
-        named = votes-decide (r + 1) v (t .stage) (t .decision) (A .state .held) bit e (A .all-ok)
+        voted-v : quorum n ≤ count (votes (A .presents .line .took) q (r + 1) v) n
+        voted-v = A .voted (r + 1) v e (A .all-ok)
 
-        go : Ended mac eight key n low top q (A .step .list) x k (t .stage) (t .decision) (A .state) v (A .station) → Done (A .step .list) (r + 1) x
+        go : Ended mac eight key n low top q (A .step .list) x k (t .stage) (t .decision) (A .state) v (A .station) → Done (A .step .list) (r + 1) v x
         go (went more w se) =
             let g = votes-go n (r + 1) v v (t .stage) (A .state) refl e (calm-of v (A .state .held) (A .all-ok)) in
             record {
@@ -77,8 +78,7 @@ module _ (mac : List ℕ → List ℕ → List ℕ) (eight : (key ws : List ℕ)
               station = A .station;
               sound = A .sound;
               presents = A .presents;
-              asked = w .asked;
-              named = subst (λ (z : ℕ). z < none) (sym (sym (state-decision (A .station)) ∙ ap (λ (z : State). z .decision) se)) named;
+              voted = voted-v;
               counted = goes-on (w .still-open)
                   (round-of-proposals (A .station .stage) (suc (r + 1)) (omega arith) (sym (ap stage-step (state-stage (A .station))) ∙ ap (λ (z : State). stage-step (z .stage)) se ∙ g .0 ∙ omega arith));
             }
@@ -88,20 +88,19 @@ module _ (mac : List ℕ → List ℕ → List ℕ) (eight : (key ws : List ℕ)
               station = A .station;
               sound = A .sound;
               presents = A .presents;
-              asked = on;
-              named = subst (λ (z : ℕ). z < none) (sym de) named;
+              voted = voted-v;
               counted = closes closed (closes-last (t .stage) (r + 1) e c);
             }
 
     -- from the votes of round r on, with the coin v
     pub unanimous : (cs : List Call) → Premises mac key n cs → Team mac eight key n low top q team floor (λ y. At mac eight key n low top q team floor enough cs y (2 * r + 1) (calm v))
-        → Arrived mac eight key n low top q team floor cs (λ l y. Done l (r + 1) y)
+        → Arrived mac eight key n low top q team floor cs (λ l y. Done l (r + 1) v y)
     unanimous cs P each =
         let A = phase mac eight key n low top q team floor enough (2 * r + 1) v fl bit (calm v) (λ l y. At mac eight key n low top q team floor enough l y (2 * (r + 1)) (has-value v))
         (at-on mac eight key n low top q team floor enough (2 * (r + 1)) (has-value v)) tossed cs P each in
         let B = phase mac eight key n low top q team floor enough (2 * (r + 1)) v (omega arith) bit (has-value v) (λ l y. At mac eight key n low top q team floor enough l y (2 * (r + 1) + 1) (has-value v))
         (at-on mac eight key n low top q team floor enough (2 * (r + 1) + 1) (has-value v)) voted (A .list) (A .premises) (A .each) in
-        let C = phase mac eight key n low top q team floor enough (2 * (r + 1) + 1) v (omega arith) bit (has-value v) (λ l y. Done l (r + 1) y) (done-on (r + 1)) decided (B .list) (B .premises) (B .each) in
+        let C = phase mac eight key n low top q team floor enough (2 * (r + 1) + 1) v (omega arith) bit (has-value v) (λ l y. Done l (r + 1) v y) (done-on (r + 1) v) decided (B .list) (B .premises) (B .each) in
         record {
           list = C .list;
           premises = C .premises;

@@ -51,7 +51,7 @@ use Rattle.agreement.specs.Laws.Lists.{module-now, module-other, module-same, l
 use Rattle.agreement.specs.Laws.Run.{Inv}
 use Rattle.agreement.specs.Theorem.{inv, AllSound}
 use Rattle.agreement.specs.Demand.{Action, opens, gives, codes, tosses, Call, call, site, Lineage, found, member}
-use Rattle.agreement.specs.Present.{written-main, given-main, opened, gave, modules, answer, log, openings, lineage, Presents, CodesCame, Given}
+use Rattle.agreement.specs.Present.{written-main, given-main, started, gave, modules, answer, log, openings, lineage, Presents, CodesCame, Given}
 use Rattle.never_stuck.specs.Laws.Spoken.{Spoke, Said, said-later, presents-now}
 use Rattle.never_stuck.specs.Laws.Steps.{any, next-step, next-is, up-to}
 use Rattle.never_stuck.specs.Laws.Walk.{Up, Walk, up-later, up-past, still, whose, renewed, main-written, written-spoke, held-coded, held-single}
@@ -132,16 +132,16 @@ module _ (mac : List ℕ → List ℕ → List ℕ) (eight : (key ws : List ℕ)
           unfolding Rattle.station.specs.Calls.returned
           station-is = ap (λ (r : Returned). r .station) e
 
-          there : (k : ℕ) → lineage mac key n (c ∷ cs) i k ≡ pick (eqb (openings mac key n cs i) k) (opened (answer mac key n cs c)) (lineage mac key n cs i k)
+          there : (k : ℕ) → lineage mac key n (c ∷ cs) i k ≡ pick (eqb (openings mac key n cs i) k) (started (answer mac key n cs c)) (lineage mac key n cs i k)
           unfolding Rattle.agreement.specs.Demand.lineage
-          there k = ap (λ (b : Bool). pick (b && eqb (openings mac key n cs i) k) (opened (answer mac key n cs c)) (lineage mac key n cs i k)) (join (eqb i i) _ (eq-eqb i i refl) un)
+          there k = ap (λ (b : Bool). pick (b && eqb (openings mac key n cs i) k) (started (answer mac key n cs c)) (lineage mac key n cs i k)) (join (eqb i i) _ (eq-eqb i i refl) un)
 
           new-line : Lineage
           new-line = record { present = answer mac key n cs c .station; took = written-main (answer mac key n cs c) }
 
           is-new : lineage mac key n (c ∷ cs) i (openings mac key n cs i) ≡ found new-line
           unfolding pick new-line
-          is-new = there (openings mac key n cs i) ∙ ap (λ (b : Bool). pick b (opened (answer mac key n cs c)) (lineage mac key n cs i (openings mac key n cs i))) (eq-eqb (openings mac key n cs i) (openings mac key n cs i) refl)
+          is-new = there (openings mac key n cs i) ∙ ap (λ (b : Bool). pick b (started (answer mac key n cs c)) (lineage mac key n cs i (openings mac key n cs i))) (eq-eqb (openings mac key n cs i) (openings mac key n cs i) refl)
 
           reached-T : Reached mac key n i T
           reached-T = subst (λ (z : Station). Reached mac key n i z) (sym (ap (λ (r : Returned). r .station) o-is) ∙ station-is)
@@ -191,7 +191,7 @@ module _ (mac : List ℕ → List ℕ → List ℕ) (eight : (key ws : List ℕ)
           unfolding new-line
           opened-walk =
               renewed mac eight key n low top c cs i (openings mac key n cs i) T w
-              (λ o l f. whose mac eight key n low top c cs i (openings mac key n cs i) T (λ z. opened (answer mac key n cs c)) new-line refl station-is o l (sym (there o) ∙ f)) up-new
+              (λ o l f. whose mac eight key n low top c cs i (openings mac key n cs i) T (λ z. started (answer mac key n cs c)) new-line refl station-is o l (sym (there o) ∙ f)) up-new
               (λ o l x f. up-past mac eight key n low top c cs i (l .present) q 0 last-is (omega (arith, lower o l f)) (λ z. omega (arith, lower o l f)) (w .up o l f))
               (λ o l x f z. omega (arith, lower o l f, question-T))
 

@@ -16,7 +16,7 @@ use Rattle.format.specs.Group.{backing-most}
 use Rattle.format.specs.Statement.{Statement, statement, statements, written, verifies, formed}
 use Rattle.format.specs.Bundle.{count-in, main-of, certificate-of, all-formed, all-written, bundle-of}
 use Rattle.rules.specs.Rules.{Backed, rule-1, rule-2, rule-3, rule-4, rule-5, rule-6, rule-7, some-D-GET}
-use Rattle.certificate.specs.Valid.{Bundle, Valid}
+use Rattle.certificate.specs.Valid.{IsBundle, Valid}
 use Rattle.station.specs.Laws.ReadBack.{statements-drop, statements-back, length-all}
 use Rattle.format.specs.Laws.ReadBack.{Proper, statement-drop, statement-back, length-written, formed-drop, formed-back-on}
 use Rattle.station.specs.Laws.Sane.{all-formed-drop, all-formed-back}
@@ -56,7 +56,7 @@ module _ (form : Form) where
         (ap (all-formed form n ws (1 + statement-words form)) count-is ∙ all-formed-drop form n ws (1 + statement-words form) (length c)
         ∙ ap (λ (l : List ℕ). all-formed form n l 0 (length c)) (behind ∙ sym (append-nil (all-written form c))) ∙ all-formed-back form n c [] top a)
 
-    pub bundle-there : Bundle form n ws
+    pub bundle-there : IsBundle form n ws
     bundle-there =
         record {
           head-kind = omega (arith, count-fits form, head-in-bits form);

@@ -22,7 +22,7 @@ use Rattle.rules.specs.Rules.{rule}
 use Rattle.rules.specs.declared.Which.the-variants.{Only}
 use Rattle.certificate.specs.Check.{one-question, bundle-tests}
 use Rattle.rules.specs.Backed.{rule-backed}
-use Rattle.certificate.specs.Valid.{Bundle}
+use Rattle.certificate.specs.Valid.{IsBundle}
 use Rattle.certificate.specs.Exact.{bundle-out, every-out}
 use Rattle.modules.specs.declared.Module.{Module}
 use Rattle.modules.specs.Counter.{above, module-fits, last-for}
@@ -66,7 +66,7 @@ module _ (form : Form) where
         pub coin-bit : coin < 2
         pub fit : fits form (m .n) (m .station) t ≡ true
         pub still-open : t .closed ≡ false
-        pub bundle : Bundle form (m .n) ws
+        pub bundle : IsBundle form (m .n) ws
         pub codes : All (λ s. verifies form (mac (m .key)) s ≡ true) (statements form ws 1 (suc (count-in ws)))
         pub fitting : Fitting form (m .n) (state-of form t .question) (state-of form t .stage) (main-of form ws) (certificate-of form ws)
         pub new : held-of (main-of form ws .station) (state-of form t .held) ≡ false
@@ -79,7 +79,7 @@ module _ (form : Form) where
         pub coin-bit : coin < 2
         pub fit : fits form (m .n) (m .station) t ≡ true
         pub still-open : t .closed ≡ false
-        pub bundle : Bundle form (m .n) ws
+        pub bundle : IsBundle form (m .n) ws
         pub codes : All (λ s. verifies form (mac (m .key)) s ≡ true) (statements form ws 1 (suc (count-in ws)))
         pub fitting : Fitting form (m .n) (state-of form t .question) (stage-of (main-of form ws)) (main-of form ws) (certificate-of form ws)
         pub on : t .jump ≡ true
@@ -129,7 +129,7 @@ module _ (form : Form) where
           pub coin-bit : coin < 2
           pub fit : fits form (m .n) (m .station) t ≡ true
           pub still-open : t .closed ≡ false
-          pub bundle : Bundle form (m .n) ws
+          pub bundle : IsBundle form (m .n) ws
           pub codes : All (λ s. verifies form (mac (m .key)) s ≡ true) (statements form ws 1 (suc (count-in ws)))
           pub fitting : Fitting form (m .n) (state-of form t .question) (state-of form t .stage) (main-of form ws) (certificate-of form ws)
           pub new : held-of (main-of form ws .station) (state-of form t .held) ≡ false
@@ -139,18 +139,18 @@ module _ (form : Form) where
         ten-tests =
             station-tests form m t coin out ++ (bundle-tests form (mac (m .key)) (m .n) (Only (t .identity .question)) ws ++ place-tests (state-of form t) (main-of form ws))
 
-        propers : Bundle form (m .n) ws → All (Proper form (m .n)) (statements form ws 1 (suc (count-in ws)))
+        propers : IsBundle form (m .n) ws → All (Proper form (m .n)) (statements form ws 1 (suc (count-in ws)))
         propers B =
             all-map (λ s p. record { formed = p .0; eight = p .1 }) (statements form ws 1 (suc (count-in ws)))
             (all-two (λ s. well-formed form (m .n) s ≡ true) (λ s. length (s .code) ≡ 8) (statements form ws 1 (suc (count-in ws)))
             (all-well form (m .n) ws 1 (suc (count-in ws)) (B .fields)) (eights form ws (suc (count-in ws)) 1 (omega (arith, B .size))))
 
-        parts : Bundle form (m .n) ws → Proper form (m .n) (main-of form ws) × All (Proper form (m .n)) (certificate-of form ws)
+        parts : IsBundle form (m .n) ws → Proper form (m .n) (main-of form ws) × All (Proper form (m .n)) (certificate-of form ws)
         unfolding statements
         parts B = propers B
 
         -- a bundle of the question that a rule backs, in the stage of its step
-        fitted : Bundle form (m .n) ws → one-question (main-of form ws) (certificate-of form ws) ≡ true → main-of form ws .question ≡ t .identity .question
+        fitted : IsBundle form (m .n) ws → one-question (main-of form ws) (certificate-of form ws) ≡ true → main-of form ws .question ≡ t .identity .question
             → rule (m .n) (main-of form ws) (certificate-of form ws) ≡ true → (g : Stage) → step (main-of form ws) ≡ stage-step g
             → Fitting form (m .n) (state-of form t .question) g (main-of form ws) (certificate-of form ws)
         fitted B q e u g there =
