@@ -96,12 +96,12 @@ edge-15 = call 1 (opens 0 0 1 out) ∷ call 2 (opens 1 1 1 out) ∷ edge-13
 abbrev pub edge-18 : List Call
 edge-18 = Toy.give 5 1 (bundle edge-3) 2 (give 1 [] (call 1 (gives 7 closed-station (bundle edge-3) 0 out) ∷ edge-15))
 
--- 1, 3, 2: site 3 opens with 2 for both settings and no lent output, has its module code no words, and toss 2
+-- 1, 2, 3, 2: site 3 opens with 2 for both settings and no lent output, with jump 2 alone, has its module code no words, and toss 2
 abbrev pub edges : List Call
-edges = call 3 (tosses [] 2) ∷ call 3 (codes []) ∷ call 3 (opens 0 2 2 []) ∷ edge-18
+edges = call 3 (tosses [] 2) ∷ call 3 (codes []) ∷ call 3 (opens 0 0 2 out) ∷ call 3 (opens 0 2 2 []) ∷ edge-18
 
 abbrev pub answers : List ℕ
-answers = 2 ∷ 3 ∷ 1 ∷ 2 ∷ 3 ∷ 11 ∷ 12 ∷ 20 ∷ 21 ∷ 0 ∷ 0 ∷ 0 ∷ 20 ∷ 0 ∷ 0 ∷ 0 ∷ 20 ∷ 0 ∷ 20 ∷ 0 ∷ 20 ∷ []
+answers = 2 ∷ 3 ∷ 2 ∷ 1 ∷ 2 ∷ 3 ∷ 11 ∷ 12 ∷ 20 ∷ 21 ∷ 0 ∷ 0 ∷ 0 ∷ 20 ∷ 0 ∷ 0 ∷ 0 ∷ 20 ∷ 0 ∷ 20 ∷ 0 ∷ 20 ∷ []
 
 -- ---- what is computed of the list, all at once
 record Facts : Type 0 where
@@ -163,11 +163,11 @@ others = others-out toy [] 5 (4 ∷ 5 ∷ []) edges (ap (λ (f : Facts). f .few)
 -- their votes were coded apart from a station
 faulty-4 : Sound toy [] 5 4 edges → ⊥
 unfolding Rattle.agreement.specs.Demand.Sound
-faulty-4 s = sound-before toy [] 5 4 (take 11 edges) edge-10 s .0 refl (ap (λ (f : Facts). getD (f .numbers) 11 0) computed)
+faulty-4 s = sound-before toy [] 5 4 (take 12 edges) edge-10 s .0 refl (ap (λ (f : Facts). getD (f .numbers) 12 0) computed)
 
 faulty-5 : Sound toy [] 5 5 edges → ⊥
 unfolding Rattle.agreement.specs.Demand.Sound
-faulty-5 s = sound-before toy [] 5 5 (take 10 edges) edge-11 s .0 refl (ap (λ (f : Facts). getD (f .numbers) 10 0) computed)
+faulty-5 s = sound-before toy [] 5 5 (take 11 edges) edge-11 s .0 refl (ap (λ (f : Facts). getD (f .numbers) 11 0) computed)
 
 -- every opening on question 0 that was not refused brought 0, but for site 5's
 all-off : AllOff toy [] 5 edges 0
@@ -268,10 +268,10 @@ none-faulty : (n : ℕ) → FewFaulty toy [] n []
 unfolding Rattle.agreement.specs.Demand.Sound
 none-faulty n = record { faulty = []; few = omega arith; others = λ i low high out. tt }
 
-pub smallest : Claim toy [] least-stations []
+pub smallest-claim : Claim toy [] least-stations []
 unfolding Rattle.agreement.specs.Demand.Given
-smallest = demand-3-by present-form toy toy-eight [] least-stations (omega arith) (omega arith) [] tt (none-faulty least-stations)
+smallest-claim = demand-3-by present-form toy toy-eight [] least-stations (omega arith) (omega arith) [] tt (none-faulty least-stations)
 
-pub largest : Claim toy [] most-stations []
+pub largest-claim : Claim toy [] most-stations []
 unfolding Rattle.agreement.specs.Demand.Given
-largest = demand-3-by present-form toy toy-eight [] most-stations (omega arith) (omega arith) [] tt (none-faulty most-stations)
+largest-claim = demand-3-by present-form toy toy-eight [] most-stations (omega arith) (omega arith) [] tt (none-faulty most-stations)

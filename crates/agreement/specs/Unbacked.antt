@@ -17,7 +17,7 @@ use Rattle.agreement.specs.Theorem.{demand-3-by}
 use Rattle.agreement.specs.Computed.{computes, numbers, line, present, given, given-out, few, others-out, few-out, decides, decides-out, decides-there}
 use Rattle.agreement.specs.Toy.{toy, toy-eight, out}
 use Rattle.agreement.specs.Example.{give, bundle, lent, of-3}
-use Rattle.agreement.specs.Present.{proposed, answer, log, lineage, Sound, FewFaulty, CodesCame, Given, Decides, Claim}
+use Rattle.agreement.specs.Present.{proposed, answer, log, lineage, Sound, AllOff, FewFaulty, CodesCame, Given, Decides, Claim}
 
 -- a none vote of round 1 of station 3, over a proposal of station 1 with 1 and one of its own with 0
 abbrev pub unbacked-none : List ℕ → List ℕ → List ℕ → List ℕ
@@ -100,6 +100,11 @@ both-computed : facts both-jump 2 ≡ comes-to both-answers
 unfolding computes
 both-computed = refl
 
+-- nobody is fewer than the backing of 0
+pub too-few : (x : ℕ) → x ≡ 0 → backing 3 0 ≤ x → ⊥
+unfolding backing Rattle.laws.specs.Pick.pick
+too-few x z e = omega arith
+
 -- ---- all of it: a list within the premises, for which the claim therefore holds, and in which two sound sites decide what no site proposed
 pub record Unbacked (cs : List Call) (answers : List ℕ) : Type 1 where
   pub answered : numbers toy [] 3 cs ≡ answers
@@ -111,7 +116,9 @@ pub record Unbacked (cs : List Call) (answers : List ℕ) : Type 1 where
   pub decided-2 : Decides toy [] 3 cs 2 0 1 0
   pub unproposed : count (proposed (log toy [] 3 cs) 1 0) 3 ≡ 0
   pub claimed : Claim toy [] 3 cs
-  -- what the claim says of these two sites, though a sound site has jump on
+  -- a sound site has jump on, for else 0 would have its backing
+  pub not-off : AllOff toy [] 3 cs 1 → ⊥
+  -- what the claim says of these two sites all the same
   pub agreed : (v w : ℕ) → Decides toy [] 3 cs 1 0 1 v → Decides toy [] 3 cs 2 0 1 w → v ≡ w
   pub named-1 : present toy [] 3 cs 1 0 .decision ≡ 0
   pub named-2 : present toy [] 3 cs 2 0 .decision ≡ 0
@@ -169,6 +176,7 @@ module _ (cs : List Call) (answers : List ℕ) (r : ℕ) (computed : facts cs r 
         decided-2 = decided-2;
         unproposed = ap (λ (f : Facts). f .proposed) computed;
         claimed = claimed;
+        not-off = λ off. too-few _ (ap (λ (f : Facts). f .proposed) computed) (claimed .backed 2 0 1 0 sound-2 off decided-2);
         agreed = λ v w. claimed .agreement 1 2 0 0 1 v w sound-1 sound-2;
         named-1 = named-1;
         named-2 = named-2;
@@ -182,10 +190,6 @@ pub both-unbacked : Unbacked both-jump both-answers
 both-unbacked = unbacked both-jump both-answers 2 both-computed
 
 -- ---- so no theorem says that a decided value has its backing, where sound sites may jump
-pub enough-0 : (x : ℕ) → x ≡ 0 → backing 3 0 ≤ x → ⊥
-unfolding backing Rattle.laws.specs.Pick.pick
-enough-0 x z e = omega arith
-
 pub backing-needs-its-premise :
     ((i k v : ℕ) → Sound toy [] 3 i both-jump → Decides toy [] 3 both-jump i k 1 v → backing 3 v ≤ count (proposed (log toy [] 3 both-jump) 1 v) 3) → ⊥
-backing-needs-its-premise f = let w = both-unbacked in enough-0 _ (w .unproposed) (f 2 0 0 (w .sound-2) (w .decided-2))
+backing-needs-its-premise f = let w = both-unbacked in too-few _ (w .unproposed) (f 2 0 0 (w .sound-2) (w .decided-2))

@@ -12,7 +12,7 @@ use Rattle.agreement.specs.Demand.{opens, codes, Call, call}
 use Rattle.agreement.specs.Computed.{computes, off-out}
 use Rattle.agreement.specs.Toy.{toy, out}
 use Rattle.agreement.specs.Example.{give, bundle, lent, of-3}
-use Rattle.agreement.specs.Unbacked.{unbacked-none, facts, comes-to, Unbacked, unbacked, enough-0}
+use Rattle.agreement.specs.Unbacked.{unbacked-none, facts, comes-to, Unbacked, unbacked, too-few}
 use Rattle.agreement.specs.Present.{proposed, log, Sound, JumpOff, Decides}
 
 -- ---- the list
@@ -94,4 +94,4 @@ off-at-1 = off-out toy [] 3 (λ i. eqb i 1) 1 lone-jump refl 1 refl
 
 pub backing-needs-every-site :
     ((i k v : ℕ) → Sound toy [] 3 i lone-jump → JumpOff toy [] 3 i 1 lone-jump → Decides toy [] 3 lone-jump i k 1 v → backing 3 v ≤ count (proposed (log toy [] 3 lone-jump) 1 v) 3) → ⊥
-backing-needs-every-site f = let w = lone-unbacked in enough-0 _ (w .unproposed) (f 1 0 0 (w .sound-1) off-at-1 (w .decided-1))
+backing-needs-every-site f = let w = lone-unbacked in too-few _ (w .unproposed) (f 1 0 0 (w .sound-1) off-at-1 (w .decided-1))
