@@ -1,3 +1,4 @@
+pub mod Ground
 pub mod Effect
 pub mod Line
 pub mod Giving

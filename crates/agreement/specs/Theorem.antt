@@ -11,8 +11,8 @@ use Rattle.laws.specs.Pick.{pick}
 use Rattle.laws.specs.Bools.{never, both, join, left, right}
 use Rattle.laws.specs.All.{All, all-map, all-two}
 use Rattle.laws.specs.Count.{count, meet}
-use Rattle.format.specs.Form.{Form, most-stations}
-use Rattle.format.specs.Numbers.{kind-INIT, kind-P, kind-V, none, D-GET, conflicting, code-words, least-stations}
+use Rattle.format.specs.Form.{Form}
+use Rattle.format.specs.Numbers.{kind-INIT, kind-P, kind-V, none, D-GET, conflicting, code-words}
 use Rattle.format.specs.Group.{quorum, backing, most-faulty}
 use Rattle.format.specs.Words.{kind-of, value-of}
 use Rattle.format.specs.Statement.{Statement, statement, statements, step}
@@ -41,6 +41,7 @@ use Rattle.agreement.specs.Maths.Safe as Safe
 use Rattle.agreement.specs.Maths.Safe.{Just, Split, LogOk, Decided}
 use Rattle.agreement.specs.Maths.Just.{bare, Coded, backed-just}
 use Rattle.agreement.specs.Maths.Took.{vote-out, one-more, none-there}
+use Rattle.agreement.specs.Laws.Ground.{Ground}
 use Rattle.agreement.specs.Laws.Effect.{plain-effect, toss-effect}
 use Rattle.agreement.specs.Laws.Line.{reads, AtSite, whole-came, Line, line-asked, line-low, line-named, line-names, line-open}
 use Rattle.agreement.specs.Maths.Standing.{Enough, Open}
@@ -116,27 +117,29 @@ every-one zero = refl
 every-one (suc k) = let z = every-one k in omega arith
 
 module _ (form : Form) where
-  module _ (mac : List ℕ → List ℕ → List ℕ) (eight : (key ws : List ℕ) → length (mac key ws) ≡ code-words) (key : List ℕ) (n : ℕ) (low : least-stations ≤ n) (top : n ≤ most-stations form) where
+  module _ (G : Ground form) where
+    open Ground G using (mac, key, n, low, top)
+
     -- ---- the invariant of a list, for a list of sites outside which all are sound
     abbrev pub AllSound : List ℕ → List Call → Type 0
     AllSound faulty cs = (i : ℕ) → 1 ≤ i → i ≤ n → member i faulty ≡ false → Sound form mac key n i cs
 
-    pub inv : (faulty : List ℕ) (cs : List Call) → Given form mac key n cs → AllSound faulty cs → Inv form mac eight key n low top faulty cs
+    pub inv : (faulty : List ℕ) (cs : List Call) → Given form mac key n cs → AllSound faulty cs → Inv form G faulty cs
     unfolding Given Sound log lineage modules
     inv faulty [] g s = record { logs = start form key n faulty (λ i q. JumpOff form mac key n i q []) low top; lines = λ i k line a b h e. absurd (let z : _≡_ {A = ℕ} 0 1 = cc in omega arith) }
     inv faulty (call j (opens q v setting out) ∷ cs) g s =
-        open-step form mac eight key n low top faulty j q v setting out cs (g .0 .0) (g .0 .1) (inv faulty cs (g .1 .1) (λ i a b h. s i a b h .1))
+        open-step form G faulty j q v setting out cs (g .0 .0) (g .0 .1) (inv faulty cs (g .1 .1) (λ i a b h. s i a b h .1))
     inv faulty (call j (gives o t ws coin out) ∷ cs) g s =
-        give-step form mac eight key n low top faulty j o t ws coin out cs (g .0 .0) (g .0 .1) (inv faulty cs (g .1 .1) (λ i a b h. s i a b h .1)) (g .1 .0 .0) (g .1 .0 .1)
+        give-step form G faulty j o t ws coin out cs (g .0 .0) (g .0 .1) (inv faulty cs (g .1 .1) (λ i a b h. s i a b h .1)) (g .1 .0 .0) (g .1 .0 .1)
         (λ h u. s j (g .0 .0) (g .0 .1) h .0 refl u)
         (λ h u on off. let p = s j (g .0 .0) (g .0 .1) h .0 refl u in
         setting-known form mac key n cs (g .1 .1) j o (p .line) (s j (g .0 .0) (g .0 .1) h .1) (p .is) (ap (λ (x : Station). x .jump) (p .now) ∙ on)
         (subst (λ (x : Station). JumpOff form mac key n j (x .identity .question) cs) (sym (p .now)) off))
     inv faulty (call j (codes ws) ∷ cs) g s =
-        apart-step form mac eight key n low top faulty j (codes ws) cs refl (plain-effect form mac eight key n (modules form mac key n cs j) j ws) (g .0 .0) (g .0 .1) (inv faulty cs (g .1 .1) (λ i a b h. s i a b h .1))
+        apart-step form G faulty j (codes ws) cs refl (plain-effect form G (modules form mac key n cs j) j ws) (g .0 .0) (g .0 .1) (inv faulty cs (g .1 .1) (λ i a b h. s i a b h .1))
         (λ h e. s j (g .0 .0) (g .0 .1) h .0 refl e)
     inv faulty (call j (tosses ws coin) ∷ cs) g s =
-        apart-step form mac eight key n low top faulty j (tosses ws coin) cs refl (toss-effect form mac eight key n (modules form mac key n cs j) j ws coin) (g .0 .0) (g .0 .1) (inv faulty cs (g .1 .1) (λ i a b h. s i a b h .1))
+        apart-step form G faulty j (tosses ws coin) cs refl (toss-effect form G (modules form mac key n cs j) j ws coin) (g .0 .0) (g .0 .1) (inv faulty cs (g .1 .1) (λ i a b h. s i a b h .1))
         (λ h e. s j (g .0 .0) (g .0 .1) h .0 refl e)
 
     -- a station belongs to a site of the group
@@ -164,7 +167,7 @@ module _ (form : Form) where
         (in-group cs (g .1 .1) i k line) e
 
     -- ---- from the invariant to the claims
-    module _ (faulty : List ℕ) (few : length faulty ≤ most-faulty n) (cs : List Call) (I : Inv form mac eight key n low top faulty cs) where
+    module _ (faulty : List ℕ) (few : length faulty ≤ most-faulty n) (cs : List Call) (I : Inv form G faulty cs) where
       abbrev l : List Statement
       l = reads form (log form mac key n cs)
 
@@ -411,7 +414,7 @@ module _ (form : Form) where
           go false e true f = subst (λ (z : ℕ). Sound form mac key n z cs) (sym (eqb-true x j f)) sj
           go false e false f = F .others x a b (without-other j x (F .faulty) (eqb-false x j f) (without-other i x (without j (F .faulty)) (eqb-false x i e) h))
 
-      pub at : (i j : ℕ) → Sound form mac key n i cs → Sound form mac key n j cs → Inv form mac eight key n low top (rest i j) cs
+      pub at : (i j : ℕ) → Sound form mac key n i cs → Sound form mac key n j cs → Inv form G (rest i j) cs
       at i j si sj = inv (rest i j) cs g (rest-sound i j si sj)
 
       -- the five claims on what a station took, of which those on the named decision follow
@@ -455,7 +458,7 @@ module _ (form : Form) where
 
   -- ---- the theorem, for every code of eight words
   pub demand-3-by : (mac : List ℕ → List ℕ → List ℕ) → ((key ws : List ℕ) → length (mac key ws) ≡ code-words) → Demand-3 form mac
-  demand-3-by mac eight key n low top cs g f = claim mac eight key n low top cs g f
+  demand-3-by mac eight key n low top cs g f = claim (record { mac = mac; eight = eight; key = key; n = n; low = low; top = top }) cs g f
 
   -- and for HMAC-SHA-256
   pub demand-3 : Demand-3 form hmac-code

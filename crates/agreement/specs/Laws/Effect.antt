@@ -12,7 +12,7 @@ use Rattle.laws.specs.Pick.{pick}
 use Rattle.laws.specs.Bools.{never, both}
 use Rattle.laws.specs.Refusals.{Test, test, first-failed, all-passed}
 use Rattle.format.specs.Form.{Form, fields-at, statement-words}
-use Rattle.format.specs.Numbers.{out-of-range, code-words}
+use Rattle.format.specs.Numbers.{out-of-range}
 use Rattle.format.specs.Statement.{Statement, statement, covered, step, well-formed, formed}
 use Rattle.format.specs.Laws.Layout.{formed-well}
 use Rattle.format.specs.Laws.Shape.{Shape, init, proposal, vote, formed-out, formed-in}
@@ -28,6 +28,7 @@ use Rattle.format.specs.Laws.ReadBack.{Proper}
 use Rattle.format.specs.Laws.Covered.{covered-front, covered-alone}
 use Rattle.station.specs.Laws.Views.{Opens, no-opening, begins, opens-view, Gives, refuses, holds-on, shuts, goes-on, enters, gives-view}
 use Rattle.station.specs.Returns.{unrefused, wrote, wrote-unrefused, sent-wrote}
+use Rattle.agreement.specs.Laws.Ground.{Ground}
 use Rattle.agreement.specs.Demand.{Action, opens, gives, codes, tosses, view, Entry, act, bundle-coded, statement-coded, coded-in, as-returned}
 
 refused-silent : (k : ℕ) → unrefused k ≡ false → wrote k ≡ false
@@ -41,7 +42,9 @@ module _ (form : Form) where
   abbrev pub entry : ℕ → Statement → Entry
   entry i s = record { at = i; words = covered form s }
 
-  module _ (mac : List ℕ → List ℕ → List ℕ) (eight : (key ws : List ℕ) → length (mac key ws) ≡ code-words) (key : List ℕ) (n : ℕ) where
+  module _ (G : Ground form) where
+    open Ground G using (mac, eight, key, n)
+
     -- what a module codes at a call of site i
     abbrev pub coded-at : Module → ℕ → Action → List Entry
     coded-at m i a = coded-in form i (view a) (act form mac key n m a)

@@ -12,7 +12,7 @@ use Rattle.laws.specs.Bools.{never, both, join, left}
 use Rattle.laws.specs.All.{All}
 use Rattle.laws.specs.Count.{count}
 use Rattle.format.specs.Form.{Form, most-stations, last-round}
-use Rattle.format.specs.Numbers.{kind-INIT, kind-V, none, D-GET, kept, sent, sent-decided, closed-now, jumped, code-words, least-stations}
+use Rattle.format.specs.Numbers.{kind-INIT, kind-V, none, D-GET, kept, sent, sent-decided, closed-now, jumped, code-words}
 use Rattle.format.specs.Group.{quorum}
 use Rattle.format.specs.Statement.{Statement, statement, written, step}
 use Rattle.format.specs.Bundle.{main-of, certificate-of, all-written, bundle-of, over}
@@ -36,6 +36,7 @@ use Rattle.agreement.specs.Maths.Safe.{Just, Split}
 use Rattle.agreement.specs.Maths.Just.{bare, backed-just}
 use Rattle.agreement.specs.Maths.Standing.{Standing}
 use Rattle.agreement.specs.Maths.Took.{none-there, enough-before}
+use Rattle.agreement.specs.Laws.Ground.{Ground}
 use Rattle.agreement.specs.Laws.Lists.{same-line, module-now, module-other, module-same}
 use Rattle.agreement.specs.Laws.Effect.{entry, coded-at, Effect, silent, speaks, log-of, after-of, open-coded, open-after, give-coded, give-after}
 use Rattle.agreement.specs.Laws.Line.{reads, reads-append, AtSite, Line, line-more, open-line}
@@ -99,7 +100,9 @@ module _ (form : Form) where
     pub init-line : Line form (m .n) l2 (m .station) (W.as-station form (m .n) (m .station) (began (m .n) q j Gathering none s [])) (s ∷ [])
     init-line = open-line form (m .n) (m .station) l2 (began (m .n) q j Gathering none s []) (s ∷ []) (r .at-most) (r .low) (r .high) (init-sane form mac eight m q v j r p) init-standing
 
-  module _ (mac : List ℕ → List ℕ → List ℕ) (eight : (key ws : List ℕ) → length (mac key ws) ≡ code-words) (key : List ℕ) (n : ℕ) (low : least-stations ≤ n) (top : n ≤ most-stations form) (faulty : List ℕ) where
+  module _ (G : Ground form) (faulty : List ℕ) where
+    open Ground G using (mac, eight, key, n, top)
+
     -- a site's module is the group's: what holds by its words holds by the group's
     of-mine : (i : ℕ) (m : Module) → OfGroup key n i m → (l : List Statement) (t : Station) (took : List Statement)
         → Line form (m .n) l (m .station) t took → Line form n l i t took
@@ -134,7 +137,7 @@ module _ (form : Form) where
 
       -- what the call coded
       abbrev new : List Entry
-      new = coded-at form mac eight key n m (site c) (action c)
+      new = coded-at form G m (site c) (action c)
 
       -- a setting that is off in the longer list was off before
       off-before : (i q : ℕ) → Off (c ∷ cs) i q → Off cs i q
@@ -202,7 +205,7 @@ module _ (form : Form) where
     middle false b c e = refl
 
     -- ---- coding
-    by-coding : (c : Call) (cs : List Call) → 1 ≤ site c → site c ≤ n → Inv cs → Effect form mac eight key n (modules form mac key n cs (site c)) (site c) (action c)
+    by-coding : (c : Call) (cs : List Call) → 1 ≤ site c → site c ≤ n → Inv cs → Effect form G (modules form mac key n cs (site c)) (site c) (action c)
         → ((i k : ℕ) → lineage form mac key n (c ∷ cs) i k ≡ lineage form mac key n cs i k)
         → ((s : Statement) → new c cs ≡ entry form (site c) s ∷ [] → member (site c) faulty ≡ false → ⊥) → Inv (c ∷ cs)
     by-coding c cs lo hi I (silent e a) same never-coded =
@@ -220,7 +223,7 @@ module _ (form : Form) where
         }
 
     -- what stands apart from the stations, by its effect
-    pub apart-step : (i : ℕ) (a : Action) (cs : List Call) → view a ≡ apart → Effect form mac eight key n (modules form mac key n cs i) i a → 1 ≤ i → i ≤ n → Inv cs
+    pub apart-step : (i : ℕ) (a : Action) (cs : List Call) → view a ≡ apart → Effect form G (modules form mac key n cs i) i a → 1 ≤ i → i ≤ n → Inv cs
         → (member i faulty ≡ false → answer form mac key n cs (call i a) .number ≡ 0 → ⊥) → Inv (call i a ∷ cs)
     unfolding lineage
     apart-step i a cs is-apart effect lo hi I none-coded =
@@ -262,9 +265,9 @@ module _ (form : Form) where
 
           refused-so : (k : ℕ) → opening-outcome form mac mj q v setting out ≡ refused k → unrefused k ≡ false → Inv (c ∷ cs)
           refused-so k e w =
-              let quiet-log = none-read c cs lo hi (I .logs) (open-coded form mac eight key n mj j q v setting out ∙ ap (log-of form mac eight key n j) e) in
+              let quiet-log = none-read c cs lo hi (I .logs) (open-coded form G mj j q v setting out ∙ ap (log-of form G j) e) in
               record {
-                logs = quiet c cs lo hi (I .logs) (quiet-log .0) (quiet-log .1) (open-after form mac eight key n mj j q v setting out ∙ ap (after-of form mac eight key n mj) e);
+                logs = quiet c cs lo hi (I .logs) (quiet-log .0) (quiet-log .1) (open-after form G mj j q v setting out ∙ ap (after-of form G mj) e);
                 lines = subst (λ (l : List Statement). Lines l (lineage form mac key n (c ∷ cs))) (sym (reads-quiet c cs lo hi (I .logs) (quiet-log .0)))
                     (lines-are (returned form mj (no-station form) out (refused k)) (answer-is (refused k) e) (reads form (log form mac key n cs))
                     (λ i x line a b h f. I .lines i x line a b h (not-picked (eqb j i && unrefused k && eqb (openings form mac key n cs i) x) _ _ _ (middle (eqb j i) (unrefused k) _ w) f)));
@@ -276,10 +279,10 @@ module _ (form : Form) where
               let s = init-statement form mac mj q v out in
               let o = sends sent s [] (began (mj .n) q (eqb setting 1) Gathering none s []) in
               let proper : Proper form (mj .n) s = own-proper form mac eight mj q kind-INIT v D-GET 0 r (init refl refl p refl) in
-              let coded = one-read c cs lo hi (I .logs) s proper refl (open-coded form mac eight key n mj j q v setting out ∙ ap (log-of form mac eight key n j) e) in
+              let coded = one-read c cs lo hi (I .logs) s proper refl (open-coded form G mj j q v setting out ∙ ap (log-of form G j) e) in
               let to-n : (l : List Statement) → Just (mj .n) l s → Just n l s = λ l x. subst (λ (z : ℕ). Just z l s) (mine .same-n) x in
               record {
-                logs = spoke c cs lo hi (I .logs) s proper refl a (coded .0) (coded .1) (open-after form mac eight key n mj j q v setting out ∙ ap (after-of form mac eight key n mj) e)
+                logs = spoke c cs lo hi (I .logs) s proper refl a (coded .0) (coded .1) (open-after form G mj j q v setting out ∙ ap (after-of form G mj) e)
                     (λ h. to-n (reads form (log form mac key n cs)) (init-just mac eight mj q v (eqb setting 1) out (reads form (log form mac key n cs)) r p (reads form (log form mac key n cs)))) (λ h o x y. absurd (omega arith));
                 lines = subst (λ (l : List Statement). Lines l (lineage form mac key n (c ∷ cs))) (sym (reads-spoke c cs lo hi (I .logs) s (coded .0)))
                     (lines-are (returned form mj (no-station form) out o) (answer-is o e) (bare s ∷ reads form (log form mac key n cs))
@@ -379,13 +382,13 @@ module _ (form : Form) where
                   (subst (λ (x : ℕ). Line form n l x (r .station) (written-main form r ++ (given-main form r ws ++ W .line .took))) ji (next W hj))
 
       abbrev coded-g : Outcome → Type 0
-      coded-g x = new g cs ≡ log-of form mac eight key n j x
+      coded-g x = new g cs ≡ log-of form G j x
 
       log-g : (x : Outcome) → giving-outcome form mac mg t ws coin out ≡ x → coded-g x
-      log-g x e = give-coded form mac eight key n mg j o t ws coin out len ∙ ap (log-of form mac eight key n j) e
+      log-g x e = give-coded form G mg j o t ws coin out len ∙ ap (log-of form G j) e
 
-      after-g : (x : Outcome) → giving-outcome form mac mg t ws coin out ≡ x → act form mac key n mg (action g) .after ≡ after-of form mac eight key n mg x
-      after-g x e = give-after form mac eight key n mg j o t ws coin out len ∙ ap (after-of form mac eight key n mg) e
+      after-g : (x : Outcome) → giving-outcome form mac mg t ws coin out ≡ x → act form mac key n mg (action g) .after ≡ after-of form G mg x
+      after-g x e = give-after form G mg j o t ws coin out len ∙ ap (after-of form G mg) e
 
       came-g : CodesCame form mac (mg .key) (mg .n) (log form mac key n cs) ws
       came-g = came-mine j mg mine-g (log form mac key n cs) ws came
@@ -394,7 +397,7 @@ module _ (form : Form) where
       number-g x e u = ap (λ (r : Returned). unrefused (r .number)) (returned-is x e) ∙ u
 
       -- a call that coded nothing
-      silent-inv : (x : Outcome) → giving-outcome form mac mg t ws coin out ≡ x → log-of form mac eight key n j x ≡ [] → after-of form mac eight key n mg x ≡ mg → Lines before (given-by (returned form mg t out x)) → Inv (g ∷ cs)
+      silent-inv : (x : Outcome) → giving-outcome form mac mg t ws coin out ≡ x → log-of form G j x ≡ [] → after-of form G mg x ≡ mg → Lines before (given-by (returned form mg t out x)) → Inv (g ∷ cs)
       silent-inv x e nil same h =
           let r = none-read g cs lo hi (I .logs) (log-g x e ∙ nil) in
           record {

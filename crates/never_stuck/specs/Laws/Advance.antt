@@ -10,10 +10,9 @@ use borrow.Author.Tests.{eqb-true, eqb-false, not-true}
 use Rattle.laws.specs.Bools.{join}
 use Rattle.laws.specs.Count.{count, count-not, meet, Shared}
 use Rattle.format.specs.Form.{present-form}
-use Rattle.format.specs.Numbers.{code-words, least-stations}
 use Rattle.format.specs.Group.{quorum}
 use Rattle.format.specs.Statement.{Statement}
-use Rattle.format.specs.Present.{most-stations, main-of}
+use Rattle.format.specs.Present.{main-of}
 use Rattle.certificate.specs.Check.{every}
 use Rattle.modules.specs.declared.Module.{Module}
 use Rattle.modules.specs.Counter.{last-for}
@@ -24,6 +23,7 @@ use Rattle.station.specs.Returns.{unrefused}
 use Rattle.station.specs.Laws.Insert.{insert-length, every-insert}
 use Rattle.station.specs.Present.{state-of}
 use Rattle.agreement.specs.Maths.Took.{count-held, number-few}
+use Rattle.agreement.specs.Laws.Ground.{Ground}
 use Rattle.agreement.specs.Laws.Lists.{module-other, lineage-other}
 use Rattle.agreement.specs.Demand.{Call, call, gives}
 use Rattle.agreement.specs.Present.{modules, answer, lineage, Presents, Sound}
@@ -54,7 +54,9 @@ someone f h n e =
     let few : count (λ y. held-of y h) n ≤ length h = omega (arith, count-held (λ s. true) h n, number-few (λ s. true) h) in
     meet f (λ y. not (held-of y h)) n (omega (arith, count-not (λ y. held-of y h) n))
 
-module _ (mac : List ℕ → List ℕ → List ℕ) (eight : (key ws : List ℕ) → length (mac key ws) ≡ code-words) (key : List ℕ) (n : ℕ) (low : least-stations ≤ n) (top : n ≤ most-stations) (q : ℕ) (team : ℕ → Bool) (floor : ℕ) where
+module _ (G : Ground present-form) (q : ℕ) (team : ℕ → Bool) (floor : ℕ) where
+  open Ground G using (mac, key, n)
+
   pub then-onward : (a b c : List Call) → Onward mac key n q team floor a b → Onward mac key n q team floor b c → Onward mac key n q team floor a c
   then-onward a b _ o done = o
   then-onward a b _ o (give r x k t y ws coin tx ty p on w fl bit un) = give (then-onward a b _ o r) x k t y ws coin tx ty p on w fl bit un
@@ -62,16 +64,16 @@ module _ (mac : List ℕ → List ℕ → List ℕ) (eight : (key ws : List ℕ)
   -- a sound site stays sound
   pub onward-sound : (i : ℕ) (a b : List Call) → Onward mac key n q team floor a b → Sound mac key n i a → Sound mac key n i b
   onward-sound i a _ done s = s
-  onward-sound i a _ (give {cs'} r x k t y ws coin tx ty p on w fl bit un) s = sound-next mac key n cs' x k t ws coin room p i (onward-sound i a cs' r s)
+  onward-sound i a _ (give {cs'} r x k t y ws coin tx ty p on w fl bit un) s = sound-next G cs' x k t ws coin room p i (onward-sound i a cs' r s)
 
   -- a list that site x alone has gone on with: stations and modules of the other sites are as before, and what was written stays so
   pub record Step (cs : List Call) (x : ℕ) : Type 0 where
     pub list : List Call
-    pub premises : Premises mac key n list
+    pub premises : Premises G list
     pub onward : Onward mac key n q team floor cs list
     pub module-on : (z : ℕ) → (z ≡ x → ⊥) → modules mac key n list z ≡ modules mac key n cs z
     pub line-on : (z o : ℕ) → (z ≡ x → ⊥) → lineage mac key n list z o ≡ lineage mac key n cs z o
-    pub spoken : (y σ : ℕ) (ws : List ℕ) → Spoke mac key n cs y q σ ws → Spoke mac key n list y q σ ws
+    pub spoken : (y σ : ℕ) (ws : List ℕ) → Spoke G cs y q σ ws → Spoke G list y q σ ws
 
   abbrev then-step : (cs : List Call) (x : ℕ) (a : Step cs x) → Step (a .list) x → Step cs x
   then-step cs x a b =
@@ -98,7 +100,7 @@ module _ (mac : List ℕ → List ℕ → List ℕ) (eight : (key ws : List ℕ)
         not-gone-on = ap (λ (m : Module). last-for m q .question) (s .module-on z ne) ∙ w .not-gone-on;
       }
 
-  pub said-on : (cs : List Call) (x : ℕ) (s : Step cs x) (y σ : ℕ) (ok : Statement → Bool) → Said mac key n cs y q σ ok → Said mac key n (s .list) y q σ ok
+  pub said-on : (cs : List Call) (x : ℕ) (s : Step cs x) (y σ : ℕ) (ok : Statement → Bool) → Said G cs y q σ ok → Said G (s .list) y q σ ok
   said-on cs x s y σ ok w = record { words = w .words; spoke = s .spoken y σ (w .words) (w .spoke); passes = w .passes }
 
   -- a site whose station on the question stands at a step: words that it wrote for that step are its last
@@ -109,7 +111,7 @@ module _ (mac : List ℕ → List ℕ → List ℕ) (eight : (key ws : List ℕ)
     pub asked : station .identity .question ≡ q
     pub there : stage-step (station .stage) ≡ σ
 
-  pub last-words : (cs : List Call) (y σ : ℕ) (ws : List ℕ) → Stands cs y σ → Spoke mac key n cs y q σ ws → Last mac key n cs q y ws
+  pub last-words : (cs : List Call) (y σ : ℕ) (ws : List ℕ) → Stands cs y σ → Spoke G cs y q σ ws → Last mac key n cs q y ws
   last-words cs y σ ws s w = record { opening = s .opening; station = s .station; presents = s .presents; asked = s .asked; in-step = w .in-step ∙ sym (s .there) }
 
   pub then-last : (a b c : List Call) → ByLast mac key n q team a b → ByLast mac key n q team b c → ByLast mac key n q team a c
@@ -118,7 +120,7 @@ module _ (mac : List ℕ → List ℕ → List ℕ) (eight : (key ws : List ℕ)
 
   pub last-sound : (i : ℕ) (a b : List Call) → ByLast mac key n q team a b → Sound mac key n i a → Sound mac key n i b
   last-sound i a _ done s = s
-  last-sound i a _ (give {cs'} r x k t y ws coin tx ty p on w l bit un) s = sound-next mac key n cs' x k t ws coin room p i (last-sound i a cs' r s)
+  last-sound i a _ (give {cs'} r x k t y ws coin tx ty p on w l bit un) s = sound-next G cs' x k t ws coin room p i (last-sound i a cs' r s)
 
   -- site x has ended the step of stage g, all that it holds passing a test; by last bundles alone, if the whole team stood at that step
   pub record Advanced (cs : List Call) (x k : ℕ) (g : Stage) (d : ℕ) (jump : Bool) (coin : ℕ) (ok : Statement → Bool) : Type 0 where
@@ -130,29 +132,29 @@ module _ (mac : List ℕ → List ℕ → List ℕ) (eight : (key ws : List ℕ)
     pub setting : state .jump ≡ jump
     pub full : length (state .held) ≡ quorum n
     pub all-ok : every ok (state .held) ≡ true
-    pub ended : Ended mac eight key n low top q (step .list) x k g d state coin station
-    pub voted : Voted mac eight key n low top q g state (presents .line .took)
+    pub ended : Ended G q (step .list) x k g d state coin station
+    pub voted : Voted G q g state (presents .line .took)
     pub by-last : ((y : ℕ) → 1 ≤ y → y ≤ n → team y ≡ true → Stands cs y (stage-step g)) → ByLast mac key n q team cs (step .list)
 
   module _ (enough : Quorate n team) (x k coin : ℕ) (ok : Statement → Bool) (tx : team x ≡ true) (bit : coin < 2) where
     -- as many givings as are missing, each of a site of the team that is not held
-    pub advance : (d : ℕ) (cs : List Call) (t : Station) → Premises mac key n cs → Waits mac key n cs q x k t → floor ≤ stage-step (t .stage)
-        → ((y : ℕ) → 1 ≤ y → y ≤ n → team y ≡ true → Said mac key n cs y q (stage-step (t .stage)) ok) → every ok (state-of t .held) ≡ true
+    pub advance : (d : ℕ) (cs : List Call) (t : Station) → Premises G cs → Waits mac key n cs q x k t → floor ≤ stage-step (t .stage)
+        → ((y : ℕ) → 1 ≤ y → y ≤ n → team y ≡ true → Said G cs y q (stage-step (t .stage)) ok) → every ok (state-of t .held) ≡ true
         → length (state-of t .held) < quorum n → quorum n ≤ d + length (state-of t .held) → Advanced cs x k (t .stage) (t .decision) (t .jump) coin ok
     advance zero cs t P W fl said oks few fuel = absurd (omega arith)
     advance (suc d) cs t P W fl said oks few fuel =
         let z = someone team (state-of t .held) n (omega arith) in
         go (z .at) (z .low) (z .high) (z .in-first) (said (z .at) (z .low) (z .high) (z .in-first)) (not-true (held-of (z .at) (state-of t .held)) (z .in-second)) (advance d)
       where
-        go : (y : ℕ) → 1 ≤ y → y ≤ n → team y ≡ true → (w : Said mac key n cs y q (stage-step (t .stage)) ok) → held-of y (state-of t .held) ≡ false
-            → ((cs : List Call) (t : Station) → Premises mac key n cs → Waits mac key n cs q x k t → floor ≤ stage-step (t .stage)
-            → ((y : ℕ) → 1 ≤ y → y ≤ n → team y ≡ true → Said mac key n cs y q (stage-step (t .stage)) ok) → every ok (state-of t .held) ≡ true
+        go : (y : ℕ) → 1 ≤ y → y ≤ n → team y ≡ true → (w : Said G cs y q (stage-step (t .stage)) ok) → held-of y (state-of t .held) ≡ false
+            → ((cs : List Call) (t : Station) → Premises G cs → Waits mac key n cs q x k t → floor ≤ stage-step (t .stage)
+            → ((y : ℕ) → 1 ≤ y → y ≤ n → team y ≡ true → Said G cs y q (stage-step (t .stage)) ok) → every ok (state-of t .held) ≡ true
             → length (state-of t .held) < quorum n → quorum n ≤ d + length (state-of t .held) → Advanced cs x k (t .stage) (t .decision) (t .jump) coin ok)
             → Advanced cs x k (t .stage) (t .decision) (t .jump) coin ok
-        go y lo hi ty w new ih = split (moved mac eight key n low top q cs P x k t W y (stage-step (t .stage)) (w .words) (w .spoke) coin bit un refl)
+        go y lo hi ty w new ih = split (moved G q cs P x k t W y (stage-step (t .stage)) (w .words) (w .spoke) coin bit un refl)
           where
             un : unrefused (answer mac key n cs (call x (gives k t (w .words) coin room)) .number) ≡ true
-            un = heard mac eight key n low top cs P q x k t W y (stage-step (t .stage)) (w .words) (w .spoke) coin bit refl new
+            un = heard G cs P q x k t W y (stage-step (t .stage)) (w .words) (w .spoke) coin bit refl new
 
             g : Call
             g = call x (gives k t (w .words) coin room)
@@ -164,14 +166,14 @@ module _ (mac : List ℕ → List ℕ → List ℕ) (eight : (key ws : List ℕ)
             one =
                 record {
                   list = call x (gives k t (w .words) coin room) ∷ cs;
-                  premises = premises-then mac eight key n low top q cs P x k t W y (stage-step (t .stage)) (w .words) (w .spoke) coin bit un;
+                  premises = premises-then G q cs P x k t W y (stage-step (t .stage)) (w .words) (w .spoke) coin bit un;
                   onward = give done x k t y (w .words) coin tx ty (W .presents) (W .asked) (w .spoke .by-call) (omega (arith, w .spoke .in-step)) bit un;
                   module-on = module-other present-form mac key n (call x (gives k t (w .words) coin room)) cs;
                   line-on = lineage-other present-form mac key n (call x (gives k t (w .words) coin room)) cs;
-                  spoken = λ y σ ws h. spoke-later mac key n (call x (gives k t (w .words) coin room)) cs y q σ ws h;
+                  spoken = λ y σ ws h. spoke-later G (call x (gives k t (w .words) coin room)) cs y q σ ws h;
                 }
 
-            oks1 : every ok (with-bundle mac eight key n low top q t (w .words) .held) ≡ true
+            oks1 : every ok (with-bundle G q t (w .words) .held) ≡ true
             oks1 = every-insert ok (main-of (w .words)) (state-of t .held) ∙ join (ok (main-of (w .words))) _ (w .passes) oks
 
             last-one : ((y : ℕ) → 1 ≤ y → y ≤ n → team y ≡ true → Stands cs y (stage-step (t .stage))) → ByLast mac key n q team cs (call x (gives k t (w .words) coin room) ∷ cs)
@@ -189,7 +191,7 @@ module _ (mac : List ℕ → List ℕ → List ℕ) (eight : (key ws : List ℕ)
                     record {
                       opening = s .opening;
                       station = s .station;
-                      presents = presents-other mac key n cs x k t (w .words) coin room (W .presents) z (s .opening) (s .station) (eqb-false z x e) (s .presents);
+                      presents = presents-other G cs x k t (w .words) coin room (W .presents) z (s .opening) (s .station) (eqb-false z x e) (s .presents);
                       asked = s .asked;
                       there = s .there;
                     }
@@ -211,14 +213,14 @@ module _ (mac : List ℕ → List ℕ → List ℕ) (eight : (key ws : List ℕ)
                   by-last = λ st. then-last cs (call x (gives k t (w .words) coin room) ∷ cs) (a .step .list) (last-one st) (a .by-last (λ z b c d. stands-on sx z (st z b c d)));
                 }
 
-            split : Moved mac eight key n low top q cs P x k t W y (stage-step (t .stage)) (w .words) (w .spoke) coin bit un → Advanced cs x k (t .stage) (t .decision) (t .jump) coin ok
+            split : Moved G q cs P x k t W y (stage-step (t .stage)) (w .words) (w .spoke) coin bit un → Advanced cs x k (t .stage) (t .decision) (t .jump) coin ok
             split (ends full e vs) =
                 record {
                   step = one;
                   station = answer mac key n cs (call x (gives k t (w .words) coin room)) .station;
-                  sound = sound-then mac eight key n low top q cs P x k t W y (stage-step (t .stage)) (w .words) (w .spoke) coin bit un;
-                  presents = presents-then mac eight key n low top q cs P x k t W y (stage-step (t .stage)) (w .words) (w .spoke) coin bit un;
-                  state = with-bundle mac eight key n low top q t (w .words);
+                  sound = sound-then G q cs P x k t W y (stage-step (t .stage)) (w .words) (w .spoke) coin bit un;
+                  presents = presents-then G q cs P x k t W y (stage-step (t .stage)) (w .words) (w .spoke) coin bit un;
+                  state = with-bundle G q t (w .words);
                   setting = state-jump t;
                   full = full;
                   all-ok = oks1;
@@ -237,5 +239,5 @@ module _ (mac : List ℕ → List ℕ → List ℕ) (eight : (key ws : List ℕ)
                 (subst (λ (z : Stage). Advanced (call x (gives k t (w .words) coin room) ∷ cs) x k z (t' .decision) (t .jump) coin ok) se
                 (subst (λ (z : Bool). Advanced (call x (gives k t (w .words) coin room) ∷ cs) x k (t' .stage) (t' .decision) z coin ok) je
                 (ih (call x (gives k t (w .words) coin room) ∷ cs) t' (one .premises) W' (subst (λ (z : Stage). floor ≤ stage-step z) (sym se) fl)
-                (λ y a b c. subst (λ (z : Stage). Said mac key n (call x (gives k t (w .words) coin room) ∷ cs) y q (stage-step z) ok) (sym se) (said-on cs x one y (stage-step (t .stage)) ok (said y a b c)))
+                (λ y a b c. subst (λ (z : Stage). Said G (call x (gives k t (w .words) coin room) ∷ cs) y q (stage-step z) ok) (sym se) (said-on cs x one y (stage-step (t .stage)) ok (said y a b c)))
                 (ap (every ok) he ∙ oks1) (subst (λ (z : List Statement). length z < quorum n) (sym he) few1) (omega (arith, le, fuel))))))

@@ -11,12 +11,11 @@ use Rattle.laws.specs.Bools.{left, right}
 use Rattle.laws.specs.All.{All, all-map, all-two}
 use Rattle.laws.specs.Count.{count, one-if}
 use Rattle.format.specs.Form.{present-form}
-use Rattle.format.specs.Numbers.{kind-P, none, code-words, least-stations}
+use Rattle.format.specs.Numbers.{kind-P, none}
 use Rattle.format.specs.Group.{quorum, most-faulty}
 use Rattle.format.specs.Statement.{Statement, step}
 use Rattle.format.specs.Laws.Shape.{Shape, init, proposal, vote, formed-out}
 use Rattle.format.specs.Laws.ReadBack.{Proper}
-use Rattle.format.specs.Present.{most-stations}
 use Rattle.certificate.specs.Check.{every}
 use Rattle.certificate.specs.Exact.{every-in}
 use Rattle.station.specs.declared.Station.{Station}
@@ -27,6 +26,7 @@ use Rattle.agreement.specs.Maths.Log.{In, has, Supp, all-at}
 use Rattle.agreement.specs.Maths.Safe as Safe
 use Rattle.agreement.specs.Maths.Safe.{Just}
 use Rattle.agreement.specs.Maths.Just.{Coded}
+use Rattle.agreement.specs.Laws.Ground.{Ground}
 use Rattle.agreement.specs.Laws.Line.{Line, line-open, reads}
 use Rattle.agreement.specs.Laws.Run.{Inv}
 use Rattle.agreement.specs.Theorem.{at, here, rest, rest-few, log-ok, bad-few, sound}
@@ -87,15 +87,16 @@ calm-one : (n : ℕ) (l : List Statement) (q r : ℕ) → (Supp n l kind-P q r 0
 unfolding agreeing-coin
 calm-one n l q r two s j h e f = calm-by n l q r (one-proposed n l q r) (leb-true (quorum n) (count (has l kind-P q r 1) n)) (λ y z. omega (arith, leb-false (quorum n) (count (has l kind-P q r 1) n) y)) two s j h e f
 
-module _ (mac : List ℕ → List ℕ → List ℕ) (eight : (key ws : List ℕ) → length (mac key ws) ≡ code-words) (key : List ℕ) (n : ℕ) (low : least-stations ≤ n) (top : n ≤ most-stations) (q : ℕ) (team : ℕ → Bool) (floor : ℕ)
-    (enough : Quorate n team) (r : ℕ) (cs : List Call) (P : Premises mac key n cs) where
+module _ (G : Ground present-form) (q : ℕ) (team : ℕ → Bool) (floor : ℕ) (enough : Quorate G.n team) (r : ℕ) (cs : List Call) (P : Premises G cs) where
+  open Ground G using (mac, key, n, low)
+
   abbrev l : List Statement
   l = reads present-form (log mac key n cs)
 
   abbrev pub coin : ℕ
   coin = agreeing-coin n (reads present-form (log mac key n cs)) q r
 
-  pub calm-held : (jump : Bool) (y : ℕ) (o : Waiting mac eight key n low top q team floor enough jump cs y (2 * r + 1) (2 * r + 1)) → every (calm coin) (state-of (o .station) .held) ≡ true
+  pub calm-held : (jump : Bool) (y : ℕ) (o : Waiting G q team floor enough jump cs y (2 * r + 1) (2 * r + 1)) → every (calm coin) (state-of (o .station) .held) ≡ true
   calm-held jump y o = every-in (calm coin) (state-of (o .station) .held) held-calm
     where
       in-step : stage-step (o .station .stage) ≡ 2 * r + 1
@@ -105,26 +106,26 @@ module _ (mac : List ℕ → List ℕ → List ℕ) (eight : (key ws : List ℕ)
       w = o .waits
 
       faulty : List ℕ
-      faulty = rest present-form mac eight key n low top cs (P .given) (P .few) y y
+      faulty = rest present-form G cs (P .given) (P .few) y y
 
       few : length faulty ≤ most-faulty n
-      few = rest-few present-form mac eight key n low top cs (P .given) (P .few) y y
+      few = rest-few present-form G cs (P .given) (P .few) y y
 
-      I : Inv present-form mac eight key n low top faulty cs
-      I = at present-form mac eight key n low top cs (P .given) (P .few) y y (w .sound) (w .sound)
+      I : Inv present-form G faulty cs
+      I = at present-form G cs (P .given) (P .few) y y (w .sound) (w .sound)
 
       -- a quorum proposes one value at most
       two : Supp n l kind-P q r 0 (quorum n) → Supp n l kind-P q r 1 (quorum n) → ⊥
       two a b =
           let e : _≡_ {A = ℕ} 0 1
-          = Safe.same n (sound present-form mac eight key n low top faulty few cs I) l (bad-few present-form mac eight key n low top faulty few cs I) low (log-ok present-form mac eight key n low top faulty few cs I) kind-P q r 0 1 a b in
+          = Safe.same n (sound present-form G faulty few cs I) l (bad-few present-form G faulty few cs I) low (log-ok present-form G faulty few cs I) kind-P q r 0 1 a b in
           omega arith
 
       took : List Statement
       took = w .presents .line .took
 
       L : Line present-form n l y (o .station) took
-      L = subst (λ (z : Station). Line present-form n l y z took) (w .presents .now) (here present-form mac eight key n low top cs (P .given) (P .few) y (o .opening) (w .presents .line) (w .sound) (w .presents .is))
+      L = subst (λ (z : Station). Line present-form n l y z took) (w .presents .now) (here present-form G cs (P .given) (P .few) y (o .opening) (w .presents .line) (w .sound) (w .presents .is))
 
       u : State
       u = state-of (o .station)
@@ -134,11 +135,11 @@ module _ (mac : List ℕ → List ℕ → List ℕ) (eight : (key ws : List ℕ)
 
       held-calm : All (λ s. calm coin s ≡ true) (u .held)
       held-calm =
-          let S = sane-of mac eight key n low top cs P q y (o .opening) (o .station) w in
+          let S = sane-of G cs P q y (o .opening) (o .station) w in
           all-map (λ s x. calm-one n l q r two s (all-at (λ s. Coded n l s × Just n l s) took (L .standing .facts) s (x .1 .0) .1) (formed-out present-form n s (x .0 .formed) .shape)
           (x .1 .1 .1 ∙ ap stage-step (state-stage (o .station)) ∙ in-step) (x .1 .1 .0 ∙ asked)) (u .held)
           (all-two (Proper present-form n) (λ s. In s took × ((s .question ≡ u .question) × (step s ≡ stage-step (u .stage)))) (u .held) (S .proper)
           (all-two (λ s. In s took) (λ s. (s .question ≡ u .question) × (step s ≡ stage-step (u .stage))) (u .held) (line-open present-form n l y (o .station) took L (w .still-open) .among) (S .alike)))
 
-  pub calmed : (jump : Bool) (y : ℕ) → Waiting mac eight key n low top q team floor enough jump cs y (2 * r + 1) (2 * r + 1) → At mac eight key n low top q team floor enough cs y (2 * r + 1) (calm coin)
+  pub calmed : (jump : Bool) (y : ℕ) → Waiting G q team floor enough jump cs y (2 * r + 1) (2 * r + 1) → At G q team floor enough cs y (2 * r + 1) (calm coin)
   calmed jump y o = record { opening = o .opening; station = o .station; waits = o .waits; in-step = omega (arith, o .from, o .upto); held-ok = calm-held jump y o }

@@ -13,7 +13,7 @@ use Rattle.laws.specs.Bools.{never, both, join, left, right, is-false}
 use Rattle.laws.specs.All.{All, all-append}
 use Rattle.laws.specs.Refusals.{Test, test, first-failed, all-passed, none-failed, passed-front}
 use Rattle.format.specs.Form.{present-form}
-use Rattle.format.specs.Numbers.{none, kept, sent, sent-decided, closed-now, jumped, conflicting, not-above, code-words, least-stations}
+use Rattle.format.specs.Numbers.{none, kept, sent, sent-decided, closed-now, jumped, conflicting, not-above}
 use Rattle.format.specs.Group.{quorum}
 use Rattle.format.specs.Words.{of-group}
 use Rattle.format.specs.Statement.{Statement, step}
@@ -39,6 +39,7 @@ use Rattle.station.specs.Laws.FitSane.{fits-sane}
 use Rattle.station.specs.Laws.Views.{after, sent-statement, jump-statement, ten-tests}
 use Rattle.station.specs.Present.{state-of, fits, returned, opening, giving, station-tests, give-tests, Lengths, Reached}
 use Rattle.agreement.specs.Maths.Taking.{steps-up}
+use Rattle.agreement.specs.Laws.Ground.{Ground}
 use Rattle.agreement.specs.Laws.Lists.{same-line}
 use Rattle.agreement.specs.Theorem.{claim, at, in-group, rest, rest-i, rest-sound}
 use Rattle.agreement.specs.Demand.{Call, call, gives, Lineage}
@@ -96,30 +97,32 @@ module _ (mac : List ℕ → List ℕ → List ℕ) (m : Module) (t : Station) (
       by true = refl
       by false = ended-by (closes last-round (t .stage))
 
-module _ (mac : List ℕ → List ℕ → List ℕ) (eight : (key ws : List ℕ) → length (mac key ws) ≡ code-words) (key : List ℕ) (n : ℕ) (low : least-stations ≤ n) (top : n ≤ most-stations) where
+module _ (G : Ground present-form) where
+  open Ground G using (mac, eight, key, n, low, top)
+
   -- a station made by opening and changed only by these calls fits
   reached-fits : (i : ℕ) (t : Station) → Reached mac key n i t → fits n i t ≡ true
-  reached-fits i _ (by-opening m question v jump out G u) =
-      subst (λ (z : ℕ). fits n z (opening mac m question v jump out .station) ≡ true) (G .same-number)
-      (subst (λ (z : ℕ). fits z (m .station) (opening mac m question v jump out .station) ≡ true) (G .same-n) (opening-fits present-form mac eight m question v jump out u))
-  reached-fits i _ (by-giving {t} r m ws coin out G u) =
-      subst (λ (z : ℕ). fits n z (giving mac m t ws coin out .station) ≡ true) (G .same-number)
-      (subst (λ (z : ℕ). fits z (m .station) (giving mac m t ws coin out .station) ≡ true) (G .same-n) (giving-fits present-form mac eight m t ws coin out (reached-good present-form mac key n eight i t r .lengths) u))
+  reached-fits i _ (by-opening m question v jump out mine u) =
+      subst (λ (z : ℕ). fits n z (opening mac m question v jump out .station) ≡ true) (mine .same-number)
+      (subst (λ (z : ℕ). fits z (m .station) (opening mac m question v jump out .station) ≡ true) (mine .same-n) (opening-fits present-form mac eight m question v jump out u))
+  reached-fits i _ (by-giving {t} r m ws coin out mine u) =
+      subst (λ (z : ℕ). fits n z (giving mac m t ws coin out .station) ≡ true) (mine .same-number)
+      (subst (λ (z : ℕ). fits z (m .station) (giving mac m t ws coin out .station) ≡ true) (mine .same-n) (giving-fits present-form mac eight m t ws coin out (reached-good present-form mac key n eight i t r .lengths) u))
 
-  module _ (cs : List Call) (P : Premises mac key n cs) where
+  module _ (cs : List Call) (P : Premises G cs) where
     -- what is known of a sound site's station
-    pub up-of : (x k : ℕ) (t : Station) → Sound mac key n x cs → Presents mac key n cs x k t → Up mac eight key n low top cs x t
+    pub up-of : (x k : ℕ) (t : Station) → Sound mac key n x cs → Presents mac key n cs x k t → Up G cs x t
     up-of x k t s p =
-        let r = in-group present-form mac eight key n low top cs (P .given) x k (p .line) (p .is) in
-        subst (λ (z : Station). Up mac eight key n low top cs x z) (p .now)
-        (walk mac eight key n low top (rest present-form mac eight key n low top cs (P .given) (P .few) x x) cs (P .given) (rest-sound present-form mac eight key n low top cs (P .given) (P .few) x x s s) x (r .0) (r .1)
-        (rest-i present-form mac eight key n low top cs (P .given) (P .few) x x) .up k (p .line) (p .is))
+        let r = in-group present-form G cs (P .given) x k (p .line) (p .is) in
+        subst (λ (z : Station). Up G cs x z) (p .now)
+        (walk G (rest present-form G cs (P .given) (P .few) x x) cs (P .given) (rest-sound present-form G cs (P .given) (P .few) x x s s) x (r .0) (r .1)
+        (rest-i present-form G cs (P .given) (P .few) x x) .up k (p .line) (p .is))
 
     -- a waiting station is sane
     pub sane-of : (q x k : ℕ) (t : Station) → Waits mac key n cs q x k t → Sane present-form n x (state-of t)
     sane-of q x k t w =
         let p = w .presents in
-        let r = in-group present-form mac eight key n low top cs (P .given) x k (p .line) (p .is) in
+        let r = in-group present-form G cs (P .given) x k (p .line) (p .is) in
         let u = up-of x k t (w .sound) p in
         fits-sane present-form n x t top (r .0) (r .1) (reached-good present-form mac key n eight x t (u .reached) .lengths) (reached-fits x t (u .reached)) (w .still-open)
 
@@ -128,25 +131,25 @@ module _ (mac : List ℕ → List ℕ → List ℕ) (eight : (key ws : List ℕ)
     same-waiting q x k o t u a b =
         let p = a .presents in
         let p' = b .presents in
-        let r = in-group present-form mac eight key n low top cs (P .given) x k (p .line) (p .is) in
-        let W = walk mac eight key n low top (rest present-form mac eight key n low top cs (P .given) (P .few) x x) cs (P .given) (rest-sound present-form mac eight key n low top cs (P .given) (P .few) x x (a .sound) (a .sound)) x
-        (r .0) (r .1) (rest-i present-form mac eight key n low top cs (P .given) (P .few) x x) in
+        let r = in-group present-form G cs (P .given) x k (p .line) (p .is) in
+        let W = walk G (rest present-form G cs (P .given) (P .few) x x) cs (P .given) (rest-sound present-form G cs (P .given) (P .few) x x (a .sound) (a .sound)) x
+        (r .0) (r .1) (rest-i present-form G cs (P .given) (P .few) x x) in
         let e : k ≡ o = W .unique k o (p .line) (p' .line) (p .is) (p' .is)
         (ap (λ (z : Station). z .identity .question) (p .now) ∙ a .asked ∙ sym (ap (λ (z : Station). z .identity .question) (p' .now) ∙ b .asked)) in
         sym (p .now) ∙ ap (λ (z : Lineage). z .present) (same-line (p .line) (p' .line) (sym (p .is) ∙ ap (lineage mac key n cs x) e ∙ p' .is)) ∙ p' .now
 
     -- what a site wrote for a step, given to a waiting station
-    module _ (q x k : ℕ) (t : Station) (W : Waits mac key n cs q x k t) (y σ : ℕ) (ws : List ℕ) (sp : Spoke mac key n cs y q σ ws) (coin : ℕ) (bit : coin < 2) where
+    module _ (q x k : ℕ) (t : Station) (W : Waits mac key n cs q x k t) (y σ : ℕ) (ws : List ℕ) (sp : Spoke G cs y q σ ws) (coin : ℕ) (bit : coin < 2) where
       abbrev m : Module
       m = modules mac key n cs x
 
       range-x : (1 ≤ x) × (x ≤ n)
-      range-x = in-group present-form mac eight key n low top cs (P .given) x k (W .presents .line) (W .presents .is)
+      range-x = in-group present-form G cs (P .given) x k (W .presents .line) (W .presents .is)
 
       mine : OfGroup key n x m
-      mine = at present-form mac eight key n low top cs (P .given) (P .few) x x (W .sound) (W .sound) .logs .mods x (range-x .0) (range-x .1)
+      mine = at present-form G cs (P .given) (P .few) x x (W .sound) (W .sound) .logs .mods x (range-x .0) (range-x .1)
 
-      up-t : Up mac eight key n low top cs x t
+      up-t : Up G cs x t
       up-t = up-of x k t (W .sound) (W .presents)
 
       len : Lengths t
@@ -211,7 +214,7 @@ module _ (mac : List ℕ → List ℕ → List ℕ) (eight : (key ws : List ℕ)
           where
             go : (b : Bool) → conflict (t .stage) (main-of ws ∷ state-of t .held) ≡ b → unrefused (giving mac m t ws coin room .number) ≡ true
             go true e =
-                absurd (claim present-form mac eight key n low top cs (P .given) (P .few) .no-conflict x k t ws coin room (W .sound) (W .presents) (sp .came) (clash-ten mac m t ws coin room len here ten e))
+                absurd (claim present-form G cs (P .given) (P .few) .no-conflict x k t ws coin room (W .sound) (W .presents) (sp .came) (clash-ten mac m t ws coin room len here ten e))
             go false e =
                 taken-heard mac m t ws coin room len here
                 (none-failed (give-tests mac m t ws coin room)

@@ -8,12 +8,16 @@ use lib.Dec.{eqb, leb}
 use borrow.Author.Tests.{eqb-true, eqb-false, leb-true, leb-false}
 use Rattle.laws.specs.Bools.{never}
 use Rattle.laws.specs.Count.{meet}
+use Rattle.format.specs.Form.{present-form}
 use Rattle.station.specs.Machine.{stage-step}
+use Rattle.agreement.specs.Laws.Ground.{Ground}
 use Rattle.agreement.specs.Theorem.{every-one}
 use Rattle.agreement.specs.Demand.{Call}
 use Rattle.never_stuck.specs.Claim.{Quorate, Ready}
 
-module _ (mac : List ℕ → List ℕ → List ℕ) (key : List ℕ) (n : ℕ) (q : ℕ) (team : ℕ → Bool) (cs : List Call) (r : ℕ) (jump : Bool) where
+module _ (G : Ground present-form) (q : ℕ) (team : ℕ → Bool) (cs : List Call) (r : ℕ) (jump : Bool) where
+  open Ground G using (mac, key, n)
+
   -- a site that is not past step f
   pub record Under (y f : ℕ) : Type 0 where
     pub ready : Ready mac key n cs q r jump y

@@ -11,16 +11,17 @@ use lib.ListN.{length}
 use borrow.Author.Tests.{eqb-true, eqb-false}
 use Rattle.laws.specs.Bools.{never}
 use Rattle.format.specs.Form.{present-form}
-use Rattle.format.specs.Numbers.{none, code-words, least-stations}
+use Rattle.format.specs.Numbers.{none}
 use Rattle.format.specs.Group.{quorum}
 use Rattle.format.specs.Statement.{Statement}
-use Rattle.format.specs.Present.{last-round, most-stations, main-of}
+use Rattle.format.specs.Present.{last-round, main-of}
 use Rattle.certificate.specs.Check.{every}
 use Rattle.station.specs.declared.Stage.{Stage}
 use Rattle.station.specs.declared.Station.{Station}
 use Rattle.station.specs.Machine.{State, follows, closes, decision-at, stage-step, copied-value}
 use Rattle.station.specs.Returns.{unrefused}
 use Rattle.station.specs.Laws.Sane.{InRounds}
+use Rattle.agreement.specs.Laws.Ground.{Ground}
 use Rattle.agreement.specs.Laws.Lists.{module-other, lineage-other}
 use Rattle.agreement.specs.Demand.{Call, call, gives}
 use Rattle.agreement.specs.Present.{answer}
@@ -33,22 +34,23 @@ use Rattle.never_stuck.specs.Laws.Advance.{Step, Stands, last-words, the
 use Rattle.never_stuck.specs.Laws.Sweep.{Team, Stable}
 use Rattle.never_stuck.specs.Laws.Phase.{every-single, At, at-on, said-at}
 
-module _ (mac : List ℕ → List ℕ → List ℕ) (eight : (key ws : List ℕ) → length (mac key ws) ≡ code-words) (key : List ℕ) (n : ℕ) (low : least-stations ≤ n) (top : n ≤ most-stations) (q : ℕ) (team : ℕ → Bool)
-    (enough : Quorate n team) where
+module _ (G : Ground present-form) (q : ℕ) (team : ℕ → Bool) (enough : Quorate G.n team) where
+  open Ground G using (mac, key, n)
+
   -- of each site of the team
   abbrev Each : (ℕ → Type 0) → Type 0
-  Each A = Team mac eight key n low top q team 0 A
+  Each A = Team G q team 0 A
 
   -- a site at a step, with jump on; if it is among the first j sites, it has decided
   pub record Stood (cs : List Call) (y σ : ℕ) (ok : Statement → Bool) (j : ℕ) : Type 0 where
-    pub at : At mac eight key n low top q team 0 enough cs y σ ok
+    pub at : At G q team 0 enough cs y σ ok
     pub setting : at .station .jump ≡ true
     pub named : y ≤ j → at .station .decision < none
 
-  stood-on : (σ : ℕ) (ok : Statement → Bool) (j : ℕ) → Stable mac eight key n low top q team 0 (λ cs y. Stood cs y σ ok j)
-  stood-on σ ok j cs x s y ne o = record { at = at-on mac eight key n low top q team 0 enough σ ok cs x s y ne (o .at); setting = o .setting; named = o .named }
+  stood-on : (σ : ℕ) (ok : Statement → Bool) (j : ℕ) → Stable G q team 0 (λ cs y. Stood cs y σ ok j)
+  stood-on σ ok j cs x s y ne o = record { at = at-on G q team 0 enough σ ok cs x s y ne (o .at); setting = o .setting; named = o .named }
 
-  stands : (cs : List Call) (y σ : ℕ) (ok : Statement → Bool) (j : ℕ) → Stood cs y σ ok j → Stands mac eight key n low top q team 0 cs y σ
+  stands : (cs : List Call) (y σ : ℕ) (ok : Statement → Bool) (j : ℕ) → Stood cs y σ ok j → Stands G q team 0 cs y σ
   stands cs y σ ok j o = record { opening = o .at .opening; station = o .at .station; presents = o .at .waits .presents; asked = o .at .waits .asked; there = o .at .in-step }
 
   -- a site behind that step, other than site x which stands there
@@ -61,12 +63,12 @@ module _ (mac : List ℕ → List ℕ → List ℕ) (eight : (key ws : List ℕ)
     pub named : y ≤ j → station .decision < none
     pub other : y ≡ x → ⊥
 
-  trails-on : (x σ j : ℕ) → Stable mac eight key n low top q team 0 (λ cs y. Trails cs x y σ j)
+  trails-on : (x σ j : ℕ) → Stable G q team 0 (λ cs y. Trails cs x y σ j)
   trails-on x σ j cs z s y ne o =
       record {
         opening = o .opening;
         station = o .station;
-        waits = waits-on mac eight key n low top q team 0 cs z s y (o .opening) (o .station) ne (o .waits);
+        waits = waits-on G q team 0 cs z s y (o .opening) (o .station) ne (o .waits);
         behind = o .behind;
         setting = o .setting;
         named = o .named;
@@ -76,48 +78,48 @@ module _ (mac : List ℕ → List ℕ → List ℕ) (eight : (key ws : List ℕ)
   -- a list that goes on from another by last bundles, behind which something is known of each site of the team
   pub record Brought (cs : List Call) (A : List Call → ℕ → Type 0) : Type 0 where
     pub list : List Call
-    pub premises : Premises mac key n list
+    pub premises : Premises G list
     pub onward : ByLast mac key n q team cs list
     pub each : Each (A list)
 
   pub then-brought : (cs : List Call) (A B : List Call → ℕ → Type 0) (a : Brought cs A) → Brought (a .list) B → Brought cs B
-  then-brought cs A B a b = record { list = b .list; premises = b .premises; onward = then-last mac eight key n low top q team 0 cs (a .list) (b .list) (a .onward) (b .onward); each = b .each }
+  then-brought cs A B a b = record { list = b .list; premises = b .premises; onward = then-last G q team 0 cs (a .list) (b .list) (a .onward) (b .onward); each = b .each }
 
   -- ---- all others jump onto the bundle of site x
   module _ (x σ coin : ℕ) (ok : Statement → Bool) (j : ℕ) (lo : 1 ≤ x) (hi : x ≤ n) (tx : team x ≡ true) (bit : coin < 2)
       (copies : (s s' : Statement) → s' .value ≡ copied-value s coin → ok s ≡ true → ok s' ≡ true) where
     record Jumped (cs : List Call) (y : ℕ) : Type 0 where
-      step : Step mac eight key n low top q team 0 cs y
+      step : Step G q team 0 cs y
       onward : ByLast mac key n q team cs (step .list)
       now : Stood (step .list) y σ ok j
 
-    jump : (cs : List Call) → Premises mac key n cs → (y : ℕ) → team y ≡ true → Stood cs x σ ok j → Trails cs x y σ j → Jumped cs y
-    jump cs P y ty lead o = by (said-at mac eight key n low top q team 0 enough cs P x σ ok (lead .at))
+    jump : (cs : List Call) → Premises G cs → (y : ℕ) → team y ≡ true → Stood cs x σ ok j → Trails cs x y σ j → Jumped cs y
+    jump cs P y ty lead o = by (said-at G q team 0 enough cs P x σ ok (lead .at))
       where
-        by : Said mac key n cs x q σ ok → Jumped cs y
+        by : Said G cs x q σ ok → Jumped cs y
         by w = jumped
           where
             un : unrefused (answer mac key n cs (call y (gives (o .opening) (o .station) (w .words) coin room)) .number) ≡ true
-            un = jump-heard mac eight key n low top cs P q y (o .opening) (o .station) (o .waits) x σ (w .words) (w .spoke) coin bit (o .setting) (o .behind)
+            un = jump-heard G cs P q y (o .opening) (o .station) (o .waits) x σ (w .words) (w .spoke) coin bit (o .setting) (o .behind)
 
-            one : Step mac eight key n low top q team 0 cs y
+            one : Step G q team 0 cs y
             one =
                 record {
                   list = call y (gives (o .opening) (o .station) (w .words) coin room) ∷ cs;
-                  premises = premises-then mac eight key n low top q cs P y (o .opening) (o .station) (o .waits) x σ (w .words) (w .spoke) coin bit un;
+                  premises = premises-then G q cs P y (o .opening) (o .station) (o .waits) x σ (w .words) (w .spoke) coin bit un;
                   onward = give done y (o .opening) (o .station) x (w .words) coin ty tx (o .waits .presents) (o .waits .asked) (w .spoke .by-call) (omega arith) bit un;
                   module-on = module-other present-form mac key n (call y (gives (o .opening) (o .station) (w .words) coin room)) cs;
                   line-on = lineage-other present-form mac key n (call y (gives (o .opening) (o .station) (w .words) coin room)) cs;
-                  spoken = λ z τ ws h. spoke-later mac key n (call y (gives (o .opening) (o .station) (w .words) coin room)) cs z q τ ws h;
+                  spoken = λ z τ ws h. spoke-later G (call y (gives (o .opening) (o .station) (w .words) coin room)) cs z q τ ws h;
                 }
 
             jumped : Jumped cs y
             jumped =
-                let L = jumped-there mac eight key n low top q cs P y (o .opening) (o .station) (o .waits) x σ (w .words) (w .spoke) coin bit un (o .behind) in
+                let L = jumped-there G q cs P y (o .opening) (o .station) (o .waits) x σ (w .words) (w .spoke) coin bit un (o .behind) in
                 record {
                   step = one;
                   onward = give done y (o .opening) (o .station) x (w .words) coin ty tx (o .waits .presents) (o .waits .asked) (w .spoke .by-call)
-                      (last-words mac eight key n low top q team 0 cs x σ (w .words) (stands cs x σ ok j lead) (w .spoke)) bit un;
+                      (last-words G q team 0 cs x σ (w .words) (stands cs x σ ok j lead) (w .spoke)) bit un;
                   now = record {
                     at = record {
                       opening = o .opening;
@@ -140,7 +142,7 @@ module _ (mac : List ℕ → List ℕ → List ℕ) (eight : (key ws : List ℕ)
     lead-of i cs (inr s) = s
 
     -- one site more
-    pass : (i : ℕ) → suc i ≤ n → (cs : List Call) → Premises mac key n cs → Each (Part i cs) → Brought cs (Part (suc i))
+    pass : (i : ℕ) → suc i ≤ n → (cs : List Call) → Premises G cs → Each (Part i cs) → Brought cs (Part (suc i))
     pass i b cs P each = by (team (suc i)) refl
       where
         -- nothing is to be done
@@ -168,13 +170,13 @@ module _ (mac : List ℕ → List ℕ → List ℕ) (eight : (key ws : List ℕ)
         by true t = by-case t (each (suc i) (omega arith) b t)
         by false t = same (λ z. never (team (suc i)) t z)
 
-    follow-to : (i : ℕ) → i ≤ n → (cs : List Call) → Premises mac key n cs → Each (Part 0 cs) → Brought cs (Part i)
+    follow-to : (i : ℕ) → i ≤ n → (cs : List Call) → Premises G cs → Each (Part 0 cs) → Brought cs (Part i)
     follow-to zero b cs P each = record { list = cs; premises = P; onward = done; each = each }
     follow-to (suc i) b cs P each =
         let A = follow-to i (omega arith) cs P each in
         then-brought cs (Part i) (Part (suc i)) A (pass i b (A .list) (A .premises) (A .each))
 
-    pub follow : (cs : List Call) → Premises mac key n cs → Each (λ y. Trails cs x y σ j ⊎ Stood cs y σ ok j) → Brought cs (λ c y. Stood c y σ ok j)
+    pub follow : (cs : List Call) → Premises G cs → Each (λ y. Trails cs x y σ j ⊎ Stood cs y σ ok j) → Brought cs (λ c y. Stood c y σ ok j)
     follow cs P each =
         let A = follow-to n (omega arith) cs P (λ y a b c. start y a (each y a b c)) in
         record { list = A .list; premises = A .premises; onward = A .onward; each = λ y a b c. finish (A .list) y b (A .each y a b c) }
@@ -192,17 +194,17 @@ module _ (mac : List ℕ → List ℕ → List ℕ) (eight : (key ws : List ℕ)
     pub up : σ < σ'
     pub still-open : σ < 2 * last-round + 1
     pub ends : (g : Stage) (u : State) → stage-step g ≡ σ → (stage-step (follows n g u coin .stage) ≡ 1 → ⊥) → every ok (u .held) ≡ true → length (u .held) ≡ quorum n
-        → (stage-step (follows n g u coin .stage) ≡ σ') × (ok' (saying mac eight key n low top q x g u coin) ≡ true)
+        → (stage-step (follows n g u coin .stage) ≡ σ') × (ok' (saying G q x g u coin) ≡ true)
     pub copies : (s s' : Statement) → s' .value ≡ copied-value s coin → ok' s ≡ true → ok' s' ≡ true
     pub names : (g : Stage) (d : ℕ) (h : List Statement) → stage-step g ≡ σ → every ok h ≡ true → x ≤ j' → (x ≤ j → d < none) → decision-at g d h < none
     pub others : (y : ℕ) → y ≤ j' → (y ≡ x → ⊥) → y ≤ j
 
   -- site x, behind the end of the step
-  moved-on : (x σ σ' coin : ℕ) (ok ok' : Statement → Bool) (j j' : ℕ) → Move x σ σ' coin ok ok' j j' → (cs : List Call) → Premises mac key n cs → (k : ℕ) (g : Stage) (d : ℕ) (u : State) (t : Station)
-      → stage-step g ≡ σ → (x ≤ j → d < none) → u .jump ≡ true → every ok (u .held) ≡ true → length (u .held) ≡ quorum n → Ended mac eight key n low top q cs x k g d u coin t → Stood cs x σ' ok' j'
+  moved-on : (x σ σ' coin : ℕ) (ok ok' : Statement → Bool) (j j' : ℕ) → Move x σ σ' coin ok ok' j j' → (cs : List Call) → Premises G cs → (k : ℕ) (g : Stage) (d : ℕ) (u : State) (t : Station)
+      → stage-step g ≡ σ → (x ≤ j → d < none) → u .jump ≡ true → every ok (u .held) ≡ true → length (u .held) ≡ quorum n → Ended G q cs x k g d u coin t → Stood cs x σ' ok' j'
   moved-on x σ σ' coin ok ok' j j' M cs P k g d u t e dec on oks full (shut c closed asked de) = never (closes last-round g) (before-last g (omega (arith, M .still-open))) c
   moved-on x σ σ' coin ok ok' j j' M cs P k g d u t e dec on oks full (went c w se) =
-      let S = sane-of mac eight key n low top cs P q x k t w in
+      let S = sane-of G cs P q x k t w in
       let is : stage-step (t .stage) ≡ stage-step (follows n g u coin .stage) = sym (ap stage-step (state-stage t)) ∙ ap (λ (z : State). stage-step (z .stage)) se in
       let ne : stage-step (follows n g u coin .stage) ≡ 1 → ⊥ = λ z. not-one (t .stage) (subst (InRounds present-form) (state-stage t) (S .rounds)) (is ∙ z) in
       let E = M .ends g u e ne oks full in
@@ -212,32 +214,32 @@ module _ (mac : List ℕ → List ℕ → List ℕ) (eight : (key ws : List ℕ)
           station = t;
           waits = w;
           in-step = is ∙ E .0;
-          held-ok = ap (λ (z : State). every ok' (z .held)) se ∙ every-single ok' (saying mac eight key n low top q x g u coin) (E .1);
+          held-ok = ap (λ (z : State). every ok' (z .held)) se ∙ every-single ok' (saying G q x g u coin) (E .1);
         };
         setting = sym (state-jump t) ∙ ap (λ (z : State). z .jump) se ∙ on;
         named = λ le. subst (λ (z : ℕ). z < none) (sym (sym (state-decision t) ∙ ap (λ (z : State). z .decision) se)) (M .names g d (u .held) e oks le dec);
       }
 
-  pub move : (x σ σ' coin : ℕ) (ok ok' : Statement → Bool) (j j' : ℕ) → 1 ≤ x → x ≤ n → team x ≡ true → coin < 2 → Move x σ σ' coin ok ok' j j' → (cs : List Call) → Premises mac key n cs
+  pub move : (x σ σ' coin : ℕ) (ok ok' : Statement → Bool) (j j' : ℕ) → 1 ≤ x → x ≤ n → team x ≡ true → coin < 2 → Move x σ σ' coin ok ok' j j' → (cs : List Call) → Premises G cs
       → Each (λ y. Stood cs y σ ok j) → Brought cs (λ c y. Stood c y σ' ok' j')
   move x σ σ' coin ok ok' j j' lo hi tx bit M cs P each = by (each x lo hi tx)
     where
       by : Stood cs x σ ok j → Brought cs (λ c y. Stood c y σ' ok' j')
       by o = from A
         where
-          A : Advanced mac eight key n low top q team 0 cs x (o .at .opening) (o .at .station .stage) (o .at .station .decision) (o .at .station .jump) coin ok
+          A : Advanced G q team 0 cs x (o .at .opening) (o .at .station .stage) (o .at .station .decision) (o .at .station .jump) coin ok
           A =
-              let S = sane-of mac eight key n low top cs P q x (o .at .opening) (o .at .station) (o .at .waits) in
-              advance mac eight key n low top q team 0 enough x (o .at .opening) coin ok tx bit (quorum n) cs (o .at .station) P (o .at .waits) (omega arith)
-              (λ y a b c. subst (λ (z : ℕ). Said mac key n cs y q z ok) (sym (o .at .in-step)) (said-at mac eight key n low top q team 0 enough cs P y σ ok (each y a b c .at))) (o .at .held-ok) (S .few)
+              let S = sane-of G cs P q x (o .at .opening) (o .at .station) (o .at .waits) in
+              advance G q team 0 enough x (o .at .opening) coin ok tx bit (quorum n) cs (o .at .station) P (o .at .waits) (omega arith)
+              (λ y a b c. subst (λ (z : ℕ). Said G cs y q z ok) (sym (o .at .in-step)) (said-at G q team 0 enough cs P y σ ok (each y a b c .at))) (o .at .held-ok) (S .few)
               (omega arith)
 
-          from : Advanced mac eight key n low top q team 0 cs x (o .at .opening) (o .at .station .stage) (o .at .station .decision) (o .at .station .jump) coin ok → Brought cs (λ c y. Stood c y σ' ok' j')
+          from : Advanced G q team 0 cs x (o .at .opening) (o .at .station .stage) (o .at .station .decision) (o .at .station .jump) coin ok → Brought cs (λ c y. Stood c y σ' ok' j')
           from a =
               let on : ByLast mac key n q team cs (a .step .list)
-              = a .by-last (λ y b c d. subst (λ (z : ℕ). Stands mac eight key n low top q team 0 cs y z) (sym (o .at .in-step)) (stands cs y σ ok j (each y b c d))) in
+              = a .by-last (λ y b c d. subst (λ (z : ℕ). Stands G q team 0 cs y z) (sym (o .at .in-step)) (stands cs y σ ok j (each y b c d))) in
               let F = follow x σ' coin ok' j' lo hi tx bit (M .copies) (a .step .list) (a .step .premises) (λ y b c d. split y (each y b c d) (eqb y x) refl) in
-              record { list = F .list; premises = F .premises; onward = then-last mac eight key n low top q team 0 cs (a .step .list) (F .list) on (F .onward); each = F .each }
+              record { list = F .list; premises = F .premises; onward = then-last G q team 0 cs (a .step .list) (F .list) on (F .onward); each = F .each }
             where
               now : Stood (a .step .list) x σ' ok' j'
               now =

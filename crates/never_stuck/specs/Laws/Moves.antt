@@ -10,10 +10,10 @@ use Rattle.laws.specs.Bools.{never}
 use Rattle.laws.specs.All.{all-map, all-two}
 use Rattle.laws.specs.Count.{count}
 use Rattle.format.specs.Form.{present-form}
-use Rattle.format.specs.Numbers.{kept, closed-now, jumped, code-words, least-stations}
+use Rattle.format.specs.Numbers.{kept, closed-now, jumped}
 use Rattle.format.specs.Group.{quorum}
 use Rattle.format.specs.Statement.{Statement, step}
-use Rattle.format.specs.Present.{last-round, most-stations, statement-code, main-of, certificate-of}
+use Rattle.format.specs.Present.{last-round, statement-code, main-of, certificate-of}
 use Rattle.certificate.specs.Check.{every}
 use Rattle.modules.specs.declared.Module.{Module}
 use Rattle.modules.specs.Counter.{last-for}
@@ -34,6 +34,7 @@ use Rattle.station.specs.Demand.{OfGroup}
 use Rattle.agreement.specs.Maths.Votes.{votes}
 use Rattle.agreement.specs.Maths.Log.{In}
 use Rattle.agreement.specs.Maths.Took.{enough-after, held-enough}
+use Rattle.agreement.specs.Laws.Ground.{Ground}
 use Rattle.agreement.specs.Laws.Line.{Line, line-open, reads}
 use Rattle.agreement.specs.Laws.Lists.{module-now}
 use Rattle.agreement.specs.Theorem.{at, here, in-group}
@@ -52,7 +53,9 @@ enough-written true true s m l q r v n k e h = enough-after q r v n k s (m ∷ l
 enough-written false true s m l q r v n k e h = h
 enough-written a false s m l q r v n k e h = never false refl e
 
-module _ (mac : List ℕ → List ℕ → List ℕ) (eight : (key ws : List ℕ) → length (mac key ws) ≡ code-words) (key : List ℕ) (n : ℕ) (low : least-stations ≤ n) (top : n ≤ most-stations) (q : ℕ) where
+module _ (G : Ground present-form) (q : ℕ) where
+  open Ground G using (mac, eight, key, n, top)
+
   -- the statement that follows a step of site x with what is held in u
   abbrev pub saying : ℕ → Stage → State → ℕ → Statement
   saying x g u coin = own (statement-code (mac key)) x q (follows n g u coin .kind) (follows n g u coin .value) (follows n g u coin .flag) (follows n g u coin .round)
@@ -71,7 +74,7 @@ module _ (mac : List ℕ → List ℕ → List ℕ) (eight : (key ws : List ℕ)
   abbrev pub Voted : Stage → State → List Statement → Type 0
   Voted g u taken = (r v : ℕ) → stage-step g ≡ 2 * r + 1 → every (has-value v) (u .held) ≡ true → quorum n ≤ count (votes taken q r v) n
 
-  module _ (cs : List Call) (P : Premises mac key n cs) (x k : ℕ) (t : Station) (waits : Waits mac key n cs q x k t) (y σ : ℕ) (ws : List ℕ) (sp : Spoke mac key n cs y q σ ws)
+  module _ (cs : List Call) (P : Premises G cs) (x k : ℕ) (t : Station) (waits : Waits mac key n cs q x k t) (y σ : ℕ) (ws : List ℕ) (sp : Spoke G cs y q σ ws)
       (coin : ℕ) (bit : coin < 2) (un : unrefused (answer mac key n cs (call x (gives k t ws coin room)) .number) ≡ true) where
     abbrev g : Call
     g = call x (gives k t ws coin room)
@@ -83,22 +86,22 @@ module _ (mac : List ℕ → List ℕ → List ℕ) (eight : (key ws : List ℕ)
     p = waits .presents
 
     range-x : (1 ≤ x) × (x ≤ n)
-    range-x = in-group present-form mac eight key n low top cs (P .given) x k (p .line) (p .is)
+    range-x = in-group present-form G cs (P .given) x k (p .line) (p .is)
 
     len : Lengths t
-    len = reached-good present-form mac key n eight x t (up-of mac eight key n low top cs P x k t (waits .sound) p .reached) .lengths
+    len = reached-good present-form mac key n eight x t (up-of G cs P x k t (waits .sound) p .reached) .lengths
 
-    pub premises-then : Premises mac key n (g ∷ cs)
-    premises-then = premises-next mac key n cs x k t ws coin room p (range-x .0) (range-x .1) len (sp .came) P
+    pub premises-then : Premises G (g ∷ cs)
+    premises-then = premises-next G cs x k t ws coin room p (range-x .0) (range-x .1) len (sp .came) P
 
     pub sound-then : Sound mac key n x (g ∷ cs)
-    sound-then = sound-next mac key n cs x k t ws coin room p x (waits .sound)
+    sound-then = sound-next G cs x k t ws coin room p x (waits .sound)
 
     pub presents-then : Presents mac key n (g ∷ cs) x k then
-    presents-then = presents-now mac key n cs x k t ws coin room p un
+    presents-then = presents-now G cs x k t ws coin room p un
 
     mine : OfGroup key n x (modules mac key n cs x)
-    mine = at present-form mac eight key n low top cs (P .given) (P .few) x x (waits .sound) (waits .sound) .logs .mods x (range-x .0) (range-x .1)
+    mine = at present-form G cs (P .given) (P .few) x x (waits .sound) (waits .sound) .logs .mods x (range-x .0) (range-x .1)
 
     abbrev mm : Module
     mm = record { key = key; n = n; station = x; last = modules mac key n cs x .last }
@@ -133,7 +136,7 @@ module _ (mac : List ℕ → List ℕ → List ℕ) (eight : (key ws : List ℕ)
     l = reads present-form (log mac key n cs)
 
     line-t : Line present-form n l x t (p .line .took)
-    line-t = subst (λ (z : Station). Line present-form n l x z (p .line .took)) (p .now) (here present-form mac eight key n low top cs (P .given) (P .few) x k (p .line) (waits .sound) (p .is))
+    line-t = subst (λ (z : Station). Line present-form n l x z (p .line .took)) (p .now) (here present-form G cs (P .given) (P .few) x k (p .line) (waits .sound) (p .is))
 
     -- what is held with the bundle was taken, the bundle's main statement by this call
     voted : Accepted present-form mac mm t ws coin room → length (with-bundle t ws .held) ≡ quorum n → took-given (answer mac key n cs g .number) ≡ true

@@ -6,16 +6,17 @@ use mathlib.Core.List.{List}
 use Prim.Native.Nat.{ℕ, zero, suc, _+_, _*_, _≤_, _<_}
 use native.Mathlib.Omega.{arith}
 use lib.Dec.{eqb}
-use lib.ListN.{length}
 use borrow.Author.Tests.{eqb-true, eqb-false, eq-eqb}
 use Rattle.laws.specs.Pick.{pick}
 use Rattle.laws.specs.Bools.{never}
-use Rattle.format.specs.Numbers.{kind-P, none, R-GET, code-words, least-stations}
+use Rattle.format.specs.Form.{present-form}
+use Rattle.format.specs.Numbers.{kind-P, none, R-GET}
 use Rattle.format.specs.Statement.{Statement}
-use Rattle.format.specs.Present.{last-round, most-stations}
+use Rattle.format.specs.Present.{last-round}
 use Rattle.station.specs.declared.Stage.{Stage}
 use Rattle.station.specs.declared.Station.{Station}
 use Rattle.station.specs.Machine.{follows, decision-at, stage-step, has-value, copied-value}
+use Rattle.agreement.specs.Laws.Ground.{Ground}
 use Rattle.agreement.specs.Maths.Taking.{kept-decision}
 use Rattle.agreement.specs.Demand.{Call}
 use Rattle.never_stuck.specs.Claim.{Quorate, Waits, done}
@@ -38,13 +39,14 @@ copied v s s' e h = eq-eqb (s' .value) v (e ∙ by (eqb (s .kind) kind-P && eqb 
 stays : (g : Stage) (d : ℕ) (h : List Statement) → d < none → decision-at g d h < none
 stays g d h e = subst (λ (z : ℕ). z < none) (sym (kept-decision g d h e)) e
 
-module _ (mac : List ℕ → List ℕ → List ℕ) (eight : (key ws : List ℕ) → length (mac key ws) ≡ code-words) (key : List ℕ) (n : ℕ) (low : least-stations ≤ n) (top : n ≤ most-stations) (q : ℕ) (team : ℕ → Bool)
-    (enough : Quorate n team) where
+module _ (G : Ground present-form) (q : ℕ) (team : ℕ → Bool) (enough : Quorate G.n team) where
+  open Ground G using (mac, key, n)
+
   abbrev Each : (ℕ → Type 0) → Type 0
-  Each A = Team mac eight key n low top q team 0 A
+  Each A = Team G q team 0 A
 
   abbrev All-at : ℕ → (Statement → Bool) → ℕ → List Call → ℕ → Type 0
-  All-at σ ok j cs y = Stood mac eight key n low top q team enough cs y σ ok j
+  All-at σ ok j cs y = Stood G q team enough cs y σ ok j
 
   -- a site that names a decision
   pub record Names (cs : List Call) (y : ℕ) : Type 0 where
@@ -54,7 +56,7 @@ module _ (mac : List ℕ → List ℕ → List ℕ) (eight : (key ws : List ℕ)
     pub named : station .decision < none
 
   -- ---- the moves
-  climbs : (x σ m : ℕ) → σ < m → 3 ≤ m → m ≤ 2 * last-round + 1 → Move mac eight key n low top q team enough x σ (after-step σ) 0 any any 0 0
+  climbs : (x σ m : ℕ) → σ < m → 3 ≤ m → m ≤ 2 * last-round + 1 → Move G q team enough x σ (after-step σ) 0 any any 0 0
   climbs x σ m less three last =
       record {
         up = after-range σ m less three .0;
@@ -67,7 +69,7 @@ module _ (mac : List ℕ → List ℕ → List ℕ) (eight : (key ws : List ℕ)
 
   module _ (v : ℕ) (bit : v < 2) where
     -- votes of round r for v or for none, and the coin v: v is proposed
-    tosses : (x r : ℕ) → r + 1 ≤ last-round → Move mac eight key n low top q team enough x (2 * r + 1) (2 * (r + 1)) v (calm v) (has-value v) 0 0
+    tosses : (x r : ℕ) → r + 1 ≤ last-round → Move G q team enough x (2 * r + 1) (2 * (r + 1)) v (calm v) (has-value v) 0 0
     tosses x r last =
         record {
           up = omega arith;
@@ -79,7 +81,7 @@ module _ (mac : List ℕ → List ℕ → List ℕ) (eight : (key ws : List ℕ)
         }
 
     -- equal proposals: v is voted
-    votes : (x r j : ℕ) → 1 ≤ r → r + 1 ≤ last-round → Move mac eight key n low top q team enough x (2 * r) (2 * r + 1) v (has-value v) (has-value v) j j
+    votes : (x r j : ℕ) → 1 ≤ r → r + 1 ≤ last-round → Move G q team enough x (2 * r) (2 * r + 1) v (has-value v) (has-value v) j j
     votes x r j from last =
         record {
           up = omega arith;
@@ -91,7 +93,7 @@ module _ (mac : List ℕ → List ℕ → List ℕ) (eight : (key ws : List ℕ)
         }
 
     -- equal votes: site j + 1 decides
-    decides : (r j : ℕ) → r + 1 ≤ last-round → Move mac eight key n low top q team enough (suc j) (2 * r + 1) (2 * (r + 1)) v (has-value v) (has-value v) j (suc j)
+    decides : (r j : ℕ) → r + 1 ≤ last-round → Move G q team enough (suc j) (2 * r + 1) (2 * (r + 1)) v (has-value v) (has-value v) j (suc j)
     decides r j last =
         record {
           up = omega arith;
@@ -103,7 +105,7 @@ module _ (mac : List ℕ → List ℕ → List ℕ) (eight : (key ws : List ℕ)
         }
 
     -- ---- a round for each site of the team that has not been the mover
-    rounds : (i j r : ℕ) → n ≡ i + j → 1 ≤ r → r + i ≤ last-round → (cs : List Call) → Premises mac key n cs → Each (All-at (2 * r) (has-value v) j cs) → Brought mac eight key n low top q team enough cs Names
+    rounds : (i j r : ℕ) → n ≡ i + j → 1 ≤ r → r + i ≤ last-round → (cs : List Call) → Premises G cs → Each (All-at (2 * r) (has-value v) j cs) → Brought G q team enough cs Names
     rounds zero j r all from last cs P each =
         record {
           list = cs;
@@ -115,15 +117,15 @@ module _ (mac : List ℕ → List ℕ → List ℕ) (eight : (key ws : List ℕ)
         by (team (suc j)) refl (rounds i (suc j) (r + 1) (omega arith) (omega arith) (omega arith)) (rounds i (suc j) r (omega arith) from (omega arith))
       where
         by : (b : Bool) → team (suc j) ≡ b
-            → ((cs : List Call) → Premises mac key n cs → Each (All-at (2 * (r + 1)) (has-value v) (suc j) cs) → Brought mac eight key n low top q team enough cs Names)
-            → ((cs : List Call) → Premises mac key n cs → Each (All-at (2 * r) (has-value v) (suc j) cs) → Brought mac eight key n low top q team enough cs Names)
-            → Brought mac eight key n low top q team enough cs Names
+            → ((cs : List Call) → Premises G cs → Each (All-at (2 * (r + 1)) (has-value v) (suc j) cs) → Brought G q team enough cs Names)
+            → ((cs : List Call) → Premises G cs → Each (All-at (2 * r) (has-value v) (suc j) cs) → Brought G q team enough cs Names)
+            → Brought G q team enough cs Names
         by true t next skip =
-            let A = move mac eight key n low top q team enough (suc j) (2 * r) (2 * r + 1) v (has-value v) (has-value v) j j (omega arith) (omega arith) t bit (votes (suc j) r j from (omega arith)) cs P each in
-            let B = move mac eight key n low top q team enough (suc j) (2 * r + 1) (2 * (r + 1)) v (has-value v) (has-value v) j (suc j) (omega arith) (omega arith) t bit (decides r j (omega arith))
+            let A = move G q team enough (suc j) (2 * r) (2 * r + 1) v (has-value v) (has-value v) j j (omega arith) (omega arith) t bit (votes (suc j) r j from (omega arith)) cs P each in
+            let B = move G q team enough (suc j) (2 * r + 1) (2 * (r + 1)) v (has-value v) (has-value v) j (suc j) (omega arith) (omega arith) t bit (decides r j (omega arith))
             (A .list) (A .premises) (A .each) in
-            then-brought mac eight key n low top q team enough cs (All-at (2 * r + 1) (has-value v) j) Names A
-            (then-brought mac eight key n low top q team enough (A .list) (All-at (2 * (r + 1)) (has-value v) (suc j)) Names B (next (B .list) (B .premises) (B .each)))
+            then-brought G q team enough cs (All-at (2 * r + 1) (has-value v) j) Names A
+            (then-brought G q team enough (A .list) (All-at (2 * (r + 1)) (has-value v) (suc j)) Names B (next (B .list) (B .premises) (B .each)))
         by false t next skip = skip cs P (λ y a b c. passed y c (each y a b c) (eqb y (suc j)) refl)
           where
             passed : (y : ℕ) → team y ≡ true → All-at (2 * r) (has-value v) j cs y → (b : Bool) → eqb y (suc j) ≡ b → All-at (2 * r) (has-value v) (suc j) cs y
@@ -131,27 +133,27 @@ module _ (mac : List ℕ → List ℕ → List ℕ) (eight : (key ws : List ℕ)
             passed y c s false e = record { at = s .at; setting = s .setting; named = λ le. s .named (omega (arith, le, eqb-false y (suc j) e)) }
 
     -- from the votes of round r on, with the coin v; x is any site of the team
-    pub relay : (x r : ℕ) → 1 ≤ x → x ≤ n → team x ≡ true → r + n + 1 ≤ last-round → (cs : List Call) → Premises mac key n cs → Each (All-at (2 * r + 1) (calm v) 0 cs)
-        → Brought mac eight key n low top q team enough cs Names
+    pub relay : (x r : ℕ) → 1 ≤ x → x ≤ n → team x ≡ true → r + n + 1 ≤ last-round → (cs : List Call) → Premises G cs → Each (All-at (2 * r + 1) (calm v) 0 cs)
+        → Brought G q team enough cs Names
     relay x r lo hi tx last cs P each =
-        let A = move mac eight key n low top q team enough x (2 * r + 1) (2 * (r + 1)) v (calm v) (has-value v) 0 0 lo hi tx bit (tosses x r (omega arith)) cs P each in
-        then-brought mac eight key n low top q team enough cs (All-at (2 * (r + 1)) (has-value v) 0) Names A
+        let A = move G q team enough x (2 * r + 1) (2 * (r + 1)) v (calm v) (has-value v) 0 0 lo hi tx bit (tosses x r (omega arith)) cs P each in
+        then-brought G q team enough cs (All-at (2 * (r + 1)) (has-value v) 0) Names A
         (rounds n 0 (r + 1) (omega arith) (omega arith) (omega arith) (A .list) (A .premises) (A .each))
 
   -- ---- up to step m, by the mover x
   module _ (x m : ℕ) (lo : 1 ≤ x) (hi : x ≤ n) (tx : team x ≡ true) (three : 3 ≤ m) (last : m ≤ 2 * last-round + 1) where
-    stay : (σ : ℕ) → σ ≡ m → (cs : List Call) → Premises mac key n cs → Each (All-at σ any 0 cs) → Brought mac eight key n low top q team enough cs (All-at m any 0)
+    stay : (σ : ℕ) → σ ≡ m → (cs : List Call) → Premises G cs → Each (All-at σ any 0 cs) → Brought G q team enough cs (All-at m any 0)
     stay σ e cs P each = record { list = cs; premises = P; onward = done; each = λ y a b c. subst (λ (z : ℕ). All-at z any 0 cs y) e (each y a b c) }
 
-    pub climb : (d σ : ℕ) → m ≤ d + σ → σ ≤ m → (cs : List Call) → Premises mac key n cs → Each (All-at σ any 0 cs) → Brought mac eight key n low top q team enough cs (All-at m any 0)
+    pub climb : (d σ : ℕ) → m ≤ d + σ → σ ≤ m → (cs : List Call) → Premises G cs → Each (All-at σ any 0 cs) → Brought G q team enough cs (All-at m any 0)
     climb zero σ fuel upto cs P each = stay σ (omega arith) cs P each
     climb (suc d) σ fuel upto cs P each = go (eqb σ m) refl (λ less. let a = after-range σ m less three in climb d (after-step σ) (omega (arith, a .0)) (a .1))
       where
         go : (b : Bool) → eqb σ m ≡ b
-            → (σ < m → (l : List Call) → Premises mac key n l → Each (All-at (after-step σ) any 0 l) → Brought mac eight key n low top q team enough l (All-at m any 0))
-            → Brought mac eight key n low top q team enough cs (All-at m any 0)
+            → (σ < m → (l : List Call) → Premises G l → Each (All-at (after-step σ) any 0 l) → Brought G q team enough l (All-at m any 0))
+            → Brought G q team enough cs (All-at m any 0)
         go true e next = stay σ (eqb-true σ m e) cs P each
         go false e next =
             let less : σ < m = omega (arith, eqb-false σ m e) in
-            let A = move mac eight key n low top q team enough x σ (after-step σ) 0 any any 0 0 lo hi tx (omega arith) (climbs x σ m less three last) cs P each in
-            then-brought mac eight key n low top q team enough cs (All-at (after-step σ) any 0) (All-at m any 0) A (next less (A .list) (A .premises) (A .each))
+            let A = move G q team enough x σ (after-step σ) 0 any any 0 0 lo hi tx (omega arith) (climbs x σ m less three last) cs P each in
+            then-brought G q team enough cs (All-at (after-step σ) any 0) (All-at m any 0) A (next less (A .list) (A .premises) (A .each))

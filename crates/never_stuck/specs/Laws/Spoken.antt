@@ -15,13 +15,16 @@ use Rattle.certificate.specs.Present.{check-by}
 use Rattle.station.specs.declared.Station.{Station}
 use Rattle.station.specs.Returns.{unrefused}
 use Rattle.station.specs.Present.{Lengths}
+use Rattle.agreement.specs.Laws.Ground.{Ground}
 use Rattle.agreement.specs.Laws.Lists.{lineage-other}
 use Rattle.agreement.specs.Demand.{Call, call, gives, site, action, view}
 use Rattle.agreement.specs.Present.{written-main, given-main, gave, coded-in, answer, log, lineage, Presents, Sound, FewFaulty, CodesCame, Given}
 use Rattle.never_stuck.specs.Claim.{Wrote, before}
 use Rattle.never_stuck.specs.Laws.Came.{came-more}
 
-module _ (mac : List ℕ → List ℕ → List ℕ) (key : List ℕ) (n : ℕ) where
+module _ (G : Ground present-form) where
+  open Ground G using (mac, key, n)
+
   -- demand 3's premises
   pub record Premises (cs : List Call) : Type 0 where
     pub given : Given mac key n cs

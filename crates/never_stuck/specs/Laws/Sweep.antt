@@ -6,46 +6,47 @@ use mathlib.Core.List.{List}
 use Prim.Native.Nat.{ℕ, zero, suc, _≤_}
 use native.Mathlib.Omega.{arith}
 use lib.Dec.{eqb}
-use lib.ListN.{length}
 use borrow.Author.Tests.{eqb-true, eqb-false}
 use Rattle.laws.specs.Bools.{never}
-use Rattle.format.specs.Numbers.{code-words, least-stations}
-use Rattle.format.specs.Present.{most-stations}
+use Rattle.format.specs.Form.{present-form}
+use Rattle.agreement.specs.Laws.Ground.{Ground}
 use Rattle.agreement.specs.Demand.{Call}
 use Rattle.never_stuck.specs.Claim.{Onward, done}
 use Rattle.never_stuck.specs.Laws.Spoken.{Premises}
 use Rattle.never_stuck.specs.Laws.Advance.{Step, then-onward}
 
-module _ (mac : List ℕ → List ℕ → List ℕ) (eight : (key ws : List ℕ) → length (mac key ws) ≡ code-words) (key : List ℕ) (n : ℕ) (low : least-stations ≤ n) (top : n ≤ most-stations) (q : ℕ) (team : ℕ → Bool) (floor : ℕ) where
+module _ (G : Ground present-form) (q : ℕ) (team : ℕ → Bool) (floor : ℕ) where
+  open Ground G using (mac, key, n)
+
   -- of each site of the team
   abbrev pub Team : (ℕ → Type 0) → Type 0
   Team A = (y : ℕ) → 1 ≤ y → y ≤ n → team y ≡ true → A y
 
   -- what is known of a site stays so where another goes on
   abbrev pub Stable : (List Call → ℕ → Type 0) → Type 0
-  Stable A = (cs : List Call) (x : ℕ) (s : Step mac eight key n low top q team floor cs x) (y : ℕ) → (y ≡ x → ⊥) → A cs y → A (s .list) y
+  Stable A = (cs : List Call) (x : ℕ) (s : Step G q team floor cs x) (y : ℕ) → (y ≡ x → ⊥) → A cs y → A (s .list) y
 
   -- a list that goes on from another, behind which something is known of each site of the team
   pub record Arrived (cs : List Call) (A : List Call → ℕ → Type 0) : Type 0 where
     pub list : List Call
-    pub premises : Premises mac key n list
+    pub premises : Premises G list
     pub onward : Onward mac key n q team floor cs list
     pub each : Team (A list)
 
   module _ (Low High : List Call → ℕ → Type 0) (low-on : Stable Low) (high-on : Stable High) where
     pub record Pushed (cs : List Call) (x : ℕ) : Type 0 where
-      pub step : Step mac eight key n low top q team floor cs x
+      pub step : Step G q team floor cs x
       pub now : High (step .list) x
 
     pub record Swept (cs : List Call) (j : ℕ) : Type 0 where
       pub list : List Call
-      pub premises : Premises mac key n list
+      pub premises : Premises G list
       pub onward : Onward mac key n q team floor cs list
       pub each : Team (λ y. Low list y ⊎ High list y)
       pub first : Team (λ y. y ≤ j → High list y)
 
-    module _ (push : (cs : List Call) (x : ℕ) → Premises mac key n cs → 1 ≤ x → x ≤ n → team x ≡ true → Team (λ y. Low cs y ⊎ High cs y) → Low cs x → Pushed cs x) where
-      sweep-to : (j : ℕ) → j ≤ n → (cs : List Call) → Premises mac key n cs → Team (λ y. Low cs y ⊎ High cs y) → Swept cs j
+    module _ (push : (cs : List Call) (x : ℕ) → Premises G cs → 1 ≤ x → x ≤ n → team x ≡ true → Team (λ y. Low cs y ⊎ High cs y) → Low cs x → Pushed cs x) where
+      sweep-to : (j : ℕ) → j ≤ n → (cs : List Call) → Premises G cs → Team (λ y. Low cs y ⊎ High cs y) → Swept cs j
       sweep-to zero b cs P e = record { list = cs; premises = P; onward = done; each = e; first = λ y a c d z. absurd (omega arith) }
       sweep-to (suc j) b cs P e = go (sweep-to j (omega arith) cs P e)
         where
@@ -65,7 +66,7 @@ module _ (mac : List ℕ → List ℕ → List ℕ) (eight : (key ws : List ℕ)
                   record {
                     list = p .step .list;
                     premises = p .step .premises;
-                    onward = then-onward mac eight key n low top q team floor cs (w .list) (p .step .list) (w .onward) (p .step .onward);
+                    onward = then-onward G q team floor cs (w .list) (p .step .list) (w .onward) (p .step .onward);
                     each = λ y a c d. one y (eqb y (suc j)) refl (w .each y a c d);
                     first = λ y a c d z. early y a c d z (eqb y (suc j)) refl;
                   }
@@ -90,7 +91,7 @@ module _ (mac : List ℕ → List ℕ → List ℕ) (eight : (key ws : List ℕ)
               by true t = by-case (w .each (suc j) (omega arith) b t) t
               by false t = same (λ z. never (team (suc j)) t z)
 
-      pub sweep : (cs : List Call) → Premises mac key n cs → Team (λ y. Low cs y ⊎ High cs y) → Arrived cs High
+      pub sweep : (cs : List Call) → Premises G cs → Team (λ y. Low cs y ⊎ High cs y) → Arrived cs High
       sweep cs P e =
           let w = sweep-to n (omega arith) cs P e in
           record { list = w .list; premises = w .premises; onward = w .onward; each = λ y a b c. w .first y a b c b }

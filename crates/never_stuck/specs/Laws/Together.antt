@@ -6,17 +6,16 @@ use mathlib.Core.List.{List, _∷_}
 use Prim.Native.Nat.{ℕ, zero, suc, _+_, _*_, _≤_, _<_}
 use native.Mathlib.Omega.{arith}
 use lib.Dec.{eqb}
-use lib.ListN.{length}
 use borrow.Author.Tests.{eqb-true, eqb-false}
 use Rattle.laws.specs.Pick.{pick}
 use Rattle.laws.specs.Bools.{never}
 use Rattle.format.specs.Form.{present-form}
-use Rattle.format.specs.Numbers.{code-words, least-stations}
-use Rattle.format.specs.Present.{last-round, most-stations}
+use Rattle.format.specs.Present.{last-round}
 use Rattle.station.specs.declared.Station.{Station}
 use Rattle.station.specs.Machine.{State, follows, closes, stage-step}
 use Rattle.station.specs.Returns.{unrefused}
 use Rattle.station.specs.Laws.Sane.{InRounds}
+use Rattle.agreement.specs.Laws.Ground.{Ground}
 use Rattle.agreement.specs.Laws.Lists.{module-other, lineage-other}
 use Rattle.agreement.specs.Demand.{Call, call, gives}
 use Rattle.agreement.specs.Present.{answer}
@@ -52,23 +51,24 @@ after-range σ m less three = go (eqb σ 0) refl
     go true e = (omega (arith, eqb-true σ 0 e), omega arith)
     go false e = (omega arith, omega arith)
 
-module _ (mac : List ℕ → List ℕ → List ℕ) (eight : (key ws : List ℕ) → length (mac key ws) ≡ code-words) (key : List ℕ) (n : ℕ) (low : least-stations ≤ n) (top : n ≤ most-stations) (q : ℕ) (team : ℕ → Bool) (floor : ℕ)
-    (enough : Quorate n team) where
+module _ (G : Ground present-form) (q : ℕ) (team : ℕ → Bool) (floor : ℕ) (enough : Quorate G.n team) where
+  open Ground G using (mac, key, n)
+
   -- ---- one sweep of jumps onto words that site l wrote for step f
   module _ (l f : ℕ) (ws : List ℕ) (of-team : team l ≡ true) (fl : floor ≤ f) where
     -- a site that is behind, and has jump on
     record Trails (cs : List Call) (y : ℕ) : Type 0 where
-      waiting : Waiting mac eight key n low top q team floor enough true cs y 0 f
+      waiting : Waiting G q team floor enough true cs y 0 f
       behind : stage-step (waiting .station .stage) < f
-      lead : Spoke mac key n cs l q f ws
+      lead : Spoke G cs l q f ws
 
-    trails-on : Stable mac eight key n low top q team floor Trails
+    trails-on : Stable G q team floor Trails
     trails-on cs x s y ne o =
-        record { waiting = waiting-on mac eight key n low top q team floor enough true 0 f cs x s y ne (o .waiting); behind = o .behind; lead = s .spoken l f ws (o .lead) }
+        record { waiting = waiting-on G q team floor enough true 0 f cs x s y ne (o .waiting); behind = o .behind; lead = s .spoken l f ws (o .lead) }
 
-    push : (cs : List Call) (x : ℕ) → Premises mac key n cs → 1 ≤ x → x ≤ n → team x ≡ true
-        → Team mac eight key n low top q team floor (λ y. Trails cs y ⊎ At mac eight key n low top q team floor enough cs y f any) → Trails cs x
-        → Pushed mac eight key n low top q team floor Trails (λ c y. At mac eight key n low top q team floor enough c y f any) trails-on (at-on mac eight key n low top q team floor enough f any) cs x
+    push : (cs : List Call) (x : ℕ) → Premises G cs → 1 ≤ x → x ≤ n → team x ≡ true
+        → Team G q team floor (λ y. Trails cs y ⊎ At G q team floor enough cs y f any) → Trails cs x
+        → Pushed G q team floor Trails (λ c y. At G q team floor enough c y f any) trails-on (at-on G q team floor enough f any) cs x
     push cs x P a b tx each o = pushed
       where
         k : ℕ
@@ -81,75 +81,75 @@ module _ (mac : List ℕ → List ℕ → List ℕ) (eight : (key ws : List ℕ)
         W = o .waiting .waits
 
         un : unrefused (answer mac key n cs (call x (gives (o .waiting .opening) (o .waiting .station) ws 0 room)) .number) ≡ true
-        un = jump-heard mac eight key n low top cs P q x (o .waiting .opening) (o .waiting .station) W l f ws (o .lead) 0 (omega arith) (o .waiting .setting) (o .behind)
+        un = jump-heard G cs P q x (o .waiting .opening) (o .waiting .station) W l f ws (o .lead) 0 (omega arith) (o .waiting .setting) (o .behind)
 
-        one : Step mac eight key n low top q team floor cs x
+        one : Step G q team floor cs x
         one =
             record {
               list = call x (gives (o .waiting .opening) (o .waiting .station) ws 0 room) ∷ cs;
-              premises = premises-then mac eight key n low top q cs P x (o .waiting .opening) (o .waiting .station) W l f ws (o .lead) 0 (omega arith) un;
+              premises = premises-then G q cs P x (o .waiting .opening) (o .waiting .station) W l f ws (o .lead) 0 (omega arith) un;
               onward = give done x (o .waiting .opening) (o .waiting .station) l ws 0 tx of-team (W .presents) (W .asked) (o .lead .by-call) (omega (arith, o .lead .in-step)) (omega arith) un;
               module-on = module-other present-form mac key n (call x (gives (o .waiting .opening) (o .waiting .station) ws 0 room)) cs;
               line-on = lineage-other present-form mac key n (call x (gives (o .waiting .opening) (o .waiting .station) ws 0 room)) cs;
-              spoken = λ y σ ws' h. spoke-later mac key n (call x (gives (o .waiting .opening) (o .waiting .station) ws 0 room)) cs y q σ ws' h;
+              spoken = λ y σ ws' h. spoke-later G (call x (gives (o .waiting .opening) (o .waiting .station) ws 0 room)) cs y q σ ws' h;
             }
 
-        pushed : Pushed mac eight key n low top q team floor Trails (λ c y. At mac eight key n low top q team floor enough c y f any) trails-on (at-on mac eight key n low top q team floor enough f any) cs x
+        pushed : Pushed G q team floor Trails (λ c y. At G q team floor enough c y f any) trails-on (at-on G q team floor enough f any) cs x
         pushed =
-            let L = jumped-there mac eight key n low top q cs P x (o .waiting .opening) (o .waiting .station) W l f ws (o .lead) 0 (omega arith) un (o .behind) in
+            let L = jumped-there G q cs P x (o .waiting .opening) (o .waiting .station) W l f ws (o .lead) 0 (omega arith) un (o .behind) in
             record { step = one; now = record { opening = o .waiting .opening; station = _; waits = L .waits-on; in-step = L .in-step; held-ok = every-any _ } }
 
-    pub jump-on : (cs : List Call) → Premises mac key n cs → Spoke mac key n cs l q f ws → Team mac eight key n low top q team floor (λ y. Waiting mac eight key n low top q team floor enough true cs y 0 f)
-        → Arrived mac eight key n low top q team floor cs (λ c y. At mac eight key n low top q team floor enough c y f any)
+    pub jump-on : (cs : List Call) → Premises G cs → Spoke G cs l q f ws → Team G q team floor (λ y. Waiting G q team floor enough true cs y 0 f)
+        → Arrived G q team floor cs (λ c y. At G q team floor enough c y f any)
     jump-on cs P sp each =
-        sweep mac eight key n low top q team floor Trails (λ c y. At mac eight key n low top q team floor enough c y f any) trails-on (at-on mac eight key n low top q team floor enough f any) push cs P
+        sweep G q team floor Trails (λ c y. At G q team floor enough c y f any) trails-on (at-on G q team floor enough f any) push cs P
         (λ y a b c. sort y (each y a b c))
       where
-        sort : (y : ℕ) → Waiting mac eight key n low top q team floor enough true cs y 0 f → Trails cs y ⊎ At mac eight key n low top q team floor enough cs y f any
+        sort : (y : ℕ) → Waiting G q team floor enough true cs y 0 f → Trails cs y ⊎ At G q team floor enough cs y f any
         sort y o = by (eqb (stage-step (o .station .stage)) f) refl
           where
-            by : (b : Bool) → eqb (stage-step (o .station .stage)) f ≡ b → Trails cs y ⊎ At mac eight key n low top q team floor enough cs y f any
+            by : (b : Bool) → eqb (stage-step (o .station .stage)) f ≡ b → Trails cs y ⊎ At G q team floor enough cs y f any
             by true e = inr (record { opening = o .opening; station = o .station; waits = o .waits; in-step = eqb-true (stage-step (o .station .stage)) f e; held-ok = every-any _ })
             by false e = inl (record { waiting = o; behind = omega (arith, o .upto, eqb-false (stage-step (o .station .stage)) f e); lead = sp })
 
   -- ---- all go on together, from step σ to step m
   module _ (m : ℕ) (last : m ≤ 2 * last-round + 1) (three : 3 ≤ m) where
-    arrives : (σ : ℕ) → σ < m → (cs : List Call) (x k : ℕ) (t : Station) (A : Advanced mac eight key n low top q team floor cs x k (t .stage) (t .decision) (t .jump) 0 any) → t .identity .question ≡ q
-        → stage-step (t .stage) ≡ σ → At mac eight key n low top q team floor enough (A .step .list) x (after-step σ) any
+    arrives : (σ : ℕ) → σ < m → (cs : List Call) (x k : ℕ) (t : Station) (A : Advanced G q team floor cs x k (t .stage) (t .decision) (t .jump) 0 any) → t .identity .question ≡ q
+        → stage-step (t .stage) ≡ σ → At G q team floor enough (A .step .list) x (after-step σ) any
     arrives σ less cs x k t A asked e =
-        gone-on mac eight key n low top q team floor enough (A .step .list) x k (t .stage) (t .decision) (A .state) 0 (A .station) (after-step σ) any (A .ended) open-still (there (A .ended)) refl
+        gone-on G q team floor enough (A .step .list) x k (t .stage) (t .decision) (A .state) 0 (A .station) (after-step σ) any (A .ended) open-still (there (A .ended)) refl
       where
         open-still : closes last-round (t .stage) ≡ false
         open-still = before-last (t .stage) (omega arith)
 
-        there : Ended mac eight key n low top q (A .step .list) x k (t .stage) (t .decision) (A .state) 0 (A .station) → stage-step (follows n (t .stage) (A .state) 0 .stage) ≡ after-step σ
+        there : Ended G q (A .step .list) x k (t .stage) (t .decision) (A .state) 0 (A .station) → stage-step (follows n (t .stage) (A .state) 0 .stage) ≡ after-step σ
         there (shut c closed on de) = never (closes last-round (t .stage)) open-still c
         there (went c w se) =
-            let S = sane-of mac eight key n low top (A .step .list) (A .step .premises) q x k (A .station) w in
+            let S = sane-of G (A .step .list) (A .step .premises) q x k (A .station) w in
             let is : stage-step (A .station .stage) ≡ stage-step (follows n (t .stage) (A .state) 0 .stage) = sym (ap stage-step (state-stage (A .station))) ∙ ap (λ (z : State). stage-step (z .stage)) se in
             let ne : stage-step (follows n (t .stage) (A .state) 0 .stage) ≡ 1 → ⊥ = λ z. not-one (A .station .stage) (subst (InRounds present-form) (state-stage (A .station)) (S .rounds)) (is ∙ z) in
             after-is (stage-step (t .stage)) _ (next-is n (t .stage) (A .state) 0) ne ∙ ap after-step e
 
-    stay : (σ : ℕ) → σ ≡ m → (cs : List Call) → Premises mac key n cs → Team mac eight key n low top q team floor (λ y. At mac eight key n low top q team floor enough cs y σ any)
-        → Arrived mac eight key n low top q team floor cs (λ c y. At mac eight key n low top q team floor enough c y m any)
+    stay : (σ : ℕ) → σ ≡ m → (cs : List Call) → Premises G cs → Team G q team floor (λ y. At G q team floor enough cs y σ any)
+        → Arrived G q team floor cs (λ c y. At G q team floor enough c y m any)
     stay σ e cs P each =
-        record { list = cs; premises = P; onward = done; each = λ y a b c. subst (λ (v : ℕ). At mac eight key n low top q team floor enough cs y v any) e (each y a b c) }
+        record { list = cs; premises = P; onward = done; each = λ y a b c. subst (λ (v : ℕ). At G q team floor enough cs y v any) e (each y a b c) }
 
-    pub together : (d σ : ℕ) → m ≤ d + σ → σ ≤ m → floor ≤ σ → (cs : List Call) → Premises mac key n cs
-        → Team mac eight key n low top q team floor (λ y. At mac eight key n low top q team floor enough cs y σ any)
-        → Arrived mac eight key n low top q team floor cs (λ c y. At mac eight key n low top q team floor enough c y m any)
+    pub together : (d σ : ℕ) → m ≤ d + σ → σ ≤ m → floor ≤ σ → (cs : List Call) → Premises G cs
+        → Team G q team floor (λ y. At G q team floor enough cs y σ any)
+        → Arrived G q team floor cs (λ c y. At G q team floor enough c y m any)
     together zero σ fuel upto fl cs P each = stay σ (omega arith) cs P each
     together (suc d) σ fuel upto fl cs P each =
         go (eqb σ m) refl (λ less l Q e. let a = after-range σ m less three in together d (after-step σ) (omega (arith, a .0)) (a .1) (omega (arith, a .0)) l Q e)
       where
         go : (b : Bool) → eqb σ m ≡ b
-            → (σ < m → (l : List Call) → Premises mac key n l → Team mac eight key n low top q team floor (λ y. At mac eight key n low top q team floor enough l y (after-step σ) any)
-            → Arrived mac eight key n low top q team floor l (λ c y. At mac eight key n low top q team floor enough c y m any))
-            → Arrived mac eight key n low top q team floor cs (λ c y. At mac eight key n low top q team floor enough c y m any)
+            → (σ < m → (l : List Call) → Premises G l → Team G q team floor (λ y. At G q team floor enough l y (after-step σ) any)
+            → Arrived G q team floor l (λ c y. At G q team floor enough c y m any))
+            → Arrived G q team floor cs (λ c y. At G q team floor enough c y m any)
         go true e next = stay σ (eqb-true σ m e) cs P each
         go false e next =
             let less : σ < m = omega (arith, eqb-false σ m e) in
-            let A = phase mac eight key n low top q team floor enough σ 0 fl (omega arith) any (λ c y. At mac eight key n low top q team floor enough c y (after-step σ) any)
-            (at-on mac eight key n low top q team floor enough (after-step σ) any) (arrives σ less) cs P each in
+            let A = phase G q team floor enough σ 0 fl (omega arith) any (λ c y. At G q team floor enough c y (after-step σ) any)
+            (at-on G q team floor enough (after-step σ) any) (arrives σ less) cs P each in
             let B = next less (A .list) (A .premises) (A .each) in
-            record { list = B .list; premises = B .premises; onward = then-onward mac eight key n low top q team floor cs (A .list) (B .list) (A .onward) (B .onward); each = B .each }
+            record { list = B .list; premises = B .premises; onward = then-onward G q team floor cs (A .list) (B .list) (A .onward) (B .onward); each = B .each }

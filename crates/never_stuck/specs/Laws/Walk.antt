@@ -12,11 +12,10 @@ use Rattle.laws.specs.Pick.{pick}
 use Rattle.laws.specs.Bools.{both}
 use Rattle.laws.specs.All.{All, all-map}
 use Rattle.format.specs.Form.{present-form}
-use Rattle.format.specs.Numbers.{code-words, least-stations}
 use Rattle.format.specs.Statement.{Statement, step}
 use Rattle.format.specs.Bundle.{count-in}
 use Rattle.format.specs.Laws.ReadBack.{Proper}
-use Rattle.format.specs.Present.{most-statements, place-of, most-stations, statements, main-of, bundle-of}
+use Rattle.format.specs.Present.{most-statements, place-of, statements, main-of, bundle-of}
 use Rattle.rules.specs.declared.Which.the-variants.{Any}
 use Rattle.certificate.specs.Check.{every}
 use Rattle.certificate.specs.Exact.{found-valid}
@@ -35,6 +34,7 @@ use Rattle.station.specs.Present.{state-of, returned, Reached}
 use Rattle.agreement.specs.Maths.Log.{In, all-at}
 use Rattle.agreement.specs.Maths.Safe.{Just}
 use Rattle.agreement.specs.Maths.Just.{Coded, coded-more}
+use Rattle.agreement.specs.Laws.Ground.{Ground}
 use Rattle.agreement.specs.Laws.Line.{Line, line-open, reads, reads-append}
 use Rattle.agreement.specs.Laws.Lists.{same-line}
 use Rattle.agreement.specs.Laws.Run.{Inv}
@@ -45,16 +45,18 @@ use Rattle.never_stuck.specs.Laws.Came.{codes-came}
 use Rattle.never_stuck.specs.Laws.Spoken.{Spoke, spoke-later, Said, said-later}
 use Rattle.never_stuck.specs.Laws.Steps.{any}
 
-module _ (mac : List ℕ → List ℕ → List ℕ) (eight : (key ws : List ℕ) → length (mac key ws) ≡ code-words) (key : List ℕ) (n : ℕ) (low : least-stations ≤ n) (top : n ≤ most-stations) where
+module _ (G : Ground present-form) where
+  open Ground G using (mac, eight, key, n, top)
+
   -- the bundle of the station's own step: its statement is held, so that it passes what all that is held passes
   pub record Latest (cs : List Call) (i : ℕ) (t : Station) : Type 0 where
     pub words : List ℕ
-    pub spoke : Spoke mac key n cs i (t .identity .question) (stage-step (t .stage)) words
+    pub spoke : Spoke G cs i (t .identity .question) (stage-step (t .stage)) words
     pub held : (ok : Statement → Bool) → every ok (state-of t .held) ≡ true → ok (main-of words) ≡ true
 
   pub record Up (cs : List Call) (i : ℕ) (t : Station) : Type 0 where
     pub reached : Reached mac key n i t
-    pub told : t .closed ≡ false → t .jump ≡ false → (s : ℕ) → s ≤ stage-step (t .stage) → (s ≡ 1 → ⊥) → Said mac key n cs i (t .identity .question) s any
+    pub told : t .closed ≡ false → t .jump ≡ false → (s : ℕ) → s ≤ stage-step (t .stage) → (s ≡ 1 → ⊥) → Said G cs i (t .identity .question) s any
     pub latest : t .closed ≡ false → Latest cs i t
     pub has-coded : last-for (modules mac key n cs i) (t .identity .question) .coded ≡ true
     pub behind : t .identity .question ≤ last-for (modules mac key n cs i) (t .identity .question) .question
@@ -67,7 +69,7 @@ module _ (mac : List ℕ → List ℕ → List ℕ) (eight : (key ws : List ℕ)
     pub unique : (k o : ℕ) (a b : Lineage) → lineage mac key n cs i k ≡ found a → lineage mac key n cs i o ≡ found b → a .present .identity .question ≡ b .present .identity .question → k ≡ o
 
   latest-later : (c : Call) (cs : List Call) (i : ℕ) (t : Station) → Latest cs i t → Latest (c ∷ cs) i t
-  latest-later c cs i t w = record { words = w .words; spoke = spoke-later mac key n c cs i (t .identity .question) (stage-step (t .stage)) (w .words) (w .spoke); held = w .held }
+  latest-later c cs i t w = record { words = w .words; spoke = spoke-later G c cs i (t .identity .question) (stage-step (t .stage)) (w .words) (w .spoke); held = w .held }
 
   -- the module is as it was
   pub up-later : (c : Call) (cs : List Call) (i : ℕ) (t : Station) → modules mac key n (c ∷ cs) i ≡ modules mac key n cs i → Up cs i t → Up (c ∷ cs) i t
@@ -75,7 +77,7 @@ module _ (mac : List ℕ → List ℕ → List ℕ) (eight : (key ws : List ℕ)
       let Q = t .identity .question in
       record {
         reached = u .reached;
-        told = λ o j s a b. said-later mac key n c cs i Q s any (u .told o j s a b);
+        told = λ o j s a b. said-later G c cs i Q s any (u .told o j s a b);
         latest = λ o. latest-later c cs i t (u .latest o);
         has-coded = ap (λ (z : Module). last-for z Q .coded) m ∙ u .has-coded;
         behind = subst (λ (z : Module). t .identity .question ≤ last-for z (t .identity .question) .question) (sym m) (u .behind);
@@ -89,7 +91,7 @@ module _ (mac : List ℕ → List ℕ → List ℕ) (eight : (key ws : List ℕ)
   up-past c cs i t q σ last le ne u =
       record {
         reached = u .reached;
-        told = λ o j s a b. said-later mac key n c cs i (t .identity .question) s any (u .told o j s a b);
+        told = λ o j s a b. said-later G c cs i (t .identity .question) s any (u .told o j s a b);
         latest = λ o. latest-later c cs i t (u .latest o);
         has-coded = ap (λ (z : Last). z .coded) last;
         behind = omega (arith, ap (λ (z : Last). z .question) last);
@@ -148,7 +150,7 @@ module _ (mac : List ℕ → List ℕ → List ℕ) (eight : (key ws : List ℕ)
       let e = coded-in (site c) (view (action c)) (answer mac key n cs c) in
       subst (λ (z : List Statement). All (Coded n z) x) (sym (reads-append present-form e (log mac key n cs))) (coded-on (reads present-form e) (reads present-form (log mac key n cs)) x h)
 
-  module _ (faulty : List ℕ) (c : Call) (cs : List Call) (J : Inv present-form mac eight key n low top faulty (c ∷ cs)) (m : Module) (t : Station) (out : List ℕ) (k : ℕ) (s : Statement) (C : List Statement) (u : State)
+  module _ (faulty : List ℕ) (c : Call) (cs : List Call) (J : Inv present-form G faulty (c ∷ cs)) (m : Module) (t : Station) (out : List ℕ) (k : ℕ) (s : Statement) (C : List Statement) (u : State)
       (e : answer mac key n cs c ≡ returned m t out (sends k s C u)) (w : wrote k ≡ true) (ps : Proper present-form n s) (pc : All (Proper present-form n) C) (few : length C ≤ most-statements)
       (valid : check-by (mac key) n Any (message (answer mac key n cs c)) ≡ 0) (cs-s : Coded n (reads present-form (log mac key n (c ∷ cs))) s) (cs-c : All (Coded n (reads present-form (log mac key n cs))) C) where
     message-is : message (answer mac key n cs c) ≡ bundle-of s C
@@ -166,7 +168,7 @@ module _ (mac : List ℕ → List ℕ → List ℕ) (eight : (key ws : List ℕ)
     pub main-written : main-of (message (answer mac key n cs c)) ≡ s
     main-written = ap main-of message-is ∙ main-there
 
-    pub written-spoke : (i q σ : ℕ) → site c ≡ i → s .station ≡ i → s .question ≡ q → step s ≡ σ → Spoke mac key n (c ∷ cs) i q σ (message (answer mac key n cs c))
+    pub written-spoke : (i q σ : ℕ) → site c ≡ i → s .station ≡ i → s .question ≡ q → step s ≡ σ → Spoke G (c ∷ cs) i q σ (message (answer mac key n cs c))
     unfolding Rattle.station.specs.Calls.returned
     written-spoke i q σ si a b d =
         record {

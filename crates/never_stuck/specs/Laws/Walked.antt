@@ -12,12 +12,12 @@ use Rattle.laws.specs.Pick.{pick}
 use Rattle.laws.specs.Bools.{never, both, join}
 use Rattle.laws.specs.All.{All, all-append}
 use Rattle.format.specs.Form.{present-form}
-use Rattle.format.specs.Numbers.{kind-INIT, none, D-GET, kept, sent, closed-now, jumped, code-words, least-stations}
+use Rattle.format.specs.Numbers.{kind-INIT, none, D-GET, kept, sent, closed-now, jumped}
 use Rattle.format.specs.Group.{quorum}
 use Rattle.format.specs.Statement.{Statement, step}
 use Rattle.format.specs.Laws.Shape.{init}
 use Rattle.format.specs.Laws.ReadBack.{Proper}
-use Rattle.format.specs.Present.{most-statements, last-round, most-stations, main-of, certificate-of}
+use Rattle.format.specs.Present.{most-statements, last-round, main-of, certificate-of}
 use Rattle.rules.specs.declared.Which.the-variants.{Any}
 use Rattle.certificate.specs.Check.{every}
 use Rattle.certificate.specs.Present.{check-by}
@@ -45,6 +45,7 @@ use Rattle.station.specs.Laws.Fits.{own-proper, init-sane, next-ready, sent-pro
 use Rattle.station.specs.Laws.Views.{InRange, init-statement, Opens, no-opening, begins, opens-view, Accepted, Jumping, after, decision-then, sent-statement, jump-statement, Gives, refuses, holds-on, shuts, goes-on, enters, gives-view}
 use Rattle.station.specs.Present.{state-of, returned, opening, giving, opening-outcome, giving-outcome, no-station, Lengths, Reached}
 use Rattle.agreement.specs.Maths.Just.{Coded}
+use Rattle.agreement.specs.Laws.Ground.{Ground}
 use Rattle.agreement.specs.Laws.Line.{Line, reads}
 use Rattle.agreement.specs.Laws.Giving.{parts-coded, given-coded}
 use Rattle.agreement.specs.Laws.Lists.{module-now, module-other, module-same, lineage-other, lineage-refused}
@@ -56,9 +57,11 @@ use Rattle.never_stuck.specs.Laws.Spoken.{Spoke, Said, said-later, prese
 use Rattle.never_stuck.specs.Laws.Steps.{any, next-step, next-is, up-to}
 use Rattle.never_stuck.specs.Laws.Walk.{Up, Walk, up-later, up-past, still, whose, renewed, main-written, written-spoke, held-coded, held-single}
 
-module _ (mac : List ℕ → List ℕ → List ℕ) (eight : (key ws : List ℕ) → length (mac key ws) ≡ code-words) (key : List ℕ) (n : ℕ) (low : least-stations ≤ n) (top : n ≤ most-stations) where
+module _ (G : Ground present-form) where
+  open Ground G using (mac, eight, key, n, top)
+
   -- ---- a call at the site itself
-  module _ (faulty : List ℕ) (cs : List Call) (I : Inv present-form mac eight key n low top faulty cs) (i : ℕ) (lo : 1 ≤ i) (hi : i ≤ n) (h : member i faulty ≡ false) (w : Walk mac eight key n low top cs i) where
+  module _ (faulty : List ℕ) (cs : List Call) (I : Inv present-form G faulty cs) (i : ℕ) (lo : 1 ≤ i) (hi : i ≤ n) (h : member i faulty ≡ false) (w : Walk G cs i) where
     mine : OfGroup key n i (modules mac key n cs i)
     mine = I .logs .mods i lo hi
 
@@ -73,14 +76,14 @@ module _ (mac : List ℕ → List ℕ → List ℕ) (eight : (key ws : List ℕ)
 
     -- a call that is refused changes nothing
     refused-walk : (a : Action) (t : Station) (out : List ℕ) (k : ℕ) → unrefused k ≡ false → answer mac key n cs (call i a) ≡ returned mm t out (Mach.refused k)
-        → Walk mac eight key n low top (call i a ∷ cs) i
+        → Walk G (call i a ∷ cs) i
     unfolding Rattle.station.specs.Calls.returned
     refused-walk a t out k z e =
-        still mac eight key n low top (call i a) cs i (λ o. lineage-refused present-form mac key n (call i a) cs i o (ap (λ (r : Returned). unrefused (r .number)) e ∙ z))
+        still G (call i a) cs i (λ o. lineage-refused present-form mac key n (call i a) cs i o (ap (λ (r : Returned). unrefused (r .number)) e ∙ z))
         (module-now present-form mac key n (call i a) cs ∙ ap (λ (r : Returned). r .after) e ∙ sym m-is) w
 
     -- ---- opening
-    module _ (q v setting : ℕ) (out : List ℕ) (J : Inv present-form mac eight key n low top faulty (call i (opens q v setting out) ∷ cs)) where
+    module _ (q v setting : ℕ) (out : List ℕ) (J : Inv present-form G faulty (call i (opens q v setting out) ∷ cs)) where
       abbrev c : Call
       c = call i (opens q v setting out)
 
@@ -110,7 +113,7 @@ module _ (mac : List ℕ → List ℕ → List ℕ) (eight : (key ws : List ℕ)
         lower : (k : ℕ) (line : Lineage) → lineage mac key n cs i k ≡ found line → line .present .identity .question < q
         lower k line e = by (w .up k line e) (above-out (last-for mm q) q (step S) a)
           where
-            by : Up mac eight key n low top cs i (line .present) → Above (last-for mm q) q (step S) → line .present .identity .question < q
+            by : Up G cs i (line .present) → Above (last-for mm q) q (step S) → line .present .identity .question < q
             by u (first x) = never (modules mac key n cs i .last .coded) x (u .has-coded)
             by u (later-question x) = omega (arith, u .behind)
             by u (later-step x y) = absurd (omega (arith, step-S))
@@ -157,16 +160,16 @@ module _ (mac : List ℕ → List ℕ → List ℕ) (eight : (key ws : List ℕ)
           coded-S : Coded n (reads present-form (log mac key n (c ∷ cs))) S
           unfolding Rattle.station.specs.Words.as-station new-line
           coded-S =
-              held-coded mac eight key n low top (reads present-form (log mac key n (c ∷ cs))) i T (new-line .took) U S
+              held-coded G (reads present-form (log mac key n (c ∷ cs))) i T (new-line .took) U S
               (subst (λ (z : Station). Line present-form n (reads present-form (log mac key n (c ∷ cs))) i z (new-line .took)) station-is (J .lines i (openings mac key n cs i) new-line lo hi h is-new)) refl state-T refl
 
           proper : Proper present-form n S
           proper = own-proper present-form mac eight mm q kind-INIT v D-GET 0 r (init refl refl p refl)
 
-          spoke-0 : (s : ℕ) → s ≡ 0 → Spoke mac key n (c ∷ cs) i q s (message (answer mac key n cs c))
-          spoke-0 s z = written-spoke mac eight key n low top faulty c cs J mm no-station out sent S [] U e refl proper tt (omega arith) valid coded-S tt i q s refl refl refl (step-S ∙ sym z)
+          spoke-0 : (s : ℕ) → s ≡ 0 → Spoke G (c ∷ cs) i q s (message (answer mac key n cs c))
+          spoke-0 s z = written-spoke G faulty c cs J mm no-station out sent S [] U e refl proper tt (omega arith) valid coded-S tt i q s refl refl refl (step-S ∙ sym z)
 
-          up-new : Up mac eight key n low top (c ∷ cs) i T
+          up-new : Up G (c ∷ cs) i T
           unfolding Rattle.station.specs.Words.as-station
           up-new =
               record {
@@ -175,8 +178,8 @@ module _ (mac : List ℕ → List ℕ → List ℕ) (eight : (key ws : List ℕ)
                 latest = λ x. record {
                   words = message (answer mac key n cs c);
                   spoke = spoke-0 (stage-step Gathering) (steps-0 kind-INIT 0 refl);
-                  held = λ ok all. ap ok (main-written mac eight key n low top faulty c cs J mm no-station out sent S [] U e refl proper tt (omega arith) valid coded-S tt)
-                      ∙ held-single mac eight key n low top T U S state-T refl ok all;
+                  held = λ ok all. ap ok (main-written G faulty c cs J mm no-station out sent S [] U e refl proper tt (omega arith) valid coded-S tt)
+                      ∙ held-single G T U S state-T refl ok all;
                 };
                 has-coded = ap (λ (z : Last). z .coded) last-is;
                 behind = omega (arith, ap (λ (z : Last). z .question) last-is);
@@ -187,25 +190,25 @@ module _ (mac : List ℕ → List ℕ → List ℕ) (eight : (key ws : List ℕ)
           unfolding Rattle.station.specs.Words.as-station
           question-T = refl
 
-          opened-walk : Walk mac eight key n low top (c ∷ cs) i
+          opened-walk : Walk G (c ∷ cs) i
           unfolding new-line
           opened-walk =
-              renewed mac eight key n low top c cs i (openings mac key n cs i) T w
-              (λ o l f. whose mac eight key n low top c cs i (openings mac key n cs i) T (λ z. started (answer mac key n cs c)) new-line refl station-is o l (sym (there o) ∙ f)) up-new
-              (λ o l x f. up-past mac eight key n low top c cs i (l .present) q 0 last-is (omega (arith, lower o l f)) (λ z. omega (arith, lower o l f)) (w .up o l f))
+              renewed G c cs i (openings mac key n cs i) T w
+              (λ o l f. whose G c cs i (openings mac key n cs i) T (λ z. started (answer mac key n cs c)) new-line refl station-is o l (sym (there o) ∙ f)) up-new
+              (λ o l x f. up-past G c cs i (l .present) q 0 last-is (omega (arith, lower o l f)) (λ z. omega (arith, lower o l f)) (w .up o l f))
               (λ o l x f z. omega (arith, lower o l f, question-T))
 
-      pub open-walk : Walk mac eight key n low top (c ∷ cs) i
+      pub open-walk : Walk G (c ∷ cs) i
       open-walk = go (opening-outcome mac mm q v setting out) refl (opens-view present-form mac mm q v setting out)
         where
-          go : (o : Outcome) → opening-outcome mac mm q v setting out ≡ o → Opens present-form mac mm q v setting out o → Walk mac eight key n low top (c ∷ cs) i
+          go : (o : Outcome) → opening-outcome mac mm q v setting out ≡ o → Opens present-form mac mm q v setting out o → Walk G (c ∷ cs) i
           go _ e (no-opening {k} z) = refused-walk (opens q v setting out) no-station out k z (a-is ∙ ap (returned mm no-station out) e)
           go _ e (begins room r p a) = opened-walk r p a (a-is ∙ ap (returned mm no-station out) e)
 
     -- ---- giving
     module _ (o : ℕ) (t : Station) (ws : List ℕ) (coin : ℕ) (out : List ℕ) (len : Lengths t) (came : CodesCame mac key n (log mac key n cs) ws)
         (sound : unrefused (answer mac key n cs (call i (gives o t ws coin out)) .number) ≡ true → Presents mac key n cs i o t)
-        (J : Inv present-form mac eight key n low top faulty (call i (gives o t ws coin out) ∷ cs)) where
+        (J : Inv present-form G faulty (call i (gives o t ws coin out) ∷ cs)) where
       abbrev g : Call
       g = call i (gives o t ws coin out)
 
@@ -224,11 +227,11 @@ module _ (mac : List ℕ → List ℕ → List ℕ) (eight : (key ws : List ℕ)
         p : Presents mac key n cs i o t
         p = sound ung
 
-        up-t : Up mac eight key n low top cs i t
-        up-t = subst (λ (z : Station). Up mac eight key n low top cs i z) (p .now) (w .up o (p .line) (p .is))
+        up-t : Up G cs i t
+        up-t = subst (λ (z : Station). Up G cs i z) (p .now) (w .up o (p .line) (p .is))
 
         p' : Presents mac key n (g ∷ cs) i o (answer mac key n cs g .station)
-        p' = presents-now mac key n cs i o t ws coin out p ung
+        p' = presents-now G cs i o t ws coin out p ung
 
         touched : (k : ℕ) → lineage mac key n (g ∷ cs) i k ≡ pick (eqb o k) (gave (answer mac key n cs g) ws (lineage mac key n cs i k)) (lineage mac key n cs i k)
         unfolding Rattle.agreement.specs.Demand.lineage
@@ -242,49 +245,49 @@ module _ (mac : List ℕ → List ℕ → List ℕ) (eight : (key ws : List ℕ)
         reached-then = subst (λ (z : Station). Reached mac key n i z) (sym (ap (λ (r : Returned). r .station) g-is))
             (by-giving (up-t .reached) mm ws coin out group (sym (ap (λ (r : Returned). unrefused (r .number)) g-is) ∙ ung))
 
-        given-walk : (st : Station) → answer mac key n cs g .station ≡ st → st .identity .question ≡ Q → Up mac eight key n low top (g ∷ cs) i st
-            → ((k : ℕ) (line : Lineage) → (o ≡ k → ⊥) → lineage mac key n cs i k ≡ found line → Up mac eight key n low top (g ∷ cs) i (line .present)) → Walk mac eight key n low top (g ∷ cs) i
+        given-walk : (st : Station) → answer mac key n cs g .station ≡ st → st .identity .question ≡ Q → Up G (g ∷ cs) i st
+            → ((k : ℕ) (line : Lineage) → (o ≡ k → ⊥) → lineage mac key n cs i k ≡ found line → Up G (g ∷ cs) i (line .present)) → Walk G (g ∷ cs) i
         given-walk st is asked up others =
-            renewed mac eight key n low top g cs i o st w
-            (λ k l f. whose mac eight key n low top g cs i o st (λ k. gave (answer mac key n cs g) ws (lineage mac key n cs i k))
+            renewed G g cs i o st w
+            (λ k l f. whose G g cs i o st (λ k. gave (answer mac key n cs g) ws (lineage mac key n cs i k))
             (record { present = answer mac key n cs g .station; took = written-main (answer mac key n cs g) ++ (given-main (answer mac key n cs g) ws ++ p .line .took) })
             (ap (gave (answer mac key n cs g) ws) (p .is)) is k l (sym (touched k) ∙ f)) up others (λ k l ne f z. apart k l ne f (z ∙ asked))
 
         -- nothing was written: the module is as it was
         quiet-walk : (u : State) → answer mac key n cs g .station ≡ W.as-station n i u → answer mac key n cs g .after ≡ mm → u .question ≡ Q → u .stage ≡ t .stage
             → (u .closed ≡ false → (t .closed ≡ false) × ((u .jump ≡ t .jump) × ((ok : Statement → Bool) → every ok (state-of (W.as-station n i u) .held) ≡ true → every ok (state-of t .held) ≡ true)))
-            → Walk mac eight key n low top (g ∷ cs) i
+            → Walk G (g ∷ cs) i
         unfolding Rattle.station.specs.Words.as-station
         quiet-walk u is m asked stage op =
             let me : modules mac key n (g ∷ cs) i ≡ modules mac key n cs i = module-now present-form mac key n g cs ∙ m ∙ sym m-is in
-            let U : Up mac eight key n low top (g ∷ cs) i t = up-later mac eight key n low top g cs i t me up-t in
+            let U : Up G (g ∷ cs) i t = up-later G g cs i t me up-t in
             given-walk (W.as-station n i u) is asked
             (record {
               reached = subst (λ (z : Station). Reached mac key n i z) is reached-then;
-              told = λ c j s a b. subst (λ (z : ℕ). Said mac key n (g ∷ cs) i z s any) (sym asked) (U .told (op c .0) (sym (op c .1 .0) ∙ j) s (subst (λ (z : Stage). s ≤ stage-step z) stage a) b);
+              told = λ c j s a b. subst (λ (z : ℕ). Said G (g ∷ cs) i z s any) (sym asked) (U .told (op c .0) (sym (op c .1 .0) ∙ j) s (subst (λ (z : Stage). s ≤ stage-step z) stage a) b);
               latest = λ a. let L = U .latest (op a .0) in
                   record {
                     words = L .words;
-                    spoke = subst (λ (z : ℕ). Spoke mac key n (g ∷ cs) i z (stage-step (u .stage)) (L .words)) (sym asked)
-                        (subst (λ (z : Stage). Spoke mac key n (g ∷ cs) i Q (stage-step z) (L .words)) (sym stage) (L .spoke));
+                    spoke = subst (λ (z : ℕ). Spoke G (g ∷ cs) i z (stage-step (u .stage)) (L .words)) (sym asked)
+                        (subst (λ (z : Stage). Spoke G (g ∷ cs) i Q (stage-step z) (L .words)) (sym stage) (L .spoke));
                     held = λ ok all. L .held ok (op a .1 .1 ok all);
                   };
               has-coded = U .has-coded;
               behind = omega (arith, asked, U .behind);
               in-time = λ a b. U .in-time (op a .0) (b ∙ asked) ∙ sym (λ z. pair (asked z) (stage-step (stage z)));
             })
-            (λ k line ne f. up-later mac eight key n low top g cs i (line .present) me (w .up k line f))
+            (λ k line ne f. up-later G g cs i (line .present) me (w .up k line f))
 
         known : Line present-form n (reads present-form (log mac key n cs)) i t (p .line .took)
         known = subst (λ (z : Station). Line present-form n (reads present-form (log mac key n cs)) i z (p .line .took)) (p .now) (I .lines i o (p .line) lo hi h (p .is))
 
         -- a bundle of a later step was written, and the station is in that step: its step has ended, or it has jumped
-        module _ (k : ℕ) (S2 : Statement) (C : List Statement) (G : Stage) (d : ℕ) (mine-2 : S2 .station ≡ i) (on-2 : S2 .question ≡ Q) (step-2 : step S2 ≡ stage-step G)
+        module _ (k : ℕ) (S2 : Statement) (C : List Statement) (G2 : Stage) (d : ℕ) (mine-2 : S2 .station ≡ i) (on-2 : S2 .question ≡ Q) (step-2 : step S2 ≡ stage-step G2)
             (ab : above (last-for mm Q) Q (step S2) ≡ true) (wk : wrote k ≡ true) (proper-2 : Proper present-form n S2) (proper-c : All (Proper present-form n) C) (few-c : length C ≤ most-statements)
-            (coded-c : All (Coded n (reads present-form (log mac key n cs))) C) (sane-2 : Sane present-form n i (began n Q (t .jump) G d S2 C)) (still-open : t .closed ≡ false)
-            (from : t .jump ≡ false → (s : ℕ) → s ≤ stage-step G → (s ≡ 1 → ⊥) → (s ≤ stage-step (t .stage)) ⊎ (s ≡ stage-step G)) where
+            (coded-c : All (Coded n (reads present-form (log mac key n cs))) C) (sane-2 : Sane present-form n i (began n Q (t .jump) G2 d S2 C)) (still-open : t .closed ≡ false)
+            (from : t .jump ≡ false → (s : ℕ) → s ≤ stage-step G2 → (s ≡ 1 → ⊥) → (s ≤ stage-step (t .stage)) ⊎ (s ≡ stage-step G2)) where
           abbrev U2 : State
-          U2 = began n Q (t .jump) G d S2 C
+          U2 = began n Q (t .jump) G2 d S2 C
 
           abbrev T2 : Station
           T2 = W.as-station n i U2
@@ -302,7 +305,7 @@ module _ (mac : List ℕ → List ℕ → List ℕ) (eight : (key ws : List ℕ)
               by (later-step x y) = x
 
           module _ (e : answer mac key n cs g ≡ returned mm t out (sends k S2 C U2)) where
-            last-2 : last-for (modules mac key n (g ∷ cs) i) Q ≡ pair Q (stage-step G)
+            last-2 : last-for (modules mac key n (g ∷ cs) i) Q ≡ pair Q (stage-step G2)
             unfolding Rattle.station.specs.Calls.returned
             last-2 = ap (λ (z : Module). last-for z Q) (module-now present-form mac key n g cs ∙ ap (λ (r : Returned). r .after) e) ∙ (λ z. pair (on-2 z) (step-2 z))
 
@@ -321,14 +324,14 @@ module _ (mac : List ℕ → List ℕ → List ℕ) (eight : (key ws : List ℕ)
             coded-2 : Coded n (reads present-form (log mac key n (g ∷ cs))) S2
             unfolding Rattle.station.specs.Words.as-station
             coded-2 =
-                held-coded mac eight key n low top (reads present-form (log mac key n (g ∷ cs))) i T2 (p' .line .took) U2 S2
+                held-coded G (reads present-form (log mac key n (g ∷ cs))) i T2 (p' .line .took) U2 S2
                 (subst (λ (z : Station). Line present-form n (reads present-form (log mac key n (g ∷ cs))) i z (p' .line .took)) (p' .now ∙ station-2) (J .lines i o (p' .line) lo hi h (p' .is))) refl state-2 refl
 
-            spoke-2 : Spoke mac key n (g ∷ cs) i Q (stage-step G) (message (answer mac key n cs g))
+            spoke-2 : Spoke G (g ∷ cs) i Q (stage-step G2) (message (answer mac key n cs g))
             spoke-2 =
-                written-spoke mac eight key n low top faulty g cs J mm t out k S2 C U2 e wk proper-2 proper-c few-c valid-2 coded-2 coded-c i Q (stage-step G) refl mine-2 on-2 step-2
+                written-spoke G faulty g cs J mm t out k S2 C U2 e wk proper-2 proper-c few-c valid-2 coded-2 coded-c i Q (stage-step G2) refl mine-2 on-2 step-2
 
-            up-2 : Up mac eight key n low top (g ∷ cs) i T2
+            up-2 : Up G (g ∷ cs) i T2
             unfolding Rattle.station.specs.Words.as-station
             up-2 =
                 record {
@@ -337,27 +340,27 @@ module _ (mac : List ℕ → List ℕ → List ℕ) (eight : (key ws : List ℕ)
                   latest = λ a. record {
                     words = message (answer mac key n cs g);
                     spoke = spoke-2;
-                    held = λ ok all. ap ok (main-written mac eight key n low top faulty g cs J mm t out k S2 C U2 e wk proper-2 proper-c few-c valid-2 coded-2 coded-c)
-                        ∙ held-single mac eight key n low top T2 U2 S2 state-2 refl ok all;
+                    held = λ ok all. ap ok (main-written G faulty g cs J mm t out k S2 C U2 e wk proper-2 proper-c few-c valid-2 coded-2 coded-c)
+                        ∙ held-single G T2 U2 S2 state-2 refl ok all;
                   };
                   has-coded = ap (λ (z : Last). z .coded) last-2;
                   behind = omega (arith, ap (λ (z : Last). z .question) last-2);
                   in-time = λ a b. last-2;
                 }
               where
-                tell : t .jump ≡ false → (s : ℕ) → (s ≤ stage-step (t .stage)) ⊎ (s ≡ stage-step G) → (s ≡ 1 → ⊥) → Said mac key n (g ∷ cs) i Q s any
-                tell off s (inl a) b = said-later mac key n g cs i Q s any (up-t .told still-open off s a b)
+                tell : t .jump ≡ false → (s : ℕ) → (s ≤ stage-step (t .stage)) ⊎ (s ≡ stage-step G2) → (s ≡ 1 → ⊥) → Said G (g ∷ cs) i Q s any
+                tell off s (inl a) b = said-later G g cs i Q s any (up-t .told still-open off s a b)
                 tell off s (inr a) b =
-                    record { words = message (answer mac key n cs g); spoke = subst (λ (z : ℕ). Spoke mac key n (g ∷ cs) i Q z (message (answer mac key n cs g))) (sym a) spoke-2; passes = refl }
+                    record { words = message (answer mac key n cs g); spoke = subst (λ (z : ℕ). Spoke G (g ∷ cs) i Q z (message (answer mac key n cs g))) (sym a) spoke-2; passes = refl }
 
             asked-2 : T2 .identity .question ≡ Q
             unfolding Rattle.station.specs.Words.as-station
             asked-2 = refl
 
-            sent-walk : Walk mac eight key n low top (g ∷ cs) i
+            sent-walk : Walk G (g ∷ cs) i
             sent-walk =
                 given-walk T2 station-2 asked-2 up-2
-                (λ l line ne f. up-past mac eight key n low top g cs i (line .present) Q (stage-step G) last-2 (omega (arith, w .up l line f .behind, same-question)) (apart l line ne f) (w .up l line f))
+                (λ l line ne f. up-past G g cs i (line .present) Q (stage-step G2) last-2 (omega (arith, w .up l line f .behind, same-question)) (apart l line ne f) (w .up l line f))
 
       -- the step has ended
       module _ (k : ℕ) (A : Accepted present-form mac mm t ws coin out) (size : length (after present-form mac mm t ws coin out .held) ≡ quorum n) (more : closes last-round (t .stage) ≡ false)
@@ -377,7 +380,7 @@ module _ (mac : List ℕ → List ℕ → List ℕ) (eight : (key ws : List ℕ)
 
         ended-walk : (ung : unrefused (answer mac key n cs g .number) ≡ true)
             → answer mac key n cs g ≡ returned mm t out (sends k S1 (X .first ++ X .second) (began n Q (t .jump) (X .stage) (decision-then present-form mac mm t ws coin out) S1 (X .first ++ X .second)))
-            → Walk mac eight key n low top (g ∷ cs) i
+            → Walk G (g ∷ cs) i
         ended-walk ung e =
             let R = reached-good present-form mac key n eight i t (up-t ung .reached) .certain (A .still-open) in
             let few = backed-few present-form n S1 (X .first ++ X .second) top (sent-backed present-form mac mm t ws coin out A eight len R size more) in
@@ -389,7 +392,7 @@ module _ (mac : List ℕ → List ℕ → List ℕ) (eight : (key ws : List ℕ)
       -- the station has jumped
       jumped-walk : (K : Jumping present-form mac mm t ws coin out) → above (last-for mm Q) Q (step (jump-statement present-form mac mm t ws coin out)) ≡ true
           → answer mac key n cs g ≡ returned mm t out (sends jumped (jump-statement present-form mac mm t ws coin out) (certificate-of ws)
-          (began n Q (t .jump) (stage-of (main-of ws)) (t .decision) (jump-statement present-form mac mm t ws coin out) (certificate-of ws))) → Walk mac eight key n low top (g ∷ cs) i
+          (began n Q (t .jump) (stage-of (main-of ws)) (t .decision) (jump-statement present-form mac mm t ws coin out) (certificate-of ws))) → Walk G (g ∷ cs) i
       unfolding Rattle.station.specs.Calls.returned
       jumped-walk K ab e =
           let ung : unrefused (answer mac key n cs g .number) ≡ true = ap (λ (r : Returned). unrefused (r .number)) e in
@@ -398,7 +401,7 @@ module _ (mac : List ℕ → List ℕ → List ℕ) (eight : (key ws : List ℕ)
           (jump-sane present-form mac eight mm t ws coin out K len) (K .still-open) (λ off s a b. never (t .jump) off (K .on)) e
 
       kept-walk : (A : Accepted present-form mac mm t ws coin out) → length (after present-form mac mm t ws coin out .held) < quorum n → answer mac key n cs g ≡ returned mm t out (keeps kept (after present-form mac mm t ws coin out))
-          → Walk mac eight key n low top (g ∷ cs) i
+          → Walk G (g ∷ cs) i
       unfolding Rattle.station.specs.Calls.returned Rattle.station.specs.Words.state-of
       kept-walk A few e =
           quiet-walk (ap (λ (r : Returned). unrefused (r .number)) e) (after present-form mac mm t ws coin out) (ap (λ (r : Returned). r .station) e) (ap (λ (r : Returned). r .after) e) refl refl
@@ -411,16 +414,16 @@ module _ (mac : List ℕ → List ℕ → List ℕ) (eight : (key ws : List ℕ)
             ),
           ))
 
-      shut-walk : (A : Accepted present-form mac mm t ws coin out) (d : ℕ) → answer mac key n cs g ≡ returned mm t out (keeps closed-now (shut (after present-form mac mm t ws coin out) d)) → Walk mac eight key n low top (g ∷ cs) i
+      shut-walk : (A : Accepted present-form mac mm t ws coin out) (d : ℕ) → answer mac key n cs g ≡ returned mm t out (keeps closed-now (shut (after present-form mac mm t ws coin out) d)) → Walk G (g ∷ cs) i
       unfolding Rattle.station.specs.Calls.returned Rattle.station.specs.Words.state-of
       shut-walk A d e =
           quiet-walk (ap (λ (r : Returned). unrefused (r .number)) e) (shut (after present-form mac mm t ws coin out) d) (ap (λ (r : Returned). r .station) e) (ap (λ (r : Returned). r .after) e) refl refl (λ a. never true a refl)
 
-      pub give-walk : Walk mac eight key n low top (g ∷ cs) i
+      pub give-walk : Walk G (g ∷ cs) i
       unfolding Rattle.station.specs.Calls.returned
       give-walk = go (giving-outcome mac mm t ws coin out) refl (gives-view present-form mac mm t ws coin out len)
         where
-          go : (x : Outcome) → giving-outcome mac mm t ws coin out ≡ x → Gives present-form mac mm t ws coin out x → Walk mac eight key n low top (g ∷ cs) i
+          go : (x : Outcome) → giving-outcome mac mm t ws coin out ≡ x → Gives present-form mac mm t ws coin out x → Walk G (g ∷ cs) i
           go _ e (refuses {k} z) = refused-walk (gives o t ws coin out) t out k z (b-is ∙ ap (returned mm t out) e)
           go _ e (holds-on A few) = kept-walk A few (b-is ∙ ap (returned mm t out) e)
           go _ e (shuts A size c) = shut-walk A (decision-then present-form mac mm t ws coin out) (b-is ∙ ap (returned mm t out) e)
@@ -437,38 +440,38 @@ module _ (mac : List ℕ → List ℕ → List ℕ) (eight : (key ws : List ℕ)
 
   -- a coding at the site is refused, one elsewhere changes nothing there
   apart-walk : (c : Call) (cs : List Call) (i : ℕ) → ((k : ℕ) → lineage mac key n (c ∷ cs) i k ≡ lineage mac key n cs i k) → (site c ≡ i → answer mac key n cs c .after ≡ modules mac key n cs (site c))
-      → Walk mac eight key n low top cs i → Walk mac eight key n low top (c ∷ cs) i
-  apart-walk c cs i same f w = still mac eight key n low top c cs i same (by (eqb i (site c)) refl) w
+      → Walk G cs i → Walk G (c ∷ cs) i
+  apart-walk c cs i same f w = still G c cs i same (by (eqb i (site c)) refl) w
     where
       by : (b : Bool) → eqb i (site c) ≡ b → modules mac key n (c ∷ cs) i ≡ modules mac key n cs i
       by true e = sym (module-same present-form mac key n c cs (f (sym (eqb-true i (site c) e))) i)
       by false e = module-other present-form mac key n c cs i (eqb-false i (site c) e)
 
-  elsewhere : (c : Call) (cs : List Call) (i : ℕ) → (i ≡ site c → ⊥) → Walk mac eight key n low top cs i → Walk mac eight key n low top (c ∷ cs) i
-  elsewhere c cs i ne w = still mac eight key n low top c cs i (λ k. lineage-other present-form mac key n c cs i k ne) (module-other present-form mac key n c cs i ne) w
+  elsewhere : (c : Call) (cs : List Call) (i : ℕ) → (i ≡ site c → ⊥) → Walk G cs i → Walk G (c ∷ cs) i
+  elsewhere c cs i ne w = still G c cs i (λ k. lineage-other present-form mac key n c cs i k ne) (module-other present-form mac key n c cs i ne) w
 
-  pub walk : (faulty : List ℕ) (cs : List Call) → Given mac key n cs → AllSound present-form mac eight key n low top faulty cs → (i : ℕ) → 1 ≤ i → i ≤ n → member i faulty ≡ false
-      → Walk mac eight key n low top cs i
+  pub walk : (faulty : List ℕ) (cs : List Call) → Given mac key n cs → AllSound present-form G faulty cs → (i : ℕ) → 1 ≤ i → i ≤ n → member i faulty ≡ false
+      → Walk G cs i
   unfolding Rattle.agreement.specs.Demand.Given Rattle.agreement.specs.Demand.Sound Rattle.agreement.specs.Demand.lineage Rattle.agreement.specs.Demand.act
   walk faulty [] g s i lo hi h = record { up = λ k line e. absurd (let z : _≡_ {A = ℕ} 0 1 = cc in omega arith); unique = λ k o a b e f z. absurd (let z : _≡_ {A = ℕ} 0 1 = cc in omega arith) }
   walk faulty (call j (opens q v setting out) ∷ cs) g s i lo hi h = by (eqb i j) refl (walk faulty cs (g .1 .1) (λ x a b c. s x a b c .1) i lo hi h)
     where
-      by : (b : Bool) → eqb i j ≡ b → Walk mac eight key n low top cs i → Walk mac eight key n low top (call j (opens q v setting out) ∷ cs) i
+      by : (b : Bool) → eqb i j ≡ b → Walk G cs i → Walk G (call j (opens q v setting out) ∷ cs) i
       by true e w =
           let z : i ≡ j = eqb-true i j e in
-          subst (λ (y : ℕ). Walk mac eight key n low top (call y (opens q v setting out) ∷ cs) i) z
-          (open-walk faulty cs (inv present-form mac eight key n low top faulty cs (g .1 .1) (λ x a b c. s x a b c .1)) i lo hi h w q v setting out
-          (inv present-form mac eight key n low top faulty (call i (opens q v setting out) ∷ cs) ((lo, hi), g .1) (subst (λ (y : ℕ). AllSound present-form mac eight key n low top faulty (call y (opens q v setting out) ∷ cs)) (sym z) s)))
+          subst (λ (y : ℕ). Walk G (call y (opens q v setting out) ∷ cs) i) z
+          (open-walk faulty cs (inv present-form G faulty cs (g .1 .1) (λ x a b c. s x a b c .1)) i lo hi h w q v setting out
+          (inv present-form G faulty (call i (opens q v setting out) ∷ cs) ((lo, hi), g .1) (subst (λ (y : ℕ). AllSound present-form G faulty (call y (opens q v setting out) ∷ cs)) (sym z) s)))
       by false e w = elsewhere (call j (opens q v setting out)) cs i (eqb-false i j e) w
   walk faulty (call j (gives o t ws coin out) ∷ cs) g s i lo hi h = by (eqb i j) refl (walk faulty cs (g .1 .1) (λ x a b c. s x a b c .1) i lo hi h)
     where
-      by : (b : Bool) → eqb i j ≡ b → Walk mac eight key n low top cs i → Walk mac eight key n low top (call j (gives o t ws coin out) ∷ cs) i
+      by : (b : Bool) → eqb i j ≡ b → Walk G cs i → Walk G (call j (gives o t ws coin out) ∷ cs) i
       by true e w =
           let z : i ≡ j = eqb-true i j e in
-          let s' : AllSound present-form mac eight key n low top faulty (call i (gives o t ws coin out) ∷ cs) = subst (λ (y : ℕ). AllSound present-form mac eight key n low top faulty (call y (gives o t ws coin out) ∷ cs)) (sym z) s in
-          subst (λ (y : ℕ). Walk mac eight key n low top (call y (gives o t ws coin out) ∷ cs) i) z
-          (give-walk faulty cs (inv present-form mac eight key n low top faulty cs (g .1 .1) (λ x a b c. s x a b c .1)) i lo hi h w o t ws coin out (g .1 .0 .0) (g .1 .0 .1) (λ u. s' i lo hi h .0 refl u)
-          (inv present-form mac eight key n low top faulty (call i (gives o t ws coin out) ∷ cs) ((lo, hi), g .1) s'))
+          let s' : AllSound present-form G faulty (call i (gives o t ws coin out) ∷ cs) = subst (λ (y : ℕ). AllSound present-form G faulty (call y (gives o t ws coin out) ∷ cs)) (sym z) s in
+          subst (λ (y : ℕ). Walk G (call y (gives o t ws coin out) ∷ cs) i) z
+          (give-walk faulty cs (inv present-form G faulty cs (g .1 .1) (λ x a b c. s x a b c .1)) i lo hi h w o t ws coin out (g .1 .0 .0) (g .1 .0 .1) (λ u. s' i lo hi h .0 refl u)
+          (inv present-form G faulty (call i (gives o t ws coin out) ∷ cs) ((lo, hi), g .1) s'))
       by false e w = elsewhere (call j (gives o t ws coin out)) cs i (eqb-false i j e) w
   walk faulty (call j (codes ws) ∷ cs) g s i lo hi h =
       apart-walk (call j (codes ws)) cs i (λ k. refl) (λ z. not-coded (modules mac key n cs j) ws _ _ (plain-rises mac (modules mac key n cs j) ws) (λ y. s i lo hi h .0 z y))
