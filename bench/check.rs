@@ -6,10 +6,11 @@
 
 use std::hint::black_box;
 
+use second::cases::samples::{both_values, bundle, inits, none_votes, proposals, v};
+use second::cases::samples::{D, KEY, QUESTION, R};
 use second::check::{check, is_backed, judge};
 use second::group::{size_in_range, STATEMENT_WORDS};
 use second::hmac::{bytes_of, Key};
-use second::samples::{both_values, bundle, inits, none_votes, proposals, v, D, KEY, QUESTION, R};
 use second::sha256::{compress, BLOCK_BYTES};
 use second::words::{Bundle, Statement, NONE};
 

@@ -4,7 +4,7 @@
 use std::io::Write;
 use std::process::{Command, Stdio};
 
-use second::group_simulation::{votes, Counts, BEST};
+use second::hosts::group_simulation::{votes, Counts, BEST};
 
 const ROUNDS: usize = 7;
 

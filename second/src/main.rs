@@ -5,9 +5,10 @@ use std::path::{Path, PathBuf};
 use std::process::ExitCode;
 
 use second::group::LAST_ROUND;
-use second::random::{many_lists, missing};
 use second::returns::TABLE;
-use second::world::{Counts, JUMP_KINDS};
+use second::tester::counts::Counts;
+use second::tester::jumps::JUMP_KINDS;
+use second::tester::random::{many_lists, missing};
 
 const USAGE: &str = "second run FILE | valley | random [--seed S] [--runs N] | generate [DIR] \
                      | script --seed S --calls N DIR | script --against ROUNDS DIR";
@@ -19,7 +20,7 @@ const RUNS: u64 = 4_200;
 fn run_script(path: &str) -> Result<(), String> {
     let bytes = std::fs::read(path).map_err(|error| format!("{path}: {error}"))?;
     let script = String::from_utf8(bytes).map_err(|_| format!("{path}: not a script"))?;
-    print!("{}", second::script::run(&script));
+    print!("{}", second::tester::script::run(&script));
     Ok(())
 }
 
@@ -91,8 +92,8 @@ fn print_counts(counts: &Counts) {
 fn write_seeded(seed: &str, calls: &str, directory: &str) -> Result<(), String> {
     let seed = seed.parse().map_err(|_| "--seed needs a number")?;
     let calls = calls.parse().map_err(|_| "--calls needs a number")?;
-    let script = second::seeded::seeded_script(seed, calls)?;
-    second::seeded::write(script, Path::new(directory))
+    let script = second::tester::seeded::seeded_script(seed, calls)?;
+    second::tester::seeded::write(script, Path::new(directory))
 }
 
 fn write_against(rounds: &str, directory: &str) -> Result<(), String> {
@@ -105,7 +106,10 @@ fn write_against(rounds: &str, directory: &str) -> Result<(), String> {
             ))
         }
     };
-    second::seeded::write(second::against::script(rounds), Path::new(directory))
+    second::tester::seeded::write(
+        second::tester::against::script(rounds),
+        Path::new(directory),
+    )
 }
 
 fn main() -> ExitCode {
@@ -119,8 +123,8 @@ fn main() -> ExitCode {
             write_seeded(seed, calls, directory)
         }
         ["script", "--against", rounds, directory] => write_against(rounds, directory),
-        ["generate"] => second::generate::generate(&repository()),
-        ["generate", directory] => second::generate::generate(Path::new(directory)),
+        ["generate"] => second::cases::generate::generate(&repository()),
+        ["generate", directory] => second::cases::generate::generate(Path::new(directory)),
         _ => Err(USAGE.to_string()),
     };
     match result {

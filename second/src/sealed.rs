@@ -28,7 +28,7 @@ impl Module {
             key: words[..KEY_WORDS].try_into().expect("the key is in front"),
             n,
             number,
-            last: (coded != 0).then_some((question, Step(last_step))),
+            last: (coded != 0).then_some((question, Step(last_step.into()))),
         }
     }
 
@@ -41,7 +41,7 @@ impl Module {
         if let Some((question, last_step)) = self.last {
             words[10] = 1;
             words[11] = question;
-            words[12] = last_step.0;
+            words[12] = last_step.0.try_into().expect("a last step is one word");
         }
         words
     }

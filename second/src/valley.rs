@@ -128,7 +128,7 @@ impl Valley {
     }
 
     /// "a station not open prints step 0 and decision 2"
-    fn shown(&self, s: u32) -> (u32, u32) {
+    fn shown(&self, s: u32) -> (u64, u32) {
         if !self.is_open(s) {
             return (0, NONE);
         }

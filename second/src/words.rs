@@ -21,12 +21,14 @@ pub enum Flag {
 /// "Bits 29..28 value (0, 1, or 2 = none)."
 pub const NONE: u32 = 2;
 
-/// "A round and a step are counted apart": a step is compared with steps only.
+/// "A round and a step are counted apart": a step is compared with steps only. It holds 64 bits, since
+/// the step of a round is about twice the round.
 #[derive(Clone, Copy, Debug, PartialEq, Eq, PartialOrd, Ord)]
-pub struct Step(pub u32);
+pub struct Step(pub u64);
 
 /// "INIT has step 0, P of round r step 2r, V of round r step 2r + 1."
 pub fn step(kind: Kind, round: u32) -> Step {
+    let round = u64::from(round);
     match kind {
         Kind::Init => Step(0),
         Kind::P => Step(2 * round),

@@ -1,8 +1,8 @@
 //! Coins against a group: no sound site decides for thousands of rounds, and then all do.
 
-use second::against::{script, Against, COIN};
 use second::returns::{DECIDED, SENT};
-use second::script::{read_line, run, Command, Machine};
+use second::tester::against::{script, Against, COIN};
+use second::tester::script::{read_line, run, Command, Machine};
 use second::words::{Bundle, Flag, Kind, NONE};
 
 const ROUNDS: u32 = 3_000;

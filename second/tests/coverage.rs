@@ -2,12 +2,12 @@
 
 use std::collections::{BTreeMap, BTreeSet};
 
-use second::generate::script;
+use second::cases::generate::script;
 use second::group::{backing, quorum};
-use second::script::{read_line, Command, Machine, Report};
 use second::station::{JUMP_OFF, JUMP_ON, JUMP_WORD};
+use second::tester::jumps::{jump_kind, JUMP_KINDS};
+use second::tester::script::{read_line, Command, Machine, Report};
 use second::words::{Bundle, Kind, NONE};
-use second::world::{jump_kind, JUMP_KINDS};
 
 /// A call of the script: n of its module before the call, the words that it is given to judge, and
 /// what it left.

@@ -7,8 +7,8 @@ use second::check::check;
 use second::group::{backing, quorum, LAST_ROUND};
 use second::sealed::{code_coin, code_plain, make};
 use second::station::{fits, give, open, refused_station, step_and_decision, FIRST_START};
-use second::words::{Bundle, Kind, Statement, Step, NONE};
-use second::world::{least_backing, meeting_number};
+use second::tester::thresholds::{least_backing, meeting_number};
+use second::words::{step, Bundle, Kind, Statement, Step, NONE};
 
 /// The thresholds against their meaning, at every n.
 #[test]
@@ -18,6 +18,14 @@ fn thresholds_by_their_meaning() {
         assert_eq!(backing(n, 0), least_backing(n, 0));
         assert_eq!(backing(n, 1), least_backing(n, 1));
     }
+}
+
+/// The steps of any round of 32 bits are numbers of their own, in their order.
+#[test]
+fn a_step_holds_64_bits() {
+    assert_eq!(step(Kind::P, 1 << 31), Step(1 << 32));
+    assert_eq!(step(Kind::V, u32::MAX), Step((1 << 33) - 1));
+    assert!(step(Kind::V, LAST_ROUND) < step(Kind::P, u32::MAX));
 }
 
 #[test]

@@ -1,6 +1,6 @@
 //! What the bundles with several faults cover.
 
-use second::fault_cases::{combinations, NUMBERS};
+use second::cases::fault_cases::{combinations, NUMBERS};
 
 /// Two numbers in two statements: each pair of numbers in each pair of places, in both orders.
 #[test]

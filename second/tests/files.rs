@@ -2,8 +2,8 @@
 
 use std::path::Path;
 
-use second::generate::{files, script};
-use second::script::{read_line, run};
+use second::cases::generate::{files, script};
+use second::tester::script::{read_line, run};
 
 #[test]
 fn settings_print_nothing_and_calls_a_line() {

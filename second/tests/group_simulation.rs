@@ -1,7 +1,7 @@
 //! Whole votes over a radio that loses packets: what the sites do decides all questions, and without
 //! it some question is never decided by all.
 
-use second::group_simulation::{run, votes, Counts, Habits, BEST, TABLE};
+use second::hosts::group_simulation::{run, votes, Counts, Habits, BEST, TABLE};
 
 const QUESTIONS: &[u8] = b"01mmm0m1m";
 

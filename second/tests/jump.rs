@@ -3,13 +3,13 @@
 
 mod common;
 use common::*;
-use second::author::Author;
+use second::cases::jump_runs::{backing_run, other_backing_run, silence, stranded, Run};
 use second::check::check;
 use second::group::{backing, LAST_ROUND};
-use second::jump_runs::{backing_run, other_backing_run, silence, stranded, Run};
 use second::sealed::{code_plain, Module};
 use second::station::{fits, give, open, refused_station, step_and_decision, StationWords};
 use second::station::{FIRST_START, HEARD_WORD, JUMP_OFF, JUMP_ON, JUMP_WORD, SECOND_START};
+use second::tester::author::Author;
 use second::words::{Bundle, Kind, Statement, Step, NONE};
 
 type Site = (Module, StationWords);

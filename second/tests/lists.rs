@@ -4,9 +4,9 @@ mod common;
 use common::*;
 use second::check::check;
 use second::group::{backing, quorum, LAST_ROUND, STATEMENT_WORDS};
-use second::random::{many_lists, missing};
 use second::sealed::Module;
 use second::station::{StationWords, FIRST_START, SECOND_START};
+use second::tester::random::{many_lists, missing};
 use second::words::{Bundle, Statement, NONE};
 
 #[test]

@@ -1,10 +1,10 @@
 //! What the second example shows: with jump on, sites that lose packets and send nothing but their last
 //! bundles all decide; with jump off they do not.
 
-use second::lossy_host::{run, vote, TURNS};
+use second::hosts::lossy_host::{run, vote, TURNS};
 use second::station::{JUMP_OFF, JUMP_ON};
+use second::tester::jumps::jump_kind;
 use second::words::Kind;
-use second::world::jump_kind;
 
 /// The lines of the turns.
 fn given(text: &str) -> Vec<&str> {

@@ -4,11 +4,11 @@
 use std::collections::{BTreeMap, BTreeSet};
 
 use second::returns::{JUMPED, TABLE};
-use second::script::{is_call, read_line, run, Command, Machine};
-use second::seeded::seeded_script;
 use second::station::{step_and_decision, JUMP_OFF, JUMP_ON, JUMP_WORD};
+use second::tester::jumps::{jump_kind, JUMP_KINDS};
+use second::tester::script::{is_call, read_line, run, Command, Machine};
+use second::tester::seeded::seeded_script;
 use second::words::Bundle;
-use second::world::{jump_kind, JUMP_KINDS};
 
 /// The number that a printed line starts with.
 fn returned(line: &str) -> u32 {

@@ -1,7 +1,7 @@
 //! What the first example shows: a site that fell behind catches up, and nothing is decided where the
 //! host is set up wrongly.
 
-use second::small_host::run;
+use second::hosts::small_host::run;
 
 #[test]
 fn a_site_catches_up_and_a_wrong_n_decides_nothing() {

@@ -3,8 +3,8 @@
 use std::collections::{HashMap, HashSet};
 use std::sync::OnceLock;
 
+use second::cases::valley_cases::{cases, valleys, LIMIT};
 use second::valley::run;
-use second::valley_cases::{cases, valleys, LIMIT};
 
 /// The inputs with what valley prints for them.
 fn outputs() -> &'static HashMap<String, String> {
@@ -275,7 +275,7 @@ fn forty_bundles() {
 #[test]
 fn long_inputs() {
     let lines = |text: &[u8]| text.iter().filter(|byte| **byte == b'\n').count();
-    let long = |case: &second::valley_cases::Case| {
+    let long = |case: &second::cases::valley_cases::Case| {
         let input = case.input();
         case.piece == 7 && lines(&input) >= 100_000 && lines(&run(&input)) >= 100_000
     };

@@ -5,7 +5,7 @@ use second::sealed::{make, Module};
 use second::station::{give, open, Answer, StationWords, JUMP_OFF};
 use second::words::{Bundle, Flag, Statement, NONE};
 
-pub use second::samples::{init, jumping, p, station, v, D, KEY, QUESTION, R};
+pub use second::cases::samples::{init, jumping, p, station, v, D, KEY, QUESTION, R};
 
 pub fn module(n: u32, number: u32) -> Module {
     let (returned, module) = make(&KEY, n, number);

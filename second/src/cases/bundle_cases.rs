@@ -1,13 +1,15 @@
 //! Checks: bundles for each rule, valid and with each single fault.
 
-use crate::author::Author;
+use crate::cases::samples::{bundle, init, inits, none_votes, p, proposals, some, v};
+use crate::cases::samples::{D, KEY, QUESTION, R};
+use crate::cases::valid_bundles::valid_bundles;
 use crate::group::{backing, quorum, LAST_ROUND, MOST_CERTIFICATE, STATEMENT_WORDS};
 use crate::hmac::code;
-use crate::samples::{both_values, bundle, init, inits, none_votes, p, proposals, some, v};
-use crate::samples::{D, KEY, QUESTION, R};
-use crate::script::Command;
 use crate::sealed::MODULE_WORDS;
-use crate::words::{head, Bundle, Flag, Kind, Statement, NONE};
+use crate::tester::author::Author;
+use crate::tester::changes::field_faults;
+use crate::tester::script::Command;
+use crate::words::{head, Bundle, Kind, Statement, NONE};
 
 const SIZES: [u32; 5] = [2, 3, 4, 6, 31];
 /// Registers: the group's module, modules that differ, the valid bundle, its damaged copy.
@@ -18,95 +20,6 @@ const DAMAGED: usize = 1;
 struct Cases {
     author: Author,
     n: u32,
-}
-
-// ---- valid bundles ------------------------------------------------------------------------
-
-/// A valid bundle for each rule and sub-case at this n.
-fn valid_bundles(n: u32) -> Vec<(&'static str, Bundle)> {
-    let mut all = vec![
-        ("rule 1, 0", bundle(init(1, 0), &[])),
-        ("rule 1, 1", bundle(init(n, 1), &[])),
-        ("rule 2, 0", bundle(p(n, 1, 0, D), &[inits(n, 0, true)])),
-        ("rule 2, 1", bundle(p(1, 1, 1, D), &[inits(n, 1, false)])),
-    ];
-    for (round, front) in [(2, true), (LAST_ROUND, false)] {
-        all.extend(proposal_bundles(n, round, front));
-    }
-    all.extend(vote_bundles(n));
-    all
-}
-
-fn proposal_bundles(n: u32, round: u32, front: bool) -> Vec<(&'static str, Bundle)> {
-    let before = round - 1;
-    vec![
-        (
-            "rule 3",
-            bundle(
-                p(1, round, 1, D),
-                &[proposals(n, before, 1, &[D, R], front)],
-            ),
-        ),
-        (
-            "rule 4",
-            bundle(p(n, round, 0, R), &[none_votes(n, before, front)]),
-        ),
-    ]
-}
-
-/// Job 2 of 02: "In round 1 rule 5 now always has a second group". It names other stations than the
-/// first; "stations rising" holds in each group, not from one to the other.
-fn first_vote_bundles(n: u32) -> Vec<(&'static str, Bundle)> {
-    let vote = |from: u32, value: u32, flags: &[Flag], front: bool| {
-        let groups = [
-            proposals(n, 1, value, flags, front),
-            inits(n, value, !front),
-        ];
-        bundle(v(from, 1, value), &groups)
-    };
-    vec![
-        ("rule 5, round 1, 1", vote(1, 1, &[D], true)),
-        ("rule 5, round 1, 0", vote(1, 0, &[D], false)),
-        (
-            "rule 5, round 1 with an R-GET, 1",
-            vote(2, 1, &[R, D], false),
-        ),
-        ("rule 5, round 1, R-GET only, 0", vote(2, 0, &[R], true)),
-    ]
-}
-
-fn vote_bundles(n: u32) -> Vec<(&'static str, Bundle)> {
-    let group = |round, flags: &[Flag], front| proposals(n, round, 1, flags, front);
-    let mut all = first_vote_bundles(n);
-    all.push((
-        "rule 6",
-        bundle(v(1, 1, NONE), &[both_values(n, 1, &[D], true)]),
-    ));
-    for (round, front) in [(2, true), (LAST_ROUND, false)] {
-        let before = round - 1;
-        all.push((
-            "rule 5, R-GET only",
-            bundle(v(n, round, 1), &[group(round, &[R], front)]),
-        ));
-        all.push((
-            "rule 5 with a second group",
-            bundle(
-                v(1, round, 1),
-                &[group(round, &[R, D], front), group(before, &[D, R], !front)],
-            ),
-        ));
-        all.push((
-            "rule 7",
-            bundle(
-                v(2, round, NONE),
-                &[
-                    both_values(n, round, &[D, R], front),
-                    none_votes(n, before, !front),
-                ],
-            ),
-        ));
-    }
-    all
 }
 
 // ---- single faults ------------------------------------------------------------------------
@@ -122,37 +35,6 @@ fn with_words(bundle: &Bundle, i: usize, word0: u32, word1: u32, coded: bool) ->
         words[at + 2..at + STATEMENT_WORDS].copy_from_slice(&code(&KEY, word0, word1));
     }
     words
-}
-
-/// Each way to change one field of word 0, with the number where the field alone fixes it.
-pub fn field_faults(n: u32, word0: u32) -> Vec<(u32, Option<u32>)> {
-    let mut faults = Vec::new();
-    for kind in 0..4 {
-        let ill = (kind == 3).then_some(3);
-        faults.push((word0 & !(3 << 30) | kind << 30, ill));
-    }
-    for value in 0..4 {
-        let ill = (value == 3).then_some(3);
-        faults.push((word0 & !(3 << 28) | value << 28, ill));
-    }
-    faults.push((word0 ^ 1 << 27, None));
-    for bit in 24..27 {
-        faults.push((word0 ^ 1 << bit, Some(3)));
-    }
-    for station in [0, n + 1, 128, 255] {
-        faults.push((word0 & !(255 << 16) | station << 16, Some(3)));
-    }
-    for station in [1, 2, n] {
-        faults.push((word0 & !(255 << 16) | station << 16, None));
-    }
-    let round = word0 & 0xffff;
-    for round in [0, 1, 2, round.wrapping_sub(1), round + 1, LAST_ROUND] {
-        faults.push((word0 & !0xffff | round & 0xffff, None));
-    }
-    faults.retain(|(fault, _)| *fault != word0);
-    faults.sort();
-    faults.dedup_by_key(|(fault, _)| *fault);
-    faults
 }
 
 /// Whether INITs stand behind the first group, as Job 2 of 02 wants them of a vote of round 1.

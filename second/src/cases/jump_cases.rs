@@ -2,21 +2,23 @@
 //! onto from every stage, what is refused and in which order, how such a station goes on, and whole
 //! runs. They stand behind all others, so that these stay what they are.
 
-use crate::author::Author;
-use crate::call_cases::{
-    fault_sets, faulty_giving, first_proposal, giver, later_proposal, modules_around, setups,
-    vote_bundle, Calls, Setup, BACKGROUND, OUTPUT, USED,
+use crate::cases::calls::{Calls, BACKGROUND, OUTPUT, USED};
+use crate::cases::fit_cases::fit_cases_of;
+use crate::cases::jump_runs::{backing_run, other_backing_run, stranded, Run};
+use crate::cases::list_cases::jump_lists;
+use crate::cases::order_cases::{fault_sets, faulty_giving};
+use crate::cases::sample_bundles::{first_proposal, giver, later_proposal, vote_bundle};
+use crate::cases::sample_setups::{modules_around, setups};
+use crate::cases::samples::{
+    bundle, init, inits, jumping, module, none_votes, p, proposals, station, v,
 };
-use crate::fit_cases::fit_cases_of;
+use crate::cases::samples::{D, KEY, QUESTION, R};
 use crate::group::{quorum, BUNDLE_WORDS, LAST_ROUND, STATEMENT_WORDS};
-use crate::jump_runs::{backing_run, other_backing_run, stranded, Run};
-use crate::random::List;
-use crate::samples::{bundle, init, inits, jumping, module, none_votes, p, proposals, station, v};
-use crate::samples::{D, KEY, QUESTION, R};
-use crate::script::{Command, Report, LAST_STEP};
 use crate::station::{give, step_and_decision, StationWords, JUMP_OFF, JUMP_ON, JUMP_WORD};
+use crate::tester::author::Author;
+use crate::tester::script::{Command, Report, LAST_STEP};
+use crate::tester::setup::Setup;
 use crate::words::{Bundle, Flag, Kind, Statement, Step, NONE};
-use crate::world::{Jumps, JUMPS};
 
 /// Records the calls behind all others.
 pub fn jump_cases(calls: &mut Calls) {
@@ -37,7 +39,7 @@ pub fn jump_cases(calls: &mut Calls) {
         "jump: mixed settings leave a group where nothing moves it",
         stranded,
     );
-    calls.jump_lists();
+    jump_lists(calls);
 }
 
 // ---- stations to jump from, and bundles to jump onto --------------------------------------------
@@ -133,7 +135,10 @@ impl Calls {
         let behind = &report.lent.1[report.count..];
         assert!(behind.iter().all(|word| *word == BACKGROUND));
         assert!(report.station.1 == words);
-        assert_eq!(report.module.1[10..], [1, QUESTION, given.main.step().0]);
+        assert_eq!(
+            report.module.1[10..],
+            [1, QUESTION, given.main.step().0 as u32]
+        );
         report
     }
 
@@ -502,40 +507,5 @@ impl Calls {
     fn run(&mut self, name: &str, run: fn(Author) -> Run) {
         self.author.comment(name);
         self.author = run(std::mem::take(&mut self.author)).author;
-    }
-
-    /// Lists of calls at random sites with jump on, and with both settings.
-    fn jump_lists(&mut self) {
-        let sizes = [
-            (2, 60),
-            (3, 150),
-            (4, 150),
-            (5, 150),
-            (6, 150),
-            (7, 150),
-            (31, 250),
-        ];
-        for (place, jumps) in JUMPS.into_iter().enumerate() {
-            if jumps == Jumps::Off {
-                continue;
-            }
-            self.author
-                .comment(&format!("jump: random lists, {jumps:?}"));
-            for (n, turns) in sizes {
-                let list = List {
-                    n,
-                    seed: 100 * u64::from(n) + place as u64,
-                    all_faulty: false,
-                    jumps,
-                    turns,
-                    asides: 0,
-                };
-                self.random_list(list);
-                if n == 4 {
-                    let all_faulty = true;
-                    self.random_list(List { all_faulty, ..list });
-                }
-            }
-        }
     }
 }

@@ -2,7 +2,7 @@
 //! valley prints for them (docs/SCRIPT.md, "Valley").
 
 use crate::group::quorum;
-use crate::rng::Rng;
+use crate::tester::rng::Rng;
 use crate::valley::run;
 
 /// No head and no body of a case is longer.

@@ -1,9 +1,11 @@
 //! Statements and bundles coded under one key on one question, for scripts and tests.
 
-use crate::group::{backing, quorum};
+use crate::group::{backing, quorum, BUNDLE_WORDS};
 use crate::hmac::Key;
 use crate::sealed::Module;
-use crate::station::{Stage, Station, StationWords, JUMP_ON, JUMP_WORD};
+use crate::station::{Stage, Station, StationWords};
+use crate::station::{FIRST_START, JUMP_ON, JUMP_WORD, SECOND_START};
+use crate::tester::setup::Setup;
 use crate::words::{Bundle, Flag, Kind, Statement, Step, NONE};
 
 pub const KEY: Key = [
@@ -75,7 +77,7 @@ pub fn bundle(main: Statement, groups: &[Vec<Statement>]) -> Bundle {
 }
 
 /// A module of the group, with the last pair that it coded.
-pub fn module(n: u32, number: u32, last: Option<(u32, u32)>) -> Module {
+pub fn module(n: u32, number: u32, last: Option<(u32, u64)>) -> Module {
     Module {
         key: KEY,
         n,
@@ -113,4 +115,24 @@ pub fn station(
 pub fn jumping(mut words: StationWords) -> StationWords {
     words[JUMP_WORD] = JUMP_ON;
     words
+}
+
+/// The words of a kept group: its statements, and zeros behind them.
+pub fn kept_words(group: &[Statement]) -> Vec<u32> {
+    let mut words: Vec<u32> = group.iter().flat_map(Statement::words).collect();
+    words.resize(SECOND_START - FIRST_START, 0);
+    words
+}
+
+impl Setup {
+    /// A station's own statement with what it holds, given a bundle.
+    pub fn new(n: u32, station: StationWords, given: Bundle) -> Setup {
+        Setup {
+            module: module(n, station[1], None),
+            station,
+            given: given.words(),
+            coin: 1,
+            output: BUNDLE_WORDS,
+        }
+    }
 }

@@ -2,12 +2,13 @@
 //! checked, and given to a station. 3 is tested over the whole bundle, then 4, then 5, then 6, so that
 //! the least of the numbers answers, wherever its statement stands.
 
-use crate::call_cases::{setups, Calls, Setup};
-use crate::call_cases::{BASE, USED};
+use crate::cases::calls::{Calls, BASE, USED};
+use crate::cases::sample_setups::setups;
+use crate::cases::samples::{v, KEY};
 use crate::group::{quorum, STATEMENT_WORDS};
 use crate::hmac::code;
-use crate::samples::{v, KEY};
-use crate::script::Command;
+use crate::tester::script::Command;
+use crate::tester::setup::Setup;
 
 pub const NUMBERS: [u32; 4] = [3, 4, 5, 6];
 

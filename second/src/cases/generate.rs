@@ -3,15 +3,15 @@
 use std::fs;
 use std::path::Path;
 
-use crate::author::Author;
-use crate::bundle_cases::bundles;
-use crate::call_cases::calls;
-use crate::group_simulation;
+use crate::cases::bundle_cases::bundles;
+use crate::cases::call_cases::calls;
+use crate::cases::valley_cases::valleys;
 use crate::hmac::{bytes_of, hmac};
-use crate::lossy_host;
+use crate::hosts::group_simulation;
+use crate::hosts::lossy_host;
+use crate::hosts::small_host;
 use crate::sha256::sha256;
-use crate::small_host;
-use crate::valley_cases::valleys;
+use crate::tester::author::Author;
 
 /// What the group simulation is run on in the gate: all three groups, both radios, and questions of
 /// each kind.

@@ -123,7 +123,7 @@ impl Site {
     /// Gives a bundle: the number that was answered.
     fn hear(&mut self, words: &[u32], counts: &mut Counts) -> u32 {
         let mut lent = [0; BUNDLE_WORDS];
-        let coin = self.step.0 / 2 % 2;
+        let coin = (self.step.0 / 2 % 2) as u32;
         let answer = give(&mut self.own, &mut self.station, words, coin, &mut lent);
         self.free |= self.decided && answer.count > 0 || answer.number == CLOSED_NOW;
         self.decided |= answer.number == DECIDED;

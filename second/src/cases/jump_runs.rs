@@ -2,11 +2,11 @@
 //! value is decided that nobody proposed, and one in which a group of mixed settings is left where
 //! nothing moves it. They are recorded for the script of calls, and tests look at what they did.
 
-use crate::author::Author;
+use crate::cases::samples::{p, v, D, KEY, QUESTION};
 use crate::group::BUNDLE_WORDS;
-use crate::samples::{p, v, D, KEY, QUESTION};
-use crate::script::{Command, Report};
 use crate::station::{JUMP_OFF, JUMP_ON};
+use crate::tester::author::Author;
+use crate::tester::script::{Command, Report};
 use crate::words::{Bundle, Statement, NONE};
 
 /// The coin of every giving. It is tossed only where an R-GET is written.

@@ -1,7 +1,7 @@
 //! Carries commands out and, where asked, records them as a script with what it prints.
 
-use crate::script::{Command, Machine, Report, BUFFER_WORDS};
 use crate::station::{StationWords, STATION_WORDS};
+use crate::tester::script::{Command, Machine, Report, BUFFER_WORDS};
 
 /// Words put by one line of a script.
 const WORDS_A_LINE: usize = 60;

@@ -4,11 +4,12 @@
 use std::fs;
 use std::path::Path;
 
-use crate::author::Author;
-use crate::random::{one_list, List};
-use crate::rng::Rng;
-use crate::script::is_call;
-use crate::world::JUMPS;
+use crate::tester::author::Author;
+use crate::tester::jumps::JUMPS;
+use crate::tester::list::List;
+use crate::tester::random::one_list;
+use crate::tester::rng::Rng;
+use crate::tester::script::is_call;
 
 /// The sizes of the groups, in turn; 0 stands for any other.
 const SIZES: [u32; 8] = [2, 3, 4, 5, 6, 7, 31, 0];

@@ -1,11 +1,42 @@
-//! Stations that fit and stations that do not: from stations of every stage, each with one part
-//! changed.
+//! One part changed: each field of a statement's first word, and each part of a station, with the
+//! number where it is known without looking at the rest.
 
-use crate::call_cases::{first_rounds, setups, Calls, Setup};
 use crate::group::{backing, quorum, GROUP_SLOTS, LAST_ROUND, STATEMENT_WORDS};
 use crate::station::{fitting, Fitting, Stage, Station, StationWords};
 use crate::station::{FIRST_START, HEARD_WORD, HELD_START, SECOND_START};
+use crate::tester::setup::Setup;
 use crate::words::{Flag, Kind, Statement};
+
+/// Each way to change one field of word 0, with the number where the field alone fixes it.
+pub fn field_faults(n: u32, word0: u32) -> Vec<(u32, Option<u32>)> {
+    let mut faults = Vec::new();
+    for kind in 0..4 {
+        let ill = (kind == 3).then_some(3);
+        faults.push((word0 & !(3 << 30) | kind << 30, ill));
+    }
+    for value in 0..4 {
+        let ill = (value == 3).then_some(3);
+        faults.push((word0 & !(3 << 28) | value << 28, ill));
+    }
+    faults.push((word0 ^ 1 << 27, None));
+    for bit in 24..27 {
+        faults.push((word0 ^ 1 << bit, Some(3)));
+    }
+    for station in [0, n + 1, 128, 255] {
+        faults.push((word0 & !(255 << 16) | station << 16, Some(3)));
+    }
+    for station in [1, 2, n] {
+        faults.push((word0 & !(255 << 16) | station << 16, None));
+    }
+    let round = word0 & 0xffff;
+    for round in [0, 1, 2, round.wrapping_sub(1), round + 1, LAST_ROUND] {
+        faults.push((word0 & !0xffff | round & 0xffff, None));
+    }
+    faults.retain(|(fault, _)| *fault != word0);
+    faults.sort();
+    faults.dedup_by_key(|(fault, _)| *fault);
+    faults
+}
 
 /// A changed station, and the number where it is known without looking at the rest.
 pub type Changed = (StationWords, Option<u32>);
@@ -348,59 +379,4 @@ pub fn changes(setup: &Setup, number: u32, every_bit: bool) -> Vec<Changed> {
         }
     }
     changes.all
-}
-
-/// Stations of every stage at n 2, 4 and 31, changed, given a bundle that would be kept; and some
-/// more that are proposing in round 1, at n 6 too.
-pub fn fit_cases(calls: &mut Calls) {
-    for n in [2, 4, 31] {
-        let all = setups(n);
-        let chosen = all.iter().enumerate().filter(|(i, (_, _, number))| {
-            let some = match n {
-                2 => i % 5 == 0,
-                4 => i % 2 == 0,
-                _ => i % 12 == 4,
-            };
-            some && *number != 10
-        });
-        for (_, (name, setup, number)) in chosen {
-            fit_cases_of(calls, name, setup, *number, true);
-        }
-    }
-    let chosen: [(u32, &[usize]); 4] = [(2, &[0, 6]), (4, &[2, 5, 18]), (6, &[0, 10]), (31, &[2])];
-    for (n, places) in chosen {
-        let all = first_rounds(n);
-        for one in places.iter().map(|i| &all[*i]) {
-            fit_cases_of(calls, &one.name, &one.setup, 20, true);
-        }
-    }
-}
-
-/// One station with each of the changes.
-pub fn fit_cases_of(calls: &mut Calls, name: &str, setup: &Setup, number: u32, every_bit: bool) {
-    calls.base(&format!("fit, {name}"), setup);
-    for (station, expected) in changes(setup, number, every_bit) {
-        let mut changed = setup.clone();
-        changed.station = station;
-        calls.give(&changed, expected);
-    }
-    closed_cases(calls, setup);
-}
-
-/// "A station fits if, unless closed, ...": a closed one fits whatever else it holds, but its n
-/// and number are compared.
-fn closed_cases(calls: &mut Calls, setup: &Setup) {
-    let mut closed = setup.clone();
-    closed.station[6] = 1;
-    calls.give(&closed, Some(11));
-    closed.station[HEARD_WORD] = u32::MAX;
-    closed.station[7] = 9;
-    calls.give(&closed, Some(11));
-    closed.station[1] = 1;
-    calls.give(&closed, Some(2));
-    closed.station[1] = 2;
-    closed.station[0] += 1;
-    calls.give(&closed, Some(2));
-    closed.station = crate::station::refused_station();
-    calls.give(&closed, Some(2));
 }

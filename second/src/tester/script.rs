@@ -13,7 +13,7 @@ pub const BUFFERS: usize = 128;
 pub const BUFFER_WORDS: usize = 400;
 pub const MOST_TOKENS: usize = 80;
 /// The step of V of the last round.
-pub const LAST_STEP: u32 = 2 * LAST_ROUND + 1;
+pub const LAST_STEP: u64 = 2 * LAST_ROUND as u64 + 1;
 
 /// A buffer register: all its words, and the length that is lent or given.
 #[derive(Clone)]
@@ -261,7 +261,7 @@ impl Default for Machine {
 fn is_module(words: &[u32; MODULE_WORDS]) -> bool {
     match words[10..] {
         [0, question, step] => question == 0 && step == 0,
-        [1, _, step] => step <= LAST_STEP,
+        [1, _, step] => u64::from(step) <= LAST_STEP,
         _ => false,
     }
 }

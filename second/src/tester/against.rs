@@ -8,10 +8,10 @@
 //! vote: all propose 0, and in the round behind it, where all are alike, all decide 0, the value that
 //! no coin ever had.
 
-use crate::author::Author;
 use crate::group::BUNDLE_WORDS;
-use crate::script::Command;
 use crate::station::JUMP_OFF;
+use crate::tester::author::Author;
+use crate::tester::script::Command;
 
 const SITES: usize = 3;
 const KEY: [u32; 8] = [0x0c01_0c01; 8];

@@ -2,37 +2,15 @@
 //! damage words.
 
 use crate::group::{backing, quorum, LAST_ROUND, STATEMENT_WORDS};
-use crate::rng::Rng;
-use crate::script::Command;
 use crate::station::{set_of, StationWords, FIRST_START, HEARD_WORD, HELD_START, SECOND_START};
 use crate::station::{JUMP_WORD, STATION_WORDS};
+use crate::tester::jumps::Jumps;
+use crate::tester::loose::Loose;
+use crate::tester::registers::DAMAGED;
+use crate::tester::rng::Rng;
+use crate::tester::script::Command;
+use crate::tester::world::World;
 use crate::words::{head, Flag, Kind, Statement, NONE};
-use crate::world::{Jumps, World, DAMAGED};
-
-/// What a faulty site tries to be let through with: certificates that are nearly as the rules want
-/// them. A check that is not strict in one of these is found out by what follows.
-#[derive(Clone, Copy, Debug, PartialEq, Eq)]
-pub enum Loose {
-    No,
-    AnyValue,
-    AnyFlag,
-    AnyRound,
-    AnyQuestion,
-    OneFewer,
-    Twice,
-    OneGroup,
-}
-
-pub const LOOSE: [Loose; 8] = [
-    Loose::No,
-    Loose::AnyValue,
-    Loose::AnyFlag,
-    Loose::AnyRound,
-    Loose::AnyQuestion,
-    Loose::OneFewer,
-    Loose::Twice,
-    Loose::OneGroup,
-];
 
 /// A statement that is wanted in a certificate.
 struct Wanted {
@@ -401,9 +379,14 @@ fn put_slot(slots: &mut [u32], slot: usize, statement: &Statement) {
     slots[start..start + STATEMENT_WORDS].copy_from_slice(&statement.words());
 }
 
+/// The round of a step, 0 of the first one.
+pub fn round_of(step: u64) -> u32 {
+    (step / 2).try_into().expect("a round is one word")
+}
+
 /// A statement of a step for coding, nearly always of that station, and mostly with the value that
 /// the faulty sites push.
-pub fn random_statement(rng: &mut Rng, n: u32, who: (u32, u32), step: u32, push: u32) -> Statement {
+pub fn random_statement(rng: &mut Rng, n: u32, who: (u32, u32), step: u64, push: u32) -> Statement {
     let (site, question) = who;
     let station = match rng.percent(95) {
         true => site,
@@ -418,11 +401,11 @@ pub fn random_statement(rng: &mut Rng, n: u32, who: (u32, u32), step: u32, push:
         (0 | 1, _) => Statement::uncoded(Kind::Init, 0, value, Flag::DGet, who),
         (_, 0) => {
             let flag = rng.pick(&[Flag::DGet, Flag::RGet]);
-            Statement::uncoded(Kind::P, step / 2, value, flag, who)
+            Statement::uncoded(Kind::P, round_of(step), value, flag, who)
         }
         _ => {
             let vote = rng.pick(&[value, NONE]);
-            Statement::uncoded(Kind::V, step / 2, vote, Flag::DGet, who)
+            Statement::uncoded(Kind::V, round_of(step), vote, Flag::DGet, who)
         }
     }
 }

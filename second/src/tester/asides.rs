@@ -4,19 +4,20 @@
 
 use std::cmp::Reverse;
 
-use crate::adversary::{random_statement, Loose, LOOSE};
-use crate::bundle_cases::field_faults;
-use crate::call_cases::Setup;
-use crate::fit_cases::changes;
 use crate::group::{quorum, BUNDLE_WORDS, LAST_ROUND, MOST_CERTIFICATE, STATEMENT_WORDS};
 use crate::hmac::code;
 use crate::returns::is_refusal;
-use crate::script::{Command, LAST_STEP, MODULES};
 use crate::sealed::Module;
 use crate::station::{fits, refused_station, step_and_decision, StationWords, JUMP_ON};
 use crate::station::{JUMP_WORD, STATION_WORDS};
+use crate::tester::adversary::random_statement;
+use crate::tester::changes::{changes, field_faults};
+use crate::tester::loose::{Loose, LOOSE};
+use crate::tester::registers::{Message, AIR_BUFFERS, ASIDE, SPARE_OUTPUT};
+use crate::tester::script::{Command, LAST_STEP, MODULES};
+use crate::tester::setup::Setup;
+use crate::tester::world::World;
 use crate::words::{Bundle, Flag, Statement, Step, NONE};
-use crate::world::{Message, World, AIR_BUFFERS, ASIDE, SPARE_OUTPUT};
 
 /// The registers of these calls, which the list's own calls leave alone: codes made by hand must not
 /// come into the list.
@@ -105,7 +106,7 @@ impl World {
     /// A statement of any kind and round, mostly of that station.
     fn any_statement(&mut self, station: u32) -> Statement {
         let round = self.rng.pick(&ROUNDS);
-        let propose = 2 * round;
+        let propose = 2 * u64::from(round);
         let vote = propose + 1;
         let step = self.rng.pick(&[0, propose, propose, vote, vote, vote]);
         let who = (station, self.any_question());
