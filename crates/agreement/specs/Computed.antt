@@ -27,7 +27,7 @@ use Rattle.modules.specs.Present.{making}
 use Rattle.station.specs.declared.Stage.{Stage}
 use Rattle.station.specs.declared.Stage.the-variants.{Gathering, Proposing, Voting}
 use Rattle.station.specs.declared.Station.{Station}
-use Rattle.station.specs.Machine.{kind-in, round-in, proposing, voting, insert, number-of, first-value, those, vote-value, decided, carried, follows, ended, taken, conflict, leading, kept-for-value, kept-for-none}
+use Rattle.station.specs.Machine.{kind-in, round-in, proposing, voting, insert, number-of, first-value, those, vote-value, decided, carried, follows, ended, taken, conflict, leading, kept-for-value, kept-for-none, with-setting}
 use Rattle.station.specs.Words.{set-of}
 use Rattle.station.specs.Fit.{zeros}
 use Rattle.station.specs.Calls.{Returned}
@@ -48,8 +48,8 @@ stage-at k r f = pick (eqb k 0) Gathering (pick (eqb k 1) (proposing r f) (votin
 
 abbrev front : Station → List ℕ
 front t =
-    t .identity .n ∷ t .identity .station ∷ t .identity .question ∷ t .decision ∷ t .held .heard ∷ one-if (t .closed)
-    ∷ kind-in (t .stage) ∷ round-in (t .stage) ∷ flag-in (t .stage) ∷ one-if (t .jump) ∷ []
+    t .identity .n ∷ t .identity .station ∷ t .identity .question ∷ t .lasting .decision ∷ t .held .heard ∷ one-if (t .closed)
+    ∷ kind-in (t .stage) ∷ round-in (t .stage) ∷ flag-in (t .stage) ∷ one-if (t .lasting .jump) ∷ []
 
 -- the station of such lists
 abbrev made-of : List ℕ → List ℕ → List ℕ → List ℕ → Station
@@ -58,8 +58,7 @@ made-of f slots first second =
       identity = record { n = getD f 0 0; station = getD f 1 0; question = getD f 2 0 };
       stage = stage-at (getD f 6 0) (getD f 7 0) (getD f 8 0);
       closed = eqb (getD f 5 0) 1;
-      jump = eqb (getD f 9 0) 1;
-      decision = getD f 3 0;
+      lasting = record { jump = eqb (getD f 9 0) 1; decision = getD f 3 0 };
       held = record { heard = getD f 4 0; slots = slots };
       groups = record { value = first; none = second };
     }
@@ -76,7 +75,7 @@ truth-again false = refl
 
 made-again : (t : Station) → made-of (front t) (t .held .slots) (t .groups .value) (t .groups .none) ≡ t
 made-again t =
-    λ i. record { identity = t .identity; stage = stage-again (t .stage) i; closed = truth-again (t .closed) i; jump = truth-again (t .jump) i; decision = t .decision; held = t .held; groups = t .groups }
+    λ i. record { identity = t .identity; stage = stage-again (t .stage) i; closed = truth-again (t .closed) i; lasting = with-setting (truth-again (t .lasting .jump) i) (t .lasting); held = t .held; groups = t .groups }
 
 abbrev pub same-station : Station → Station → Bool
 same-station a b =

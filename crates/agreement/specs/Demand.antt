@@ -236,17 +236,17 @@ module _ (form : Form) where
       -- "no sound site has decided a value that too few sites proposed"; "The backing holds only for questions on which every sound site has jump off"
       pub backed : (i k question v : ℕ) → Sound i cs → AllOff cs question → Decides cs i k question v → backing n v ≤ count (proposed (log cs) question v) n
       -- "From then on that station names v as its decision, before that none"
-      pub names : (i k v : ℕ) (line : Lineage) → Sound i cs → lineage cs i k ≡ found line → v < none → line .present .decision ≡ v
+      pub names : (i k v : ℕ) (line : Lineage) → Sound i cs → lineage cs i k ≡ found line → v < none → line .present .lasting .decision ≡ v
           → Decides cs i k (line .present .identity .question) v
-      pub named : (i k question v : ℕ) (line : Lineage) → Sound i cs → lineage cs i k ≡ found line → Decides cs i k question v → line .present .decision ≡ v
+      pub named : (i k question v : ℕ) (line : Lineage) → Sound i cs → lineage cs i k ≡ found line → Decides cs i k question v → line .present .lasting .decision ≡ v
       pub unnamed : (i k : ℕ) (line : Lineage) → Sound i cs → lineage cs i k ≡ found line
-          → ((v : ℕ) → Decides cs i k (line .present .identity .question) v → ⊥) → line .present .decision ≡ none
+          → ((v : ℕ) → Decides cs i k (line .present .identity .question) v → ⊥) → line .present .lasting .decision ≡ none
       -- "demand 3 holds of the named decision too"
       pub named-agreement : (i j k l : ℕ) (a b : Lineage) → Sound i cs → Sound j cs → lineage cs i k ≡ found a → lineage cs j l ≡ found b
-          → a .present .identity .question ≡ b .present .identity .question → a .present .decision < none → b .present .decision < none
-          → a .present .decision ≡ b .present .decision
-      pub named-backed : (i k : ℕ) (a : Lineage) → Sound i cs → lineage cs i k ≡ found a → AllOff cs (a .present .identity .question) → a .present .decision < none
-          → backing n (a .present .decision) ≤ count (proposed (log cs) (a .present .identity .question) (a .present .decision)) n
+          → a .present .identity .question ≡ b .present .identity .question → a .present .lasting .decision < none → b .present .lasting .decision < none
+          → a .present .lasting .decision ≡ b .present .lasting .decision
+      pub named-backed : (i k : ℕ) (a : Lineage) → Sound i cs → lineage cs i k ≡ found a → AllOff cs (a .present .identity .question) → a .present .lasting .decision < none
+          → backing n (a .present .lasting .decision) ≤ count (proposed (log cs) (a .present .identity .question) (a .present .lasting .decision)) n
       -- "Under demand 3's premises 10 never occurs at a sound site's station"
       pub no-conflict : (i k : ℕ) (t : Station) (ws : List ℕ) (coin : ℕ) (out : List ℕ) → Sound i cs → Presents cs i k t → CodesCame (log cs) ws
           → answer cs (call i (gives k t ws coin out)) .number ≡ conflicting → ⊥

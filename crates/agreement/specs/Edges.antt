@@ -15,6 +15,7 @@ use Rattle.format.specs.Numbers.{kind-INIT, kind-P, kind-V, none, D-GET, least-
 use Rattle.format.specs.Group.{most-faulty, backing}
 use Rattle.format.specs.Statement.{Statement}
 use Rattle.format.specs.Present.{most-stations, statement, main-of, bundle-of}
+use Rattle.station.specs.Machine.{undecided}
 use Rattle.station.specs.declared.Stage.the-variants.{Gathering}
 use Rattle.station.specs.declared.Station.{Station}
 use Rattle.station.specs.Present.{empty-station}
@@ -43,7 +44,7 @@ coded cs = statement (Toy.lent 5 cs) 0
 
 -- a closed station of site 1 that no call returned
 abbrev closed-station : Station
-closed-station = empty-station (record { n = 5; station = 1; question = 0 }) Gathering true false none
+closed-station = empty-station (record { n = 5; station = 1; question = 0 }) Gathering true (undecided false)
 
 -- ---- the list, call by call, each with the number that it answers
 -- 20: site 1 opens with 0; 0: site 4 has its module code an INIT with 0; 20: site 5 opens with 1 and jump on
@@ -132,7 +133,7 @@ facts cs =
       proposed-1 = count (proposed (log toy [] 5 cs) 0 1) 5;
       asked = present toy [] 5 cs 1 0 .identity .question;
       there = there (lineage toy [] 5 cs 2 0);
-      undecided = present toy [] 5 cs 2 0 .decision;
+      undecided = present toy [] 5 cs 2 0 .lasting .decision;
     }
 
 computed : facts edges ≡ record {
@@ -196,20 +197,20 @@ there-2 : lineage toy [] 5 edges 2 0 ≡ found (line toy [] 5 edges 2 0)
 there-2 = there-out (lineage toy [] 5 edges 2 0) (ap (λ (f : Facts). f .there) computed)
 
 -- ---- what the claim says of a station that has decided, and of one that has not
-named : present toy [] 5 edges 1 0 .decision ≡ 0
+named : present toy [] 5 edges 1 0 .lasting .decision ≡ 0
 named = claimed .named 1 0 0 0 (line toy [] 5 edges 1 0) sound-1 there-1 decision
 
-named-backed : backing 5 (present toy [] 5 edges 1 0 .decision)
-    ≤ count (proposed (log toy [] 5 edges) (present toy [] 5 edges 1 0 .identity .question) (present toy [] 5 edges 1 0 .decision)) 5
+named-backed : backing 5 (present toy [] 5 edges 1 0 .lasting .decision)
+    ≤ count (proposed (log toy [] 5 edges) (present toy [] 5 edges 1 0 .identity .question) (present toy [] 5 edges 1 0 .lasting .decision)) 5
 named-backed =
     claimed .named-backed 1 0 (line toy [] 5 edges 1 0) sound-1 there-1
     (subst (λ (q : ℕ). AllOff toy [] 5 edges q) (sym (ap (λ (f : Facts). f .asked) computed)) all-off) (omega (arith, named))
 
-unnamed : present toy [] 5 edges 2 0 .decision ≡ none
+unnamed : present toy [] 5 edges 2 0 .lasting .decision ≡ none
 unnamed =
     claimed .unnamed 2 0 (line toy [] 5 edges 2 0) sound-2 there-2
     (λ v d. absurd (let same = claimed .named 2 0 _ v (line toy [] 5 edges 2 0) sound-2 there-2 d in
-    let still : present toy [] 5 edges 2 0 .decision ≡ 2 = ap (λ (f : Facts). f .undecided) computed in
+    let still : present toy [] 5 edges 2 0 .lasting .decision ≡ 2 = ap (λ (f : Facts). f .undecided) computed in
     omega (arith, same, still, d .bit)))
 
 -- ---- all of it: a list within the premises, for which the claim therefore holds
@@ -232,11 +233,11 @@ pub record EdgesMet (cs : List Call) : Type 1 where
   pub too-few : count (proposed (log toy [] 5 cs) 0 1) 5 < backing 5 1
   pub claimed : Claim toy [] 5 cs
   -- site 1's station names what it decided, which is backed and decided; site 2's, on another question and with jump on, names none
-  pub named : present toy [] 5 cs 1 0 .decision ≡ 0
+  pub named : present toy [] 5 cs 1 0 .lasting .decision ≡ 0
   pub named-decided : Decides toy [] 5 cs 1 0 (present toy [] 5 cs 1 0 .identity .question) 0
-  pub named-backed : backing 5 (present toy [] 5 cs 1 0 .decision)
-      ≤ count (proposed (log toy [] 5 cs) (present toy [] 5 cs 1 0 .identity .question) (present toy [] 5 cs 1 0 .decision)) 5
-  pub unnamed : present toy [] 5 cs 2 0 .decision ≡ none
+  pub named-backed : backing 5 (present toy [] 5 cs 1 0 .lasting .decision)
+      ≤ count (proposed (log toy [] 5 cs) (present toy [] 5 cs 1 0 .identity .question) (present toy [] 5 cs 1 0 .lasting .decision)) 5
+  pub unnamed : present toy [] 5 cs 2 0 .lasting .decision ≡ none
 
 pub edges-met : EdgesMet edges
 unfolding backing Rattle.laws.specs.Pick.pick

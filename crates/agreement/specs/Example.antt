@@ -13,6 +13,7 @@ use Rattle.format.specs.Group.{backing}
 use Rattle.format.specs.Present.{statement-words, words-at, main-of}
 use Rattle.rules.specs.declared.Which.the-variants.{Any}
 use Rattle.certificate.specs.Present.{check-by}
+use Rattle.station.specs.Machine.{undecided}
 use Rattle.station.specs.declared.Stage.the-variants.{Gathering}
 use Rattle.station.specs.declared.Station.{Station}
 use Rattle.station.specs.Present.{kept-words}
@@ -47,8 +48,7 @@ forged =
       identity = record { n = 3; station = 3; question = 2 };
       stage = Gathering;
       closed = false;
-      jump = false;
-      decision = none;
+      lasting = undecided false;
       held = record { heard = 4; slots = replicate 20 0 ++ ((2 ^ 28 + 3 * 2 ^ 16) ∷ 2 ∷ replicate 288 0) };
       groups = record { value = replicate kept-words 0; none = replicate kept-words 0 };
     }

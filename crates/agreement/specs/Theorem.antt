@@ -133,7 +133,7 @@ module _ (form : Form) where
         give-step form G faulty j o t ws coin out cs (g .0 .0) (g .0 .1) (inv faulty cs (g .1 .1) (λ i a b h. s i a b h .1)) (g .1 .0 .0) (g .1 .0 .1)
         (λ h u. s j (g .0 .0) (g .0 .1) h .0 refl u)
         (λ h u on off. let p = s j (g .0 .0) (g .0 .1) h .0 refl u in
-        setting-known form mac key n cs (g .1 .1) j o (p .line) (s j (g .0 .0) (g .0 .1) h .1) (p .is) (ap (λ (x : Station). x .jump) (p .now) ∙ on)
+        setting-known form mac key n cs (g .1 .1) j o (p .line) (s j (g .0 .0) (g .0 .1) h .1) (p .is) (ap (λ (x : Station). x .lasting .jump) (p .now) ∙ on)
         (subst (λ (x : Station). JumpOff form mac key n j (x .identity .question) cs) (sym (p .now)) off))
     inv faulty (call j (codes ws) ∷ cs) g s =
         apart-step form G faulty j (codes ws) cs refl (plain-effect form G (modules form mac key n cs j) j ws) (g .0 .0) (g .0 .1) (inv faulty cs (g .1 .1) (λ i a b h. s i a b h .1))
@@ -292,16 +292,16 @@ module _ (form : Form) where
           let f = P.find-some (λ s. s .question ≡ t .identity .question) (is-vote q r v (m .at)) took a (m .in-first) in
           sym (vote-out q r v (m .at) (f .one) (f .passes) .question) ∙ f .has
 
-      name-it : Given form mac key n cs → (i k q v : ℕ) (line : Lineage) → member i faulty ≡ false → lineage form mac key n cs i k ≡ found line → Decides form mac key n cs i k q v → line .present .decision ≡ v
+      name-it : Given form mac key n cs → (i k q v : ℕ) (line : Lineage) → member i faulty ≡ false → lineage form mac key n cs i k ≡ found line → Decides form mac key n cs i k q v → line .present .lasting .decision ≡ v
       name-it g i k q v line h e d =
           let L = known i k line g h e in
           let same : d .line ≡ line = cc (d .is) in
           let enough : quorum n ≤ count (votes (line .took) q (d .round) v) n = subst (λ (x : Lineage). quorum n ≤ count (votes (x .took) q (d .round) v) n) same (d .enough) in
           let at-q : q ≡ line .present .identity .question = on-question (line .present) (line .took) q (d .round) v (line-asked form n l i (line .present) (line .took) L) enough in
-          let named : line .present .decision < none
+          let named : line .present .lasting .decision < none
           = line-names form n l i (line .present) (line .took) L v (d .round) (d .bit) (subst (λ (x : ℕ). quorum n ≤ count (votes (line .took) x (d .round) v) n) at-q enough) in
-          let other = enough-decides i k (line .present .decision) line e named (line-named form n l i (line .present) (line .took) L (line .present .decision) named refl) in
-          sym (agree g i i k k (line .present .identity .question) v (line .present .decision) h h (subst (λ (x : ℕ). Decides form mac key n cs i k x v) at-q d) other)
+          let other = enough-decides i k (line .present .lasting .decision) line e named (line-named form n l i (line .present) (line .took) L (line .present .lasting .decision) named refl) in
+          sym (agree g i i k k (line .present .identity .question) v (line .present .lasting .decision) h h (subst (λ (x : ℕ). Decides form mac key n cs i k x v) at-q d) other)
 
       -- ---- 10 at a sound site's own station
       module _ (g : Given form mac key n cs) (i k : ℕ) (t : Station) (ws : List ℕ) (coin : ℕ) (out : List ℕ) (h : member i faulty ≡ false) (p : Presents form mac key n cs i k t)
@@ -429,7 +429,7 @@ module _ (form : Form) where
           → Line form n (reads form (log form mac key n cs)) i (line .present) (line .took)
       here i k line si e = known (rest i i) (rest-few i i) cs (at i i si si) i k line g (rest-i i i) e
 
-      decides-named : (i k v : ℕ) (line : Lineage) → Sound form mac key n i cs → lineage form mac key n cs i k ≡ found line → v < none → line .present .decision ≡ v
+      decides-named : (i k v : ℕ) (line : Lineage) → Sound form mac key n i cs → lineage form mac key n cs i k ≡ found line → v < none → line .present .lasting .decision ≡ v
           → Decides form mac key n cs i k (line .present .identity .question) v
       decides-named i k v line si e b d = enough-decides (rest i i) (rest-few i i) cs (at i i si si) i k v line e b (line-named form n (reads form (log form mac key n cs)) i (line .present) (line .took) (here i k line si e) v b d)
 
@@ -440,21 +440,21 @@ module _ (form : Form) where
             backed = enough-proposed;
             names = decides-named;
             named = λ i k q v line si e d. name-it (rest i i) (rest-few i i) cs (at i i si si) g i k q v line (rest-i i i) e d;
-            unnamed = λ i k line si e never-decides. not-named i k line si e never-decides (ltb (line .present .decision) none) refl;
+            unnamed = λ i k line si e never-decides. not-named i k line si e never-decides (ltb (line .present .lasting .decision) none) refl;
             named-agreement = λ i j k o a b si sj e f same x y.
-                agreed i j k o (a .present .identity .question) (a .present .decision) (b .present .decision) si sj
-                (decides-named i k (a .present .decision) a si e x refl)
-                (subst (λ (q : ℕ). Decides form mac key n cs j o q (b .present .decision)) (sym same) (decides-named j o (b .present .decision) b sj f y refl));
+                agreed i j k o (a .present .identity .question) (a .present .lasting .decision) (b .present .lasting .decision) si sj
+                (decides-named i k (a .present .lasting .decision) a si e x refl)
+                (subst (λ (q : ℕ). Decides form mac key n cs j o q (b .present .lasting .decision)) (sym same) (decides-named j o (b .present .lasting .decision) b sj f y refl));
             named-backed = λ i k a si e off x.
-                enough-proposed i k (a .present .identity .question) (a .present .decision) si off (decides-named i k (a .present .decision) a si e x refl);
+                enough-proposed i k (a .present .identity .question) (a .present .lasting .decision) si off (decides-named i k (a .present .lasting .decision) a si e x refl);
             no-conflict = λ i k t ws coin out si p c e. never-10 (rest i i) (rest-few i i) cs (at i i si si) g i k t ws coin out (rest-i i i) p c e;
           }
         where
           not-named : (i k : ℕ) (line : Lineage) → Sound form mac key n i cs → lineage form mac key n cs i k ≡ found line
-              → ((v : ℕ) → Decides form mac key n cs i k (line .present .identity .question) v → ⊥) → (b : Bool) → ltb (line .present .decision) none ≡ b
-              → line .present .decision ≡ none
-          not-named i k line si e no-v true x = absurd (no-v (line .present .decision) (decides-named i k (line .present .decision) line si e (ltb-true _ _ x) refl))
-          not-named i k line si e no-v false x = omega (arith, ltb-false (line .present .decision) none x, line-low form n (reads form (log form mac key n cs)) i (line .present) (line .took) (here i k line si e))
+              → ((v : ℕ) → Decides form mac key n cs i k (line .present .identity .question) v → ⊥) → (b : Bool) → ltb (line .present .lasting .decision) none ≡ b
+              → line .present .lasting .decision ≡ none
+          not-named i k line si e no-v true x = absurd (no-v (line .present .lasting .decision) (decides-named i k (line .present .lasting .decision) line si e (ltb-true _ _ x) refl))
+          not-named i k line si e no-v false x = omega (arith, ltb-false (line .present .lasting .decision) none x, line-low form n (reads form (log form mac key n cs)) i (line .present) (line .took) (here i k line si e))
 
   -- ---- the theorem, for every code of eight words
   pub demand-3-by : (mac : List ℕ → List ℕ → List ℕ) → ((key ws : List ℕ) → length (mac key ws) ≡ code-words) → Demand-3 form mac

@@ -120,9 +120,9 @@ pub record Unbacked (cs : List Call) (answers : List ℕ) : Type 1 where
   pub not-off : AllOff toy [] 3 cs 1 → ⊥
   -- what the claim says of these two sites all the same
   pub agreed : (v w : ℕ) → Decides toy [] 3 cs 1 0 1 v → Decides toy [] 3 cs 2 0 1 w → v ≡ w
-  pub named-1 : present toy [] 3 cs 1 0 .decision ≡ 0
-  pub named-2 : present toy [] 3 cs 2 0 .decision ≡ 0
-  pub named-alike : present toy [] 3 cs 1 0 .decision ≡ present toy [] 3 cs 2 0 .decision
+  pub named-1 : present toy [] 3 cs 1 0 .lasting .decision ≡ 0
+  pub named-2 : present toy [] 3 cs 2 0 .lasting .decision ≡ 0
+  pub named-alike : present toy [] 3 cs 1 0 .lasting .decision ≡ present toy [] 3 cs 2 0 .lasting .decision
   pub no-conflict : (ws : List ℕ) (coin : ℕ) (lent : List ℕ) → CodesCame toy [] 3 (log toy [] 3 cs) ws
       → answer toy [] 3 cs (call 2 (gives 0 (present toy [] 3 cs 2 0) ws coin lent)) .number ≡ conflicting → ⊥
 
@@ -158,10 +158,10 @@ module _ (cs : List Call) (answers : List ℕ) (r : ℕ) (computed : facts cs r 
   there-2 : lineage toy [] 3 cs 2 0 ≡ found (line toy [] 3 cs 2 0)
   there-2 = decides-there toy [] 3 cs 2 0 1 0 decided-2
 
-  named-1 : present toy [] 3 cs 1 0 .decision ≡ 0
+  named-1 : present toy [] 3 cs 1 0 .lasting .decision ≡ 0
   named-1 = claimed .named 1 0 1 0 (line toy [] 3 cs 1 0) sound-1 there-1 decided-1
 
-  named-2 : present toy [] 3 cs 2 0 .decision ≡ 0
+  named-2 : present toy [] 3 cs 2 0 .lasting .decision ≡ 0
   named-2 = claimed .named 2 0 1 0 (line toy [] 3 cs 2 0) sound-2 there-2 decided-2
 
   pub unbacked : Unbacked cs answers

@@ -4,13 +4,14 @@ use format::LAST_ROUND;
 use format::NONE;
 use format::Round;
 use rules::Which;
+use station::Lasting;
 use station::SLOTS_WORDS;
 use station::Stage;
 ghost use mathlib.Core.Path.{_≡_};
 ghost use Rattle.laws.specs.Pick.{pick};
 ghost use Rattle.format.specs.Numbers.{none};
 ghost use Rattle.format.specs.Present.{last-round};
-ghost use Rattle.station.specs.Machine.{first-value as FirstValue, vote-value as VoteValue, carried as Carried, decision-after, decision-at, closes as Closes};
+ghost use Rattle.station.specs.Machine.{first-value as FirstValue, vote-value as VoteValue, carried as Carried, decision-after, decision-at, lasting-at, closes as Closes};
 ghost use Rattle.station.specs.Present.{held-in, sites};
 ghost use Rattle.ending.specs.After.{round-after, second-group, inits-next, proposals-next, votes-next, next-by};
 
@@ -86,7 +87,7 @@ fn first_decision(old: u32, new: u32) -> u32
 }
 
 // The decision behind the end of a step: only votes decide, and only where all are for one value.
-pub fn decision_after(stage: Stage, old: u32, set: u32, slots: &[u32; SLOTS_WORDS]) -> u32
+fn decision_after(stage: Stage, old: u32, set: u32, slots: &[u32; SLOTS_WORDS]) -> u32
     ensures { λ r. ⌜ r ≡ decision-at stage old (held-in set (now (slots .entry)) 0 sites) ⌝ }
 {
     let agreed = vote_value(slots, set);
@@ -95,6 +96,14 @@ pub fn decision_after(stage: Stage, old: u32, set: u32, slots: &[u32; SLOTS_WORD
         Stage::Proposing(_, _) => old,
         Stage::Voting(_) => first_decision(old, agreed),
     }
+}
+
+// What outlasts a step, behind its end.
+pub fn lasting_after(stage: Stage, l: Lasting, set: u32, slots: &[u32; SLOTS_WORDS]) -> Lasting
+    ensures { λ r. ⌜ r ≡ lasting-at stage l (held-in set (now (slots .entry)) 0 sites) ⌝ }
+{
+    let d = decision_after(stage, l.decision, set, slots);
+    held::with_decision(l, d)
 }
 
 // Whether the end of the stage closes the station.

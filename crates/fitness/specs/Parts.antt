@@ -32,13 +32,13 @@ module _ (n number : ℕ) (t : Station) where
       → a ≡ held-words-fit n (number - 1) (t .identity .question) step (t .held .heard) (t .held .slots)
       → b ≡ stage-fits (t .stage) (getD (t .held .slots) ((number - 1) * statement-words) 0)
       → c ≡ (size-fits n && groups-fit n (t .identity .question) (t .stage) (t .held .heard) (t .held .slots) (t .groups))
-      → (a && (b && leb (t .decision) none && c)) ≡ words-fit n number t
+      → (a && (b && leb (t .lasting .decision) none && c)) ≡ words-fit n number t
   unfolding words-fit held-words-fit groups-fit
   words-are a b c step w e p q r =
       let g = group-fits n (t .identity .question) (kept-for-value n (t .stage) (held-by t)) (t .groups .value) in
       let h = group-fits n (t .identity .question) (kept-for-none n (t .stage) (held-by t)) (t .groups .none) in
       rw (p, q, r, e, w)
-      (λ i. held-fits n number t && and-assoc (stage-fits (t .stage) (getD (t .held .slots) ((number - 1) * statement-words) 0)) (leb (t .decision) none) g h i)
+      (λ i. held-fits n number t && and-assoc (stage-fits (t .stage) (getD (t .held .slots) ((number - 1) * statement-words) 0)) (leb (t .lasting .decision) none) g h i)
 
   pub whole : (a : Bool) → a ≡ words-fit n number t
       → (eqb (t .identity .n) n && eqb (t .identity .station) number && (t .closed || a)) ≡ fits n number t

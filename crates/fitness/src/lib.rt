@@ -50,13 +50,14 @@ fn words_fit(t: Station, n: u32, number: u32) -> bool
     let groups = t.groups;
     let id = t.identity;
     let question = id.question;
+    let lasting = t.lasting;
     let step = step_in(stage);
     let own = number - 1;
     let at = own as usize * STATEMENT_WORDS;
     let a = held_fitness::held_fits(&slots, heard, n, own, question, step);
     let b = stage_fits(stage, slots[at]);
     let c = kept_fitness::groups_fit(groups, &slots, heard, stage, n, question);
-    a & (b & (t.decision <= NONE) & c)
+    a & (b & (lasting.decision <= NONE) & c)
 }
 
 // Whether a station fits a module: the module is in range, the station has its n and number, and is closed or all of its words fit.

@@ -9,22 +9,23 @@ use Rattle.format.specs.Numbers.{kept, closed-now}
 use Rattle.format.specs.Group.{quorum}
 use Rattle.format.specs.Present.{last-round}
 use Rattle.modules.specs.declared.Module.{Module}
+use Rattle.station.specs.declared.Lasting.{Lasting}
 use Rattle.station.specs.declared.Station.{Station}
-use Rattle.station.specs.Machine.{closes, decision-at}
+use Rattle.station.specs.Machine.{closes, with-setting, lasting-at}
 use Rattle.station.specs.Calls.{Returned}
 use Rattle.station.specs.Present.{empty-station, held-by}
 use Rattle.ending.specs.After.{next-by}
 use Rattle.moving.specs.Moves.{with-no-bundle, moving}
 
--- a closed station keeps its identity, its stage and its decision
-unfoldable pub shut-words : Station → ℕ → Station
-shut-words k d = empty-station (k .identity) (k .stage) true false d
+-- a closed station keeps its identity, its stage and what outlasts a step, with jump off
+unfoldable pub shut-words : Station → Lasting → Station
+shut-words k l = empty-station (k .identity) (k .stage) true (with-setting false l)
 
 unfoldable pub ending-words : Module → Station → ℕ → List ℕ → Returned
 ending-words m k coin out =
-    let d = decision-at (k .stage) (k .decision) (held-by k) in
-    pick (closes last-round (k .stage)) (with-no-bundle closed-now (shut-words k d) m out)
-    (moving m k (next-by (m .n) (k .stage) (k .held .heard) (k .held .slots) coin) d out)
+    let l = lasting-at (k .stage) (k .lasting) (held-by k) in
+    pick (closes last-round (k .stage)) (with-no-bundle closed-now (shut-words k l) m out)
+    (moving m k (next-by (m .n) (k .stage) (k .held .heard) (k .held .slots) coin) l out)
 
 unfoldable pub after-words : Module → Station → ℕ → List ℕ → Returned
 after-words m k coin out =

@@ -35,17 +35,18 @@ fn end_step(m: Module, k: Station, coin: u32, out: &mut [u32]) -> Given
     let stage = k.stage;
     let held = k.held;
     let slots = held.slots;
-    let d = ending::decision_after(stage, k.decision, held.heard, &slots);
+    let old = k.lasting;
+    let l = ending::lasting_after(stage, old, held.heard, &slots);
     if ending::closes(stage) {
         let identity = k.identity;
         return no_bundle(
             format::CLOSED_NOW,
-            held::empty(identity, stage, true, false, d),
+            held::empty(identity, stage, true, held::jump_off(l)),
             m,
         );
     }
     let x = ending::next(stage, m.n, held.heard, &slots, coin);
-    let r = moving::go_on(m, k, x, d, out);
+    let r = moving::go_on(m, k, x, l, out);
     let station = r.station;
     let after = r.after;
     Given {
@@ -91,7 +92,12 @@ pub fn give(m: Module, t: Station, ws: &[u32], coin: u32, out: &mut [u32]) -> Gi
         return no_bundle(number, t, m);
     }
     let stage = t.stage;
-    if refusal::jumps(stage, t.jump, format::read_fields(format::word_at(ws, 1))) {
+    let lasting = t.lasting;
+    if refusal::jumps(
+        stage,
+        lasting.jump,
+        format::read_fields(format::word_at(ws, 1)),
+    ) {
         return jump_on(m, t, ws, coin, out);
     }
     let k = keeping::keep(t, ws);

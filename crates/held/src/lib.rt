@@ -1,5 +1,6 @@
 // Sets of stations, one bit for each, and the scan over the held statements (document 01, "The station"). The contracts cite specs/.
 use format::MOST_STATIONS;
+use format::NONE;
 use format::Round;
 use format::STATEMENT_WORDS;
 use rules::Which;
@@ -7,18 +8,19 @@ use station::Groups;
 use station::Held;
 use station::Identity;
 use station::KEPT_WORDS;
+use station::Lasting;
 use station::SLOTS_WORDS;
 use station::Stage;
 use station::Station;
 ghost use mathlib.Core.Path.{_≡_};
-ghost use mathlib.Core.Bool.{_&&_, _||_};
+ghost use mathlib.Core.Bool.{false, _&&_, _||_};
 ghost use Prim.Native.Nat.{_%_, _^_, _<_};
 ghost use lib.Count.{ones};
 ghost use lib.Dec.{eqb, ltb};
 ghost use Rattle.laws.specs.Count.{one-if};
 ghost use Rattle.format.specs.Numbers.{D-GET, R-GET};
 ghost use Rattle.laws.specs.Sets.{bit};
-ghost use Rattle.station.specs.Machine.{supplies-for-value, supplies-for-none};
+ghost use Rattle.station.specs.Machine.{supplies-for-value, supplies-for-none, undecided as Undecided, with-setting, with-decision};
 ghost use Rattle.station.specs.Present.{empty-station, sites};
 ghost use Rattle.held.specs.Scan.{such, scan as Scan, lowest as Lowest};
 
@@ -129,9 +131,39 @@ pub fn for_none(slots: &[u32; SLOTS_WORDS], set: u32, stage: Stage) -> u32
     }
 }
 
+// What outlasts a step, as an opening makes it.
+pub fn undecided(jump: bool) -> Lasting
+    ensures { λ r. ⌜ r ≡ Undecided jump ⌝ }
+{
+    Lasting {
+        jump,
+        decision: NONE,
+    }
+}
+
+// The same with jump off.
+pub fn jump_off(l: Lasting) -> Lasting
+    ensures { λ r. ⌜ r ≡ with-setting false l ⌝ }
+{
+    Lasting {
+        jump: false,
+        decision: l.decision,
+    }
+}
+
+// The same with this decision.
+pub fn with_decision(l: Lasting, decision: u32) -> Lasting
+    ensures { λ r. ⌜ r ≡ with-decision decision l ⌝ }
+{
+    Lasting {
+        jump: l.jump,
+        decision,
+    }
+}
+
 // A station that holds nothing.
-pub fn empty(identity: Identity, stage: Stage, closed: bool, jump: bool, decision: u32) -> Station
-    ensures { λ r. ⌜ r ≡ empty-station identity stage closed jump decision ⌝ }
+pub fn empty(identity: Identity, stage: Stage, closed: bool, lasting: Lasting) -> Station
+    ensures { λ r. ⌜ r ≡ empty-station identity stage closed lasting ⌝ }
 {
     let held = Held {
         heard: 0,
@@ -145,8 +177,7 @@ pub fn empty(identity: Identity, stage: Stage, closed: bool, jump: bool, decisio
         identity,
         stage,
         closed,
-        jump,
-        decision,
+        lasting,
         held,
         groups,
     }

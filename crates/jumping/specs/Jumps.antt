@@ -39,7 +39,7 @@ jump-words m t given f ws out =
     record {
       number = jumped;
       count = copy-count (length ws) (length out);
-      station = sent-station m (t .identity .question) (t .jump) (stage-by given) (t .decision) (copy-bundle m f ws out);
+      station = sent-station m (t .identity .question) (t .lasting) (stage-by given) (copy-bundle m f ws out);
       after = copy-module m f ws out;
       lent = copy-lent m f ws out;
     }

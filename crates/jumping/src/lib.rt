@@ -66,8 +66,9 @@ pub fn jump(m: Module, t: Station, ws: &[u32], coin: u32, out: &mut [u32]) -> Ju
             after: m,
         };
     }
+    let lasting = t.lasting;
     let stage = stage_of(given);
-    let s = sending::send_copy(m, identity.question, f, t.jump, stage, t.decision, ws, out);
+    let s = sending::send_copy(m, identity.question, f, lasting, stage, ws, out);
     let station = s.station;
     let after = s.after;
     Jumped {

@@ -26,6 +26,7 @@ use Rattle.format.specs.Present.{most-statements, most-stations, statements, ma
 use Rattle.station.specs.Laws.Bundles.{main-is, certificate-is, bundle-there}
 use Rattle.station.specs.Fit.{zeros}
 use Rattle.station.specs.Present.{empty-station, state-of, held-in, held-by, kept-words, slots-words, slots-fit, group-fits, Lengths}
+use Rattle.station.specs.declared.Lasting.{Lasting}
 use Rattle.laws.specs.Below.{Below}
 use Rattle.held.specs.Laws.Sets.{no-bit}
 use Rattle.keeping.specs.Laws.One.{LowWords, Fit}
@@ -33,12 +34,12 @@ use Rattle.keeping.specs.Kept.{with-bundle}
 use Rattle.keeping.specs.Laws.Law.{kept-is}
 
 -- an open station that holds nothing
-unfoldable pub blank : ℕ → ℕ → ℕ → Bool → Stage → ℕ → Station
-blank n number question jump g d = empty-station (record { n = n; station = number; question = question }) g false jump d
+unfoldable pub blank : ℕ → ℕ → ℕ → Lasting → Stage → Station
+blank n number question l g = empty-station (record { n = n; station = number; question = question }) g false l
 
 -- its state
-abbrev empty : ℕ → Bool → Stage → ℕ → State
-empty question jump g d = record { question = question; stage = g; closed = false; jump = jump; decision = d; held = []; for-value = []; for-none = [] }
+abbrev empty : ℕ → Lasting → Stage → State
+empty question l g = record { question = question; stage = g; closed = false; lasting = l; held = []; for-value = []; for-none = [] }
 
 abbrev no-words : ℕ → List ℕ
 no-words k = replicate k 0
@@ -72,28 +73,28 @@ no-group-fits : (n question : ℕ) → group-fits n question no-group (replicate
 unfolding holds in-order Rattle.format.specs.Bundle.all-formed Rattle.format.specs.Statement.statements every
 no-group-fits n question = zeros-there 160 160 0
 
-module _ (n number question : ℕ) (jump : Bool) (g : Stage) (d : ℕ) where
-  nothing-held : held-by (blank n number question jump g d) ≡ []
+module _ (n number question : ℕ) (l : Lasting) (g : Stage) where
+  nothing-held : held-by (blank n number question l g) ≡ []
   unfolding blank
   nothing-held = none-held (replicate 310 0) 31 0
 
-  blank-lengths : Lengths (blank n number question jump g d)
+  blank-lengths : Lengths (blank n number question l g)
   unfolding blank
   blank-lengths = record { slots = refl; for-value = refl; for-none = refl }
 
-  blank-low : LowWords (blank n number question jump g d)
+  blank-low : LowWords (blank n number question l g)
   unfolding blank
   blank-low = record { slots = zeros-low 310; for-value = zeros-low 160; for-none = zeros-low 160 }
 
-  no-for-value : kept-for-value n g (held-by (blank n number question jump g d)) ≡ no-group
+  no-for-value : kept-for-value n g (held-by (blank n number question l g)) ≡ no-group
   unfolding kept-for-value some pick
   no-for-value = ap (kept-for-value n g) nothing-held
 
-  no-for-none : kept-for-none n g (held-by (blank n number question jump g d)) ≡ no-group
+  no-for-none : kept-for-none n g (held-by (blank n number question l g)) ≡ no-group
   unfolding kept-for-none some pick
   no-for-none = ap (kept-for-none n g) nothing-held
 
-  blank-fit : Fit n number (blank n number question jump g d)
+  blank-fit : Fit n number (blank n number question l g)
   unfolding blank
   blank-fit =
       record {
@@ -105,7 +106,7 @@ module _ (n number question : ℕ) (jump : Bool) (g : Stage) (d : ℕ) where
         for-none = ap (λ (x : Group). group-fits n question x (replicate 160 0)) no-for-none ∙ no-group-fits n question;
       }
 
-  blank-state : state-of (blank n number question jump g d) ≡ empty question jump g d
+  blank-state : state-of (blank n number question l g) ≡ empty question l g
   unfolding blank Rattle.station.specs.Words.state-of Rattle.format.specs.Statement.statements
   blank-state =
       λ i.
@@ -113,8 +114,7 @@ module _ (n number question : ℕ) (jump : Bool) (g : Stage) (d : ℕ) where
         question = question;
         stage = g;
         closed = false;
-        jump = jump;
-        decision = d;
+        lasting = l;
         held = nothing-held i;
         for-value = statements (replicate 160 0) 0 (no-for-value i .size);
         for-none = statements (replicate 160 0) 0 (no-for-none i .size);
@@ -125,7 +125,7 @@ module _ (n number question : ℕ) (jump : Bool) (g : Stage) (d : ℕ) where
   group-kept true c = refl
   group-kept false c = refl
 
-  state-begun : (s : Statement) (c : List Statement) → keeping n (empty question jump g d) s c ≡ began n question jump g d s c
+  state-begun : (s : Statement) (c : List Statement) → keeping n (empty question l g) s c ≡ began n question l g s c
   unfolding insert some
   state-begun s c =
       λ i.
@@ -133,23 +133,22 @@ module _ (n number question : ℕ) (jump : Bool) (g : Stage) (d : ℕ) where
         question = question;
         stage = g;
         closed = false;
-        jump = jump;
-        decision = d;
+        lasting = l;
         held = s ∷ [];
         for-value = group-kept (supplies-for-value g s) (take (quorum n) c) i;
         for-none = group-kept (supplies-for-none g s) (take (quorum n) c) i;
       }
 
   pub begun : (s : Statement) (c : List Statement) → n ≤ most-stations → Proper present-form n s → All (Proper present-form n) c → length c ≤ most-statements → Below (bundle-of s c)
-      → with-bundle (blank n number question jump g d) (bundle-of s c) ≡ W.as-station n number (began n question jump g d s c)
+      → with-bundle (blank n number question l g) (bundle-of s c) ≡ W.as-station n number (began n question l g s c)
   unfolding Rattle.format.specs.Bundle.bundle-of some
   begun s c top p a few low =
-      kept-is n number (blank n number question jump g d) (bundle-of s c) top blank-lengths blank-low low blank-fit (bundle-there present-form n s c top p a few) new
+      kept-is n number (blank n number question l g) (bundle-of s c) top blank-lengths blank-low low blank-fit (bundle-there present-form n s c top p a few) new
       ∙ ap (W.as-station n number)
       (ap (λ (t : State). keeping n t (main-of (bundle-of s c)) (certificate-of (bundle-of s c))) blank-state
-      ∙ ap (λ (m : Statement). keeping n (empty question jump g d) m (certificate-of (bundle-of s c))) (main-is present-form n s c top p a few)
-      ∙ ap (keeping n (empty question jump g d) s) (certificate-is present-form n s c top p a few)
+      ∙ ap (λ (m : Statement). keeping n (empty question l g) m (certificate-of (bundle-of s c))) (main-is present-form n s c top p a few)
+      ∙ ap (keeping n (empty question l g) s) (certificate-is present-form n s c top p a few)
       ∙ state-begun s c)
     where
-      new : held-of (main-of (bundle-of s c) .station) (held-by (blank n number question jump g d)) ≡ false
+      new : held-of (main-of (bundle-of s c) .station) (held-by (blank n number question l g)) ≡ false
       new = ap (held-of (main-of (bundle-of s c) .station)) nothing-held

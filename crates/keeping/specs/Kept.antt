@@ -62,8 +62,7 @@ with-bundle t ws =
       identity = t .identity;
       stage = t .stage;
       closed = t .closed;
-      jump = t .jump;
-      decision = t .decision;
+      lasting = t .lasting;
       held = held;
       groups = groups-with (t .groups) (t .stage) (t .identity .n) held s ws;
     }

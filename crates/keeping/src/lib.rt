@@ -135,6 +135,7 @@ pub fn keep(t: Station, ws: &[u32]) -> Station
     let stage = t.stage;
     let old = t.held;
     let kept = t.groups;
+    let lasting = t.lasting;
     let f = format::read_fields(format::word_at(ws, 1));
     let held = held_with(old, f.station, ws);
     let groups = groups_with(kept, stage, identity.n, held, f.station, ws);
@@ -142,8 +143,7 @@ pub fn keep(t: Station, ws: &[u32]) -> Station
         identity: identity,
         stage: stage,
         closed: t.closed,
-        jump: t.jump,
-        decision: t.decision,
+        lasting: lasting,
         held: held,
         groups: groups,
     }

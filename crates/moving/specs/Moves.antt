@@ -11,6 +11,7 @@ use Rattle.format.specs.Words.{step-of}
 use Rattle.modules.specs.declared.Module.{Module}
 use Rattle.modules.specs.Counter.{above, last-for}
 use Rattle.station.specs.declared.Groups.{Groups}
+use Rattle.station.specs.declared.Lasting.{Lasting}
 use Rattle.station.specs.declared.Station.{Station}
 use Rattle.station.specs.Calls.{Returned}
 use Rattle.ending.specs.declared.Kept.{Kept}
@@ -40,23 +41,23 @@ with-no-bundle k t m out = record { number = k; count = 0; station = t; after = 
 unfoldable pub answer : ℕ → ℕ → ℕ
 answer old d = pick (ltb old none || eqb d none) sent sent-decided
 
-unfoldable pub sending-words : Module → Station → Following → Fields → ℕ → List ℕ → Returned
-sending-words m k x f d out =
+unfoldable pub sending-words : Module → Station → Following → Fields → Lasting → List ℕ → Returned
+sending-words m k x f l out =
     let q = k .identity .question in
     let set = x .set in
     let group = group-by (x .kept) (k .groups) in
     let size = count-by (x .kept) (m .n) (x .value) in
     record {
-      number = answer (k .decision) d;
+      number = answer (k .lasting .decision) (l .decision);
       count = sent-count set size out;
-      station = sent-station m q (k .jump) (x .stage) d (sent-bundle m q f (k .held .slots) set group size out);
+      station = sent-station m q l (x .stage) (sent-bundle m q f (k .held .slots) set group size out);
       after = sent-after m q f (k .held .slots) set group size out;
       lent = sent-lent m q f (k .held .slots) set group size out;
     }
 
 -- "only where a bundle would be written, 12"
-unfoldable pub moving : Module → Station → Following → ℕ → List ℕ → Returned
-moving m k x d out =
+unfoldable pub moving : Module → Station → Following → Lasting → List ℕ → Returned
+moving m k x l out =
     pick (above (last-for m (k .identity .question)) (k .identity .question) (step-of (x .kind) (x .round .0)))
-    (sending-words m k x (own-fields m (x .kind) (x .value) (x .flag) (x .round .0)) d out)
+    (sending-words m k x (own-fields m (x .kind) (x .value) (x .flag) (x .round .0)) l out)
     (with-no-bundle not-above k m out)

@@ -7,6 +7,7 @@ use modules::Module;
 use sending::Sent;
 use station::Groups;
 use station::KEPT_WORDS;
+use station::Lasting;
 use station::Station;
 ghost use mathlib.Core.Path.{_≡_};
 ghost use Rattle.station.specs.Answers.{Answers};
@@ -60,9 +61,9 @@ fn answer(old: u32, d: u32) -> u32
 }
 
 // Sends the statement that follows, with its certificate.
-fn send_next(m: Module, k: Station, x: Following, f: Fields, d: u32, out: &mut [u32]) -> Sent
+fn send_next(m: Module, k: Station, x: Following, f: Fields, l: Lasting, out: &mut [u32]) -> Sent
     ensures { λ r. ⌜ (r .count ≡ sent-count (x .set) (count-by (x .kept) (m .n) (x .value)) (now (out .entry)))
-        × (r .station ≡ sent-station m (k .identity .question) (k .jump) (x .stage) d (sent-bundle m (k .identity .question) f (k .held .slots) (x .set) (group-by (x .kept) (k .groups)) (count-by (x .kept) (m .n) (x .value)) (now (out .entry))))
+        × (r .station ≡ sent-station m (k .identity .question) l (x .stage) (sent-bundle m (k .identity .question) f (k .held .slots) (x .set) (group-by (x .kept) (k .groups)) (count-by (x .kept) (m .n) (x .value)) (now (out .entry))))
         × (r .after ≡ sent-after m (k .identity .question) f (k .held .slots) (x .set) (group-by (x .kept) (k .groups)) (count-by (x .kept) (m .n) (x .value)) (now (out .entry)))
         × (now (out .exit) ≡ sent-lent m (k .identity .question) f (k .held .slots) (x .set) (group-by (x .kept) (k .groups)) (count-by (x .kept) (m .n) (x .value)) (now (out .entry))) ⌝ }
 {
@@ -78,9 +79,8 @@ fn send_next(m: Module, k: Station, x: Following, f: Fields, d: u32, out: &mut [
         m,
         identity.question,
         f,
-        k.jump,
+        l,
         stage,
-        d,
         &slots,
         x.set,
         &group,
@@ -104,10 +104,11 @@ fn own_fields(number: u32, kind: u32, value: u32, flag: u32, round: Round) -> Fi
 }
 
 // Sends what follows, or answers 12 and changes nothing.
-pub fn go_on(m: Module, k: Station, x: Following, d: u32, out: &mut [u32]) -> Moved
-    ensures { λ r. ⌜ Answers (moving m k x d (now (out .entry))) (r .number) (r .count) (r .station) (r .after) (now (out .exit)) ⌝ }
+pub fn go_on(m: Module, k: Station, x: Following, l: Lasting, out: &mut [u32]) -> Moved
+    ensures { λ r. ⌜ Answers (moving m k x l (now (out .entry))) (r .number) (r .count) (r .station) (r .after) (now (out .exit)) ⌝ }
 {
     let identity = k.identity;
+    let old = k.lasting;
     let round = x.round;
     let f = own_fields(m.station, x.kind, x.value, x.flag, round);
     if !modules::is_above(m, identity.question, format::step_of(f)) {
@@ -118,11 +119,11 @@ pub fn go_on(m: Module, k: Station, x: Following, d: u32, out: &mut [u32]) -> Mo
             after: m,
         };
     }
-    let s = send_next(m, k, x, f, d, out);
+    let s = send_next(m, k, x, f, l, out);
     let station = s.station;
     let after = s.after;
     Moved {
-        number: answer(k.decision, d),
+        number: answer(old.decision, l.decision),
         count: s.count,
         station,
         after,

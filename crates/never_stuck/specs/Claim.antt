@@ -42,7 +42,7 @@ module _ (mac : List ℕ → List ℕ → List ℕ) (key : List ℕ) (n : ℕ) w
     pub station : Station
     pub waits : Waits cs question y opening station
     pub not-past : round-in (station .stage) ≤ r
-    pub setting : station .jump ≡ jump
+    pub setting : station .lasting .jump ≡ jump
 
   -- ---- how the list goes on
   -- words that a call of a site wrote
@@ -72,7 +72,7 @@ module _ (mac : List ℕ → List ℕ → List ℕ) (key : List ℕ) (n : ℕ) w
     pub decides : Decides mac key n cs y opening question v
     -- by q votes of that round
     pub in-round : decides .round ≡ r
-    pub named : station .decision ≡ v
+    pub named : station .lasting .decision ≡ v
     pub counted : Counted r station
 
   pub record CanDecide (cs : List Call) (question r : ℕ) (team : ℕ → Bool) (jump : Bool) : Type 0 where
@@ -111,7 +111,7 @@ module _ (mac : List ℕ → List ℕ → List ℕ) (key : List ℕ) (n : ℕ) w
     pub station : Station
     pub presents : Presents mac key n cs y opening station
     pub decides : Decides mac key n cs y opening question v
-    pub named : station .decision ≡ v
+    pub named : station .lasting .decision ≡ v
 
   pub record CanDecideByLast (cs : List Call) (question : ℕ) (team : ℕ → Bool) : Type 0 where
     pub list : List Call

@@ -52,7 +52,7 @@ module _ (n r : ℕ) (jump : Bool) where
   ready cs y =
       there (lineage toy [] n cs y 0) && sound toy [] n cs y
       && (not (present toy [] n cs y 0 .closed) && eqb (present toy [] n cs y 0 .identity .question) 1
-      && (eqb (last-for (modules toy [] n cs y) 1 .question) 1 && leb (round-in (present toy [] n cs y 0 .stage)) r && same-setting jump (present toy [] n cs y 0 .jump)))
+      && (eqb (last-for (modules toy [] n cs y) 1 .question) 1 && leb (round-in (present toy [] n cs y 0 .stage)) r && same-setting jump (present toy [] n cs y 0 .lasting .jump)))
 
   ready-out : (cs : List Call) (y : ℕ) → ready cs y ≡ true → Ready toy [] n cs 1 r jump y
   ready-out cs y e =
@@ -73,7 +73,7 @@ module _ (n r : ℕ) (jump : Bool) where
           not-gone-on = eqb-true (last-for (modules toy [] n cs y) 1 .question) 1 (f .0);
         };
         not-past = leb-true (round-in (present toy [] n cs y 0 .stage)) r (f .1);
-        setting = setting-out jump (present toy [] n cs y 0 .jump) (h .1);
+        setting = setting-out jump (present toy [] n cs y 0 .lasting .jump) (h .1);
       }
 
   abbrev all-ready : List Call → ℕ → Bool

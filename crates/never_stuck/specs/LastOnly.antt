@@ -37,10 +37,10 @@ module _ (G : Ground present-form) (q : ℕ) (team : ℕ → Bool) (enough : Quo
 
   -- all that name a decision have decided the same
   has-decided : (cs : List Call) → Premises G cs → (y z : ℕ) → Names G q team enough cs y → (d : Names G q team enough cs z)
-      → HasDecided mac key n cs q (d .station .decision) y
+      → HasDecided mac key n cs q (d .station .lasting .decision) y
   has-decided cs P y z c d =
-      let same : c .station .decision ≡ d .station .decision
-      = claim present-form G cs (P .given) (P .few) .agreement y z (c .opening) (d .opening) q (c .station .decision) (d .station .decision) (c .waits .sound) (d .waits .sound)
+      let same : c .station .lasting .decision ≡ d .station .lasting .decision
+      = claim present-form G cs (P .given) (P .few) .agreement y z (c .opening) (d .opening) q (c .station .lasting .decision) (d .station .lasting .decision) (c .waits .sound) (d .waits .sound)
       (decision y c) (decision z d) in
       record {
         opening = c .opening;
@@ -50,7 +50,7 @@ module _ (G : Ground present-form) (q : ℕ) (team : ℕ → Bool) (enough : Quo
         named = same;
       }
     where
-      decision : (y : ℕ) (d : Names G q team enough cs y) → Decides mac key n cs y (d .opening) q (d .station .decision)
+      decision : (y : ℕ) (d : Names G q team enough cs y) → Decides mac key n cs y (d .opening) q (d .station .lasting .decision)
       decision y d = decides G cs P q y (d .opening) (d .station) (d .waits .sound) (d .waits .presents) (d .waits .asked) (d .named)
 
   -- in the votes of round r, all is for the coin's value or for none
@@ -136,7 +136,7 @@ module _ (G : Ground present-form) (q : ℕ) (team : ℕ → Bool) (enough : Quo
               given = A .premises .given;
               few = A .premises .few;
               still-sound = λ i h. last-sound G q team 0 i cs (A .list) (A .onward) h;
-              value = d .station .decision;
+              value = d .station .lasting .decision;
               bit = d .named;
               each = λ y a b c. has-decided (A .list) (A .premises) y (L .at) (A .each y a b c) d;
             }

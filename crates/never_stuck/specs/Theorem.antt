@@ -39,11 +39,11 @@ module _ (G : Ground present-form) where
     waiting : Waiting G q team floor enough jump cs y (2 * r + 1) (2 * r + 1)
 
   -- a sound site has decided what its station names
-  pub decides : (cs : List Call) → Premises G cs → (q y k : ℕ) (t : Station) → Sound mac key n y cs → Presents mac key n cs y k t → t .identity .question ≡ q → t .decision < none
-      → Decides mac key n cs y k q (t .decision)
+  pub decides : (cs : List Call) → Premises G cs → (q y k : ℕ) (t : Station) → Sound mac key n y cs → Presents mac key n cs y k t → t .identity .question ≡ q → t .lasting .decision < none
+      → Decides mac key n cs y k q (t .lasting .decision)
   decides cs P q y k t s p asked named =
-      subst (λ (z : ℕ). Decides mac key n cs y k z (t .decision)) (ap (λ (u : Station). u .identity .question) (p .now) ∙ asked)
-      (claim present-form G cs (P .given) (P .few) .names y k (t .decision) (p .line) s (p .is) named (ap (λ (u : Station). u .decision) (p .now)))
+      subst (λ (z : ℕ). Decides mac key n cs y k z (t .lasting .decision)) (ap (λ (u : Station). u .identity .question) (p .now) ∙ asked)
+      (claim present-form G cs (P .given) (P .few) .names y k (t .lasting .decision) (p .line) s (p .is) named (ap (λ (u : Station). u .lasting .decision) (p .now)))
 
   -- a site that took q votes of round r for v has decided v by them, and names it
   all-decided : (cs : List Call) → Premises G cs → (q : ℕ) (team : ℕ → Bool) (floor : ℕ) (enough : Quorate n team) (r v y : ℕ) → v < none
@@ -56,7 +56,7 @@ module _ (G : Ground present-form) where
         presents = d .presents;
         decides = by-votes;
         in-round = refl;
-        named = ap (λ (u : Station). u .decision) (sym (d .presents .now))
+        named = ap (λ (u : Station). u .lasting .decision) (sym (d .presents .now))
             ∙ claim present-form G cs (P .given) (P .few) .named y (d .opening) q v (d .presents .line) (d .sound) (d .presents .is) by-votes;
         counted = d .counted;
       }
@@ -121,7 +121,7 @@ module _ (G : Ground present-form) where
               onward = then-onward G q team f cs (A .list) (B .list) (A .onward) (B .onward);
               each = λ y a b c. let o = B .each y a b c in
                   record {
-                    jump = o .station .jump;
+                    jump = o .station .lasting .jump;
                     waiting = record { opening = o .opening; station = o .station; waits = o .waits; from = omega (arith, o .in-step); upto = omega (arith, o .in-step); setting = refl };
                   };
             })

@@ -1,6 +1,5 @@
 // Opening a station (document 01, "The station" and "Table of returns"). The contracts cite specs/.
 use format::Fields;
-use format::NONE;
 use format::Round;
 use format::Step;
 use modules::Module;
@@ -58,7 +57,7 @@ pub fn none() -> Station
         station: 0,
         question: 0,
     };
-    held::empty(identity, Stage::Gathering, true, false, NONE)
+    held::empty(identity, Stage::Gathering, true, held::undecided(false))
 }
 
 // The fields of the station's INIT.
@@ -89,15 +88,15 @@ pub fn open(m: Module, question: u32, proposal: u32, jump: u32, out: &mut [u32])
         };
     }
     let f = init(m.station, proposal);
+    let lasting = held::undecided(jump == 1);
     let slots = [0u32; SLOTS_WORDS];
     let group = [0u32; KEPT_WORDS];
     let s = sending::send(
         m,
         question,
         f,
-        jump == 1,
+        lasting,
         Stage::Gathering,
-        NONE,
         &slots,
         0,
         &group,

@@ -68,7 +68,7 @@ conflict-is (Voting r) s h = λ i. (value-alone 0 i s || some (value-alone 0 i) 
 unfoldable pub jumps-by : Stage → Bool → Fields → Bool
 jumps-by g jump f = jump && ltb (stage-step g) (step-of (f .kind) (f .round .0))
 
-pub jumps-is : (t : Station) (ws : List ℕ) (f : Fields) → f ≡ fields-of (getD ws 1 0) → jumps-by (t .stage) (t .jump) f ≡ jumps (state-of t) (main-of ws)
+pub jumps-is : (t : Station) (ws : List ℕ) (f : Fields) → f ≡ fields-of (getD ws 1 0) → jumps-by (t .stage) (t .lasting .jump) f ≡ jumps (state-of t) (main-of ws)
 unfolding jumps-by Rattle.station.specs.Words.state-of step fields-of
 jumps-is t ws f e = rw e
 
@@ -85,7 +85,7 @@ step-refused g jump set h f =
 -- where the bit says whether the main statement's station is held, they are those of the table
 pub step-refused-is : (t : Station) (ws : List ℕ) (f : Fields) → f ≡ fields-of (getD ws 1 0)
     → bit (t .held .heard) (f .station - 1) ≡ held-of (f .station) (held-by t)
-    → step-refused (t .stage) (t .jump) (t .held .heard) (held-by t) f ≡ first-failed (step-tests (state-of t) (main-of ws))
+    → step-refused (t .stage) (t .lasting .jump) (t .held .heard) (held-by t) f ≡ first-failed (step-tests (state-of t) (main-of ws))
 unfolding step-refused jumps-by Rattle.station.specs.Words.state-of step fields-of
 step-refused-is t ws f e b =
     let c : conflicting (t .stage) (main-of ws .value) (main-of ws .flag) (held-by t) ≡ conflict (t .stage) (main-of ws ∷ held-by t)

@@ -105,11 +105,12 @@ pub fn refusal(m: Module, t: Station, ws: &[u32], coin: u32, room: usize) -> u32
     let held = t.held;
     let slots = held.slots;
     let stage = t.stage;
+    let lasting = t.lasting;
     step_refusal(
         &slots,
         held.heard,
         stage,
-        t.jump,
+        lasting.jump,
         format::read_fields(ws[1]),
     )
 }

@@ -34,6 +34,7 @@ use Rattle.format.specs.Laws.ReadBack.{Proper, length-written}
 use Rattle.format.specs.Present.{bundle-words, most-stations, most-statements, output-words, written, statement-code, all-written, bundle-of}
 use Rattle.station.specs.Laws.Bundles.{ws-length}
 use Rattle.station.specs.Seal.{main-words}
+use Rattle.station.specs.declared.Lasting.{Lasting}
 use Rattle.writer.specs.Written.{with-word, copyable, copy-after, copy-count}
 use Rattle.writer.specs.Laws.Bundle.{Certificate, lent-bundle, count-bundle}
 use Rattle.laws.specs.Below.{Below}
@@ -56,7 +57,7 @@ abbrev pub own-statement : Module → ℕ → ℕ → ℕ → ℕ → ℕ → St
 own-statement m question kind value flag round = own (statement-code (hmac-code (m .key))) (m .station) question kind value flag round
 
 -- where the lent words have the bundle of the statement, with any eight words in its code's place, the module's call leaves the machine's `sends`
-module _ (m : Module) (question kind value flag round : ℕ) (jump : Bool) (g : Stage) (d : ℕ) (c : List Statement) (out : List ℕ) (top : m .n ≤ most-stations)
+module _ (m : Module) (question kind value flag round : ℕ) (l : Lasting) (g : Stage) (c : List Statement) (out : List ℕ) (top : m .n ≤ most-stations)
     (p : Proper present-form (m .n) (own-statement m question kind value flag round)) (proper : All (Proper present-form (m .n)) c) (few : length c ≤ most-statements) (fit : module-fits m ≡ true)
     (later : above (last-for m question) question (step (own-statement m question kind value flag round)) ≡ true) (x : List ℕ) (eight : length x ≡ code-words) (count : ℕ) (draft : List ℕ)
     (counted : count ≡ bundle-words (length c)) (draft-is : draft ≡ over (bundle-of (with-code x (own-statement m question kind value flag round)) c) out) where
@@ -126,18 +127,18 @@ module _ (m : Module) (question kind value flag round : ℕ) (jump : Bool) (g : 
       ∙ take-at (bundle-of s c) (drop (length (bundle-of s c)) out) (bundle-words (length c)) (ws-length present-form (m .n) s c top p proper few)
 
   pub coded-station-is : Below (coded-lent m f count draft)
-      → sent-station m question jump g d (take count (coded-lent m f count draft)) ≡ W.as-station (m .n) (m .station) (began (m .n) question jump g d s c)
+      → sent-station m question l g (take count (coded-lent m f count draft)) ≡ W.as-station (m .n) (m .station) (began (m .n) question l g s c)
   unfolding sent-station
   coded-station-is low =
-      ap (with-bundle (blank (m .n) (m .station) question jump g d)) bundle-is
-      ∙ begun (m .n) (m .station) question jump g d s c top p proper few (low-front (bundle-of s c) (drop (length (bundle-of s c)) out) (subst Below coded-lent-is low))
+      ap (with-bundle (blank (m .n) (m .station) question l g)) bundle-is
+      ∙ begun (m .n) (m .station) question l g s c top p proper few (low-front (bundle-of s c) (drop (length (bundle-of s c)) out) (subst Below coded-lent-is low))
 
   pub coded-after-is : coded-after m f count draft ≡ advanced m question (step s)
   unfolding coded-after pick step
   coded-after-is = rw wrote-some (ap (λ (y : Coded). y .after) asked-then)
 
 -- where the certificate's statements stand in the slots and in the kept group
-module _ (m : Module) (question kind value flag round : ℕ) (jump : Bool) (g : Stage) (d : ℕ) (first second : List Statement) (slots group : List ℕ)
+module _ (m : Module) (question kind value flag round : ℕ) (l : Lasting) (g : Stage) (first second : List Statement) (slots group : List ℕ)
     (C : Certificate (m .n) first second slots group) (c : List Statement) (same : first ++ second ≡ c) (out : List ℕ) (room : output-words ≤ length out)
     (p : Proper present-form (m .n) (own-statement m question kind value flag round)) (fit : module-fits m ≡ true)
     (later : above (last-for m question) question (step (own-statement m question kind value flag round)) ≡ true) where
@@ -167,19 +168,19 @@ module _ (m : Module) (question kind value flag round : ℕ) (jump : Bool) (g : 
 
   pub lent-is : sent-lent m question own-f slots (set-of first) group (length second) out ≡ over (bundle-of own-s c) out
   unfolding sent-lent
-  lent-is = coded-lent-is m question kind value flag round jump g d c out (C .top) p all-proper all-few fit later blank-code refl _ _ count-is draft
+  lent-is = coded-lent-is m question kind value flag round l g c out (C .top) p all-proper all-few fit later blank-code refl _ _ count-is draft
 
   pub station-is : Below (sent-lent m question own-f slots (set-of first) group (length second) out)
-      → sent-station m question jump g d (sent-bundle m question own-f slots (set-of first) group (length second) out) ≡ W.as-station (m .n) (m .station) (began (m .n) question jump g d own-s c)
+      → sent-station m question l g (sent-bundle m question own-f slots (set-of first) group (length second) out) ≡ W.as-station (m .n) (m .station) (began (m .n) question l g own-s c)
   unfolding sent-lent sent-bundle
-  station-is low = coded-station-is m question kind value flag round jump g d c out (C .top) p all-proper all-few fit later blank-code refl _ _ count-is draft low
+  station-is low = coded-station-is m question kind value flag round l g c out (C .top) p all-proper all-few fit later blank-code refl _ _ count-is draft low
 
   pub after-is : sent-after m question own-f slots (set-of first) group (length second) out ≡ advanced m question (step own-s)
   unfolding sent-after
-  after-is = coded-after-is m question kind value flag round jump g d c out (C .top) p all-proper all-few fit later blank-code refl _ _ count-is draft
+  after-is = coded-after-is m question kind value flag round l g c out (C .top) p all-proper all-few fit later blank-code refl _ _ count-is draft
 
 -- where the given bundle's words are copied
-module _ (m : Module) (question kind value flag round : ℕ) (jump : Bool) (g : Stage) (d : ℕ) (given : Statement) (c : List Statement) (ws : List ℕ) (whole : ws ≡ bundle-of given c)
+module _ (m : Module) (question kind value flag round : ℕ) (l : Lasting) (g : Stage) (given : Statement) (c : List Statement) (ws : List ℕ) (whole : ws ≡ bundle-of given c)
     (asked-for : given .question ≡ question) (out : List ℕ) (room : output-words ≤ length out) (top : m .n ≤ most-stations) (q : Proper present-form (m .n) given)
     (p : Proper present-form (m .n) (own-statement m question kind value flag round)) (proper : All (Proper present-form (m .n)) c) (few : length c ≤ most-statements) (fit : module-fits m ≡ true)
     (later : above (last-for m question) question (step (own-statement m question kind value flag round)) ≡ true) where
@@ -209,12 +210,12 @@ module _ (m : Module) (question kind value flag round : ℕ) (jump : Bool) (g : 
 
   pub copy-lent-is : copy-lent m copy-f ws out ≡ over (bundle-of copy-s c) out
   unfolding copy-lent
-  copy-lent-is = coded-lent-is m question kind value flag round jump g d c out top p proper few fit later (given .code) (q .eight) _ _ copy-count-is copied-draft
+  copy-lent-is = coded-lent-is m question kind value flag round l g c out top p proper few fit later (given .code) (q .eight) _ _ copy-count-is copied-draft
 
-  pub copy-station-is : Below (copy-lent m copy-f ws out) → sent-station m question jump g d (copy-bundle m copy-f ws out) ≡ W.as-station (m .n) (m .station) (began (m .n) question jump g d copy-s c)
+  pub copy-station-is : Below (copy-lent m copy-f ws out) → sent-station m question l g (copy-bundle m copy-f ws out) ≡ W.as-station (m .n) (m .station) (began (m .n) question l g copy-s c)
   unfolding copy-lent copy-bundle
-  copy-station-is low = coded-station-is m question kind value flag round jump g d c out top p proper few fit later (given .code) (q .eight) _ _ copy-count-is copied-draft low
+  copy-station-is low = coded-station-is m question kind value flag round l g c out top p proper few fit later (given .code) (q .eight) _ _ copy-count-is copied-draft low
 
   pub copy-after-is : copy-module m copy-f ws out ≡ advanced m question (step copy-s)
   unfolding copy-module
-  copy-after-is = coded-after-is m question kind value flag round jump g d c out top p proper few fit later (given .code) (q .eight) _ _ copy-count-is copied-draft
+  copy-after-is = coded-after-is m question kind value flag round l g c out top p proper few fit later (given .code) (q .eight) _ _ copy-count-is copied-draft

@@ -13,6 +13,7 @@ use Rattle.hmac.specs.Code.{hmac-code}
 use Rattle.modules.specs.declared.Module.{Module}
 use Rattle.sealed.specs.Sealed.{Coded, by-coin}
 use Rattle.sealed.specs.Present.{coding-plain, coding-coin}
+use Rattle.station.specs.declared.Lasting.{Lasting}
 use Rattle.station.specs.declared.Stage.{Stage}
 use Rattle.station.specs.declared.Station.{Station}
 use Rattle.writer.specs.Written.{lent-after, count-after, copy-after, copy-count}
@@ -58,8 +59,8 @@ unfoldable pub sent-bundle : Module → ℕ → Fields → List ℕ → ℕ → 
 sent-bundle m question f slots set group k out = take (sent-count set k out) (sent-lent m question f slots set group k out)
 
 -- the station: nothing held but the bundle that it wrote
-unfoldable pub sent-station : Module → ℕ → Bool → Stage → ℕ → List ℕ → Station
-sent-station m question jump g d ws = with-bundle (blank (m .n) (m .station) question jump g d) ws
+unfoldable pub sent-station : Module → ℕ → Lasting → Stage → List ℕ → Station
+sent-station m question l g ws = with-bundle (blank (m .n) (m .station) question l g) ws
 
 -- ---- a statement sent with the certificate of a given bundle
 -- the given words with word 0 of the statement in the main statement's place, coded

@@ -4,6 +4,7 @@ use format::Fields;
 use modules::Module;
 use station::Identity;
 use station::KEPT_WORDS;
+use station::Lasting;
 use station::SLOTS_WORDS;
 use station::Stage;
 use station::Station;
@@ -25,21 +26,20 @@ pub struct Sent {
 fn begin(
     m: Module,
     question: u32,
-    jump: bool,
+    lasting: Lasting,
     stage: Stage,
-    decision: u32,
     out: &[u32],
     count: usize,
 ) -> Station
     requires { ⌜ count ≤ length (now out) ⌝ }
-    ensures { λ r. ⌜ r ≡ sent-station m question jump stage decision (take count (now (out .entry))) ⌝ }
+    ensures { λ r. ⌜ r ≡ sent-station m question lasting stage (take count (now (out .entry))) ⌝ }
 {
     let identity = Identity {
         n: m.n,
         station: m.station,
         question,
     };
-    let t = held::empty(identity, stage, false, jump, decision);
+    let t = held::empty(identity, stage, false, lasting);
     keeping::keep(t, &out[..count])
 }
 
@@ -65,9 +65,8 @@ pub fn send(
     m: Module,
     question: u32,
     f: Fields,
-    jump: bool,
+    lasting: Lasting,
     stage: Stage,
-    decision: u32,
     slots: &[u32; SLOTS_WORDS],
     set: u32,
     group: &[u32; KEPT_WORDS],
@@ -75,7 +74,7 @@ pub fn send(
     out: &mut [u32],
 ) -> Sent
     ensures { λ r. ⌜ (r .count ≡ sent-count set k (now (out .entry)))
-        × (r .station ≡ sent-station m question jump stage decision (sent-bundle m question f (now (slots .entry)) set (now (group .entry)) k (now (out .entry))))
+        × (r .station ≡ sent-station m question lasting stage (sent-bundle m question f (now (slots .entry)) set (now (group .entry)) k (now (out .entry))))
         × (r .after ≡ sent-after m question f (now (slots .entry)) set (now (group .entry)) k (now (out .entry)))
         × (now (out .exit) ≡ sent-lent m question f (now (slots .entry)) set (now (group .entry)) k (now (out .entry))) ⌝ }
 {
@@ -83,7 +82,7 @@ pub fn send(
     let blank_code = [0u32; format::CODE_WORDS];
     let count = writer::write_bundle(out, w0, question, &blank_code, slots, set, group, k);
     let after = code_main(m, f, count, out);
-    let station = begin(m, question, jump, stage, decision, out, count);
+    let station = begin(m, question, lasting, stage, out, count);
     Sent {
         count,
         station,
@@ -96,21 +95,20 @@ pub fn send_copy(
     m: Module,
     question: u32,
     f: Fields,
-    jump: bool,
+    lasting: Lasting,
     stage: Stage,
-    decision: u32,
     ws: &[u32],
     out: &mut [u32],
 ) -> Sent
     ensures { λ r. ⌜ (r .count ≡ copy-count (length (now (ws .entry))) (length (now (out .entry))))
-        × (r .station ≡ sent-station m question jump stage decision (copy-bundle m f (now (ws .entry)) (now (out .entry))))
+        × (r .station ≡ sent-station m question lasting stage (copy-bundle m f (now (ws .entry)) (now (out .entry))))
         × (r .after ≡ copy-module m f (now (ws .entry)) (now (out .entry)))
         × (now (out .exit) ≡ copy-lent m f (now (ws .entry)) (now (out .entry))) ⌝ }
 {
     let w0 = format::write_fields(f);
     let count = writer::copy_bundle(out, w0, ws);
     let after = code_main(m, f, count, out);
-    let station = begin(m, question, jump, stage, decision, out, count);
+    let station = begin(m, question, lasting, stage, out, count);
     Sent {
         count,
         station,

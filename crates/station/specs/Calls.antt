@@ -16,7 +16,7 @@ use Rattle.modules.specs.declared.Module.{Module}
 use Rattle.modules.specs.Counter.{module-fits, last-for, advanced}
 use Rattle.station.specs.declared.Stage.the-variants.{Gathering}
 use Rattle.station.specs.declared.Station.{Station}
-use Rattle.station.specs.Machine.{Outcome, refused, keeps, sends, opened, answered, step-tests}
+use Rattle.station.specs.Machine.{Outcome, refused, keeps, sends, opened, answered, step-tests, undecided}
 use Rattle.station.specs.Words.{empty-station, state-of, as-station}
 use Rattle.station.specs.Fit.{fits}
 
@@ -48,7 +48,7 @@ module _ (form : Form) where
 
   -- a refused opening returns this station: of no group, closed, undecided and otherwise zero. Every call refuses it
   unfoldable pub no-station : Station
-  no-station = empty-station form (record { n = 0; station = 0; question = 0 }) Gathering true false none
+  no-station = empty-station form (record { n = 0; station = 0; question = 0 }) Gathering true (undecided false)
 
   -- what a giving tests before it looks at the words: 1, 2, 11
   abbrev pub station-tests : Module → Station → ℕ → List ℕ → List Test

@@ -24,9 +24,10 @@ use Rattle.modules.specs.Counter.{last-for, above}
 use Rattle.station.specs.declared.Stage.{Stage}
 use Rattle.station.specs.declared.Stage.the-variants.{Gathering, Proposing, Voting}
 use Rattle.station.specs.declared.Station.{Station}
-use Rattle.station.specs.Machine.{State, Outcome, refused, keeps, sends, Next, next, proposing, insert, has-value, vote-value, decided, carried, decision-after, keeping, follows, decision-at, closes, shut, moved, own, began, ended, taken, voting, jumps, entered, answered}
+use Rattle.station.specs.Machine.{State, Outcome, refused, keeps, sends, Next, next, proposing, insert, has-value, vote-value, decided, carried, decision-after, keeping, follows, lasting-at, with-decision, closes, shut, moved, own, began, ended, taken, voting, jumps, entered, answered}
 use Rattle.station.specs.Demand.{one-of, tossing, no-effect, tossed}
 use Rattle.station.specs.Present.{state-of, returned, give-tests, giving, CoinEffect}
+use Rattle.station.specs.declared.Lasting.{Lasting}
 
 -- no vote for 0 or 1 among some: none is decided, and no call first decides
 no-votes : (s : Statement) (h : List Statement) → ltb (carried (s ∷ h)) none ≡ false → decided (s ∷ h) ≡ none
@@ -59,29 +60,29 @@ number-20 old new e = rw e (go (ltb old none))
 
 module _ (code : Statement → List ℕ) (top n number : ℕ) (last : Last) where
   -- what comes of coin 0 and of coin 1
-  pub data Tossed (question : ℕ) (jump : Bool) (of-0 of-1 : Outcome) : Type 0 where
-    no-toss : of-0 ≡ of-1 → Tossed question jump of-0 of-1
-    toss : (answer r d : ℕ) (votes : List Statement) → one-of (sent ∷ jumped ∷ []) answer ≡ true → of-0 ≡ tossing code n number jump question answer r d votes 0
-        → of-1 ≡ tossing code n number jump question answer r d votes 1 → Tossed question jump of-0 of-1
+  pub data Tossed (question : ℕ) (l : Lasting) (of-0 of-1 : Outcome) : Type 0 where
+    no-toss : of-0 ≡ of-1 → Tossed question l of-0 of-1
+    toss : (answer r d : ℕ) (votes : List Statement) → one-of (sent ∷ jumped ∷ []) answer ≡ true → of-0 ≡ tossing code n number (with-decision d l) question answer r votes 0
+        → of-1 ≡ tossing code n number (with-decision d l) question answer r votes 1 → Tossed question l of-0 of-1
 
   ended-tossed : (t : State) → (ltb (carried (t .held)) none ≡ false → decided (t .held) ≡ none)
-      → Tossed (t .question) (t .jump) (ended code top n number last t 0) (ended code top n number last t 1)
+      → Tossed (t .question) (t .lasting) (ended code top n number last t 0) (ended code top n number last t 1)
   unfolding ended pick follows step
   ended-tossed t nothing = go (closes top (t .stage)) (t .stage)
     where
-      d : Stage → ℕ
-      d g = decision-at g (t .decision) (t .held)
+      l : Stage → Lasting
+      l g = lasting-at g (t .lasting) (t .held)
 
-      go : (c : Bool) (g : Stage) → Tossed (t .question) (t .jump)
-          (pick c (keeps closed-now (shut t (d g))) (moved code top n number last t (follows n g t 0) (d g)))
-          (pick c (keeps closed-now (shut t (d g))) (moved code top n number last t (follows n g t 1) (d g)))
+      go : (c : Bool) (g : Stage) → Tossed (t .question) (t .lasting)
+          (pick c (keeps closed-now (shut t (l g))) (moved code top n number last t (follows n g t 0) (l g)))
+          (pick c (keeps closed-now (shut t (l g))) (moved code top n number last t (follows n g t 1) (l g)))
       go true g = no-toss refl
       go false Gathering = no-toss refl
       go false (Proposing r f) = no-toss refl
       go false (Voting r) = votes (ltb (carried (t .held)) none) refl
         where
           e : ℕ
-          e = decision-after (t .decision) (decided (t .held))
+          e = decision-after (t .lasting .decision) (decided (t .held))
 
           by-votes : Next
           by-votes = next kind-P (carried (t .held)) D-GET (r .0 + 1) (t .for-value) [] (proposing (r .0 + 1) D-GET)
@@ -93,10 +94,10 @@ module _ (code : Statement → List ℕ) (top n number : ℕ) (last : Last) wher
           by-coin-1 = next kind-P 1 R-GET (r .0 + 1) (t .held) [] (proposing (r .0 + 1) R-GET)
 
           answer : ℕ
-          answer = pick (ltb (t .decision) none || eqb e none) sent sent-decided
+          answer = pick (ltb (t .lasting .decision) none || eqb e none) sent sent-decided
 
           votes : (b : Bool) → ltb (carried (t .held)) none ≡ b
-              → Tossed (t .question) (t .jump) (moved code top n number last t (pick b by-votes by-coin-0) e) (moved code top n number last t (pick b by-votes by-coin-1) e)
+              → Tossed (t .question) (t .lasting) (moved code top n number last t (pick b by-votes by-coin-0) (with-decision e (t .lasting))) (moved code top n number last t (pick b by-votes by-coin-1) (with-decision e (t .lasting)))
           votes true h = no-toss refl
           votes false h = coins (above last (t .question) (step (own code number (t .question) kind-P 0 R-GET (r .0 + 1))))
             where
@@ -104,26 +105,26 @@ module _ (code : Statement → List ℕ) (top n number : ℕ) (last : Last) wher
               s coin = own code number (t .question) kind-P coin R-GET (r .0 + 1)
 
               u : ℕ → State
-              u coin = began n (t .question) (t .jump) (proposing (r .0 + 1) R-GET) e (s coin) (t .held ++ [])
+              u coin = began n (t .question) (with-decision e (t .lasting)) (proposing (r .0 + 1) R-GET) (s coin) (t .held ++ [])
 
-              coins : (a : Bool) → Tossed (t .question) (t .jump)
+              coins : (a : Bool) → Tossed (t .question) (t .lasting)
                   (pick a (sends answer (s 0) (t .held ++ []) (u 0)) (refused not-above)) (pick a (sends answer (s 1) (t .held ++ []) (u 1)) (refused not-above))
               coins true =
-                  let k : answer ≡ sent = number-20 (t .decision) (decided (t .held)) (nothing h) in
+                  let k : answer ≡ sent = number-20 (t .lasting .decision) (decided (t .held)) (nothing h) in
                   toss sent (r .0 + 1) e (t .held ++ []) refl (ap (λ (x : ℕ). sends x (s 0) (t .held ++ []) (u 0)) k) (ap (λ (x : ℕ). sends x (s 1) (t .held ++ []) (u 1)) k)
               coins false = no-toss refl
 
-  taken-tossed : (t : State) (m : Statement) (c : List Statement) → Tossed (t .question) (t .jump) (taken code top n number last t m c 0) (taken code top n number last t m c 1)
+  taken-tossed : (t : State) (m : Statement) (c : List Statement) → Tossed (t .question) (t .lasting) (taken code top n number last t m c 0) (taken code top n number last t m c 1)
   unfolding taken pick
   taken-tossed t m c = go (ltb (length (insert m (t .held))) (quorum n))
     where
-      go : (b : Bool) → Tossed (t .question) (t .jump) (pick b (keeps kept (keeping n t m c)) (ended code top n number last (keeping n t m c) 0))
+      go : (b : Bool) → Tossed (t .question) (t .lasting) (pick b (keeps kept (keeping n t m c)) (ended code top n number last (keeping n t m c) 0))
           (pick b (keeps kept (keeping n t m c)) (ended code top n number last (keeping n t m c) 1))
       go true = no-toss refl
       go false = ended-tossed (keeping n t m c) (inserted m (t .held))
 
   -- a jump: the coin is the value of an R-GET proposal, and of nothing else
-  entered-tossed : (t : State) (m : Statement) (c : List Statement) → Tossed (t .question) (t .jump) (entered code top n number last t m c 0) (entered code top n number last t m c 1)
+  entered-tossed : (t : State) (m : Statement) (c : List Statement) → Tossed (t .question) (t .lasting) (entered code top n number last t m c 0) (entered code top n number last t m c 1)
   unfolding pick step
   entered-tossed t m c = go (eqb (m .kind) kind-P) refl (eqb (m .flag) R-GET) refl
     where
@@ -134,9 +135,9 @@ module _ (code : Statement → List ℕ) (top n number : ℕ) (last : Last) wher
       s kind value flag = own code number (t .question) kind value flag (m .round)
 
       by : Bool → ℕ → ℕ → ℕ → Stage → Outcome
-      by a kind value flag g = pick a (sends jumped (s kind value flag) c (began n (t .question) (t .jump) g (t .decision) (s kind value flag) c)) (refused not-above)
+      by a kind value flag g = pick a (sends jumped (s kind value flag) c (began n (t .question) (t .lasting) g (s kind value flag) c)) (refused not-above)
 
-      go : (a : Bool) → eqb (m .kind) kind-P ≡ a → (b : Bool) → eqb (m .flag) R-GET ≡ b → Tossed (t .question) (t .jump)
+      go : (a : Bool) → eqb (m .kind) kind-P ≡ a → (b : Bool) → eqb (m .flag) R-GET ≡ b → Tossed (t .question) (t .lasting)
           (by later (m .kind) (pick (a && b) 0 (m .value)) (m .flag) (pick a (proposing (m .round) (m .flag)) (voting (m .round))))
           (by later (m .kind) (pick (a && b) 1 (m .value)) (m .flag) (pick a (proposing (m .round) (m .flag)) (voting (m .round))))
       go true x true y = coins later
@@ -147,18 +148,18 @@ module _ (code : Statement → List ℕ) (top n number : ℕ) (last : Last) wher
           f : m .flag ≡ R-GET
           f = eqb-true (m .flag) R-GET y
 
-          coins : (a : Bool) → Tossed (t .question) (t .jump) (by a (m .kind) 0 (m .flag) (proposing (m .round) (m .flag))) (by a (m .kind) 1 (m .flag) (proposing (m .round) (m .flag)))
+          coins : (a : Bool) → Tossed (t .question) (t .lasting) (by a (m .kind) 0 (m .flag) (proposing (m .round) (m .flag))) (by a (m .kind) 1 (m .flag) (proposing (m .round) (m .flag)))
           coins true =
-              toss jumped (m .round) (t .decision) c refl (λ i. by true (k i) 0 (f i) (proposing (m .round) (f i))) (λ i. by true (k i) 1 (f i) (proposing (m .round) (f i)))
+              toss jumped (m .round) (t .lasting .decision) c refl (λ i. by true (k i) 0 (f i) (proposing (m .round) (f i))) (λ i. by true (k i) 1 (f i) (proposing (m .round) (f i)))
           coins false = no-toss refl
       go true x false y = no-toss refl
       go false x b y = no-toss refl
 
-  answered-tossed : (t : State) (m : Statement) (c : List Statement) → Tossed (t .question) (t .jump) (answered code top n number last t m c 0) (answered code top n number last t m c 1)
+  answered-tossed : (t : State) (m : Statement) (c : List Statement) → Tossed (t .question) (t .lasting) (answered code top n number last t m c 0) (answered code top n number last t m c 1)
   unfolding pick
   answered-tossed t m c = go (jumps t m)
     where
-      go : (b : Bool) → Tossed (t .question) (t .jump) (pick b (entered code top n number last t m c 0) (taken code top n number last t m c 0))
+      go : (b : Bool) → Tossed (t .question) (t .lasting) (pick b (entered code top n number last t m c 0) (taken code top n number last t m c 0))
           (pick b (entered code top n number last t m c 1) (taken code top n number last t m c 1))
       go true = entered-tossed t m c
       go false = taken-tossed t m c
@@ -167,7 +168,7 @@ module _ (code : Statement → List ℕ) (top n number : ℕ) (last : Last) wher
 module _ (mac : List ℕ → List ℕ → List ℕ) (m : Module) (t : Station) (ws out : List ℕ) where
   -- what a toss returns: the number, and a bundle whose main statement is a P flagged R-GET of round r with the coin as its value
   pub tossed-says : (answer r d : ℕ) (votes : List Statement) (coin : ℕ)
-      → let x = returned m t out (tossing (statement-code (mac (m .key))) (m .n) (m .station) (t .jump) (t .identity .question) answer r d votes coin) in
+      → let x = returned m t out (tossing (statement-code (mac (m .key))) (m .n) (m .station) (with-decision d (t .lasting)) (t .identity .question) answer r votes coin) in
       (x .number ≡ answer) × (x .lent ≡ over (bundle-of (own (statement-code (mac (m .key))) (m .station) (t .identity .question) kind-P coin R-GET r) votes) out)
   unfolding Rattle.station.specs.Calls.returned
   tossed-says answer r d votes coin = (refl, refl)
@@ -185,7 +186,7 @@ module _ (mac : List ℕ → List ℕ → List ℕ) (m : Module) (t : Station) (
       go : (b : Bool) → giving mac m t ws 0 out ≡ returned m t out (pick b (whole 0) (refused k)) → giving mac m t ws 1 out ≡ returned m t out (pick b (whole 1) (refused k)) → CoinEffect mac m t ws out
       go true x y = from (answered-tossed (statement-code (mac (m .key))) last-round (m .n) (m .station) (last-for m (t .identity .question)) (state-of t) (main-of ws) (certificate-of ws))
         where
-          from : Tossed (statement-code (mac (m .key))) last-round (m .n) (m .station) (last-for m (t .identity .question)) (t .identity .question) (t .jump) (whole 0) (whole 1) → CoinEffect mac m t ws out
+          from : Tossed (statement-code (mac (m .key))) last-round (m .n) (m .station) (last-for m (t .identity .question)) (t .identity .question) (t .lasting) (whole 0) (whole 1) → CoinEffect mac m t ws out
           from (no-toss e) = no-effect (x ∙ ap (returned m t out) e ∙ sym y)
           from (toss answer r d votes one e f) = tossed answer r d votes one (x ∙ ap (returned m t out) e) (y ∙ ap (returned m t out) f)
       go false x y = no-effect (x ∙ sym y)

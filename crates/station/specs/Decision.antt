@@ -19,9 +19,10 @@ use Rattle.modules.specs.Present.{module-fits}
 use Rattle.station.specs.declared.Stage.{Stage}
 use Rattle.station.specs.declared.Stage.the-variants.{Gathering, Proposing, Voting}
 use Rattle.station.specs.declared.Station.{Station}
-use Rattle.station.specs.Machine.{State, Outcome, refused, keeps, sends, Next, own, began, shut, moved, keeping, follows, decision-at, closes, ended, taken, stage-of, jumps, copied-value, entered, answered}
+use Rattle.station.specs.Machine.{State, Outcome, refused, keeps, sends, Next, own, began, undecided, shut, moved, keeping, follows, decision-at, lasting-at, closes, ended, taken, stage-of, jumps, copied-value, entered, answered}
 use Rattle.station.specs.Calls.{Returned}
 use Rattle.station.specs.Present.{state-of, as-station, returned, opening, give-tests, giving}
+use Rattle.station.specs.declared.Lasting.{Lasting}
 
 -- 20, eleven words, and a station that gathers, holds its INIT alone and names no decision
 abbrev pub opened-with : (List ℕ → List ℕ → List ℕ) → Module → ℕ → ℕ → ℕ → List ℕ → Returned
@@ -30,7 +31,7 @@ opened-with mac m question proposal jump out =
     record {
       number = sent;
       count = bundle-words 0;
-      station = as-station (m .n) (m .station) (began (m .n) question (eqb jump 1) Gathering none s []);
+      station = as-station (m .n) (m .station) (began (m .n) question (undecided (eqb jump 1)) Gathering s []);
       after = advanced m question 0;
       lent = over (bundle-of s []) out;
     }
@@ -42,7 +43,7 @@ unfolding Rattle.station.specs.Calls.opening Rattle.station.specs.spec
 opens mac m question proposal jump out room fit bit setting later = rw (room, fit, bit, setting, later)
 
 pub opened-undecided : (mac : List ℕ → List ℕ → List ℕ) (m : Module) (question proposal jump : ℕ) (out : List ℕ)
-    → opened-with mac m question proposal jump out .station .decision ≡ none
+    → opened-with mac m question proposal jump out .station .lasting .decision ≡ none
 unfolding Rattle.station.specs.Words.as-station
 opened-undecided mac m question proposal jump out = refl
 
@@ -53,19 +54,19 @@ stays Gathering old h e = refl
 stays (Proposing r f) old h e = refl
 stays (Voting r) old h e = rw e
 
-module _ (mac : List ℕ → List ℕ → List ℕ) (m : Module) (t : Station) (ws : List ℕ) (coin : ℕ) (out : List ℕ) (there : ltb (t .decision) none ≡ true) where
+module _ (mac : List ℕ → List ℕ → List ℕ) (m : Module) (t : Station) (ws : List ℕ) (coin : ℕ) (out : List ℕ) (there : ltb (t .lasting .decision) none ≡ true) where
   Keeps : Outcome → Type 0
-  Keeps o = returned m t out o .station .decision ≡ t .decision
+  Keeps o = returned m t out o .station .lasting .decision ≡ t .lasting .decision
 
-  pub first-kept : giving mac m t ws coin out .station .decision ≡ t .decision
+  pub first-kept : giving mac m t ws coin out .station .lasting .decision ≡ t .lasting .decision
   unfolding Rattle.station.specs.Calls.giving Rattle.station.specs.Calls.returned taken ended Rattle.station.specs.Words.as-station Rattle.station.specs.Words.state-of pick Keeps
   first-kept = go (eqb (first-failed (give-tests mac m t ws coin out)) 0)
     where
       k : State
       k = keeping (m .n) (state-of t) (main-of ws) (certificate-of ws)
 
-      d : ℕ
-      d = decision-at (t .stage) (t .decision) (k .held)
+      l : Lasting
+      l = lasting-at (t .stage) (t .lasting) (k .held)
 
       x : Next
       x = follows (m .n) (t .stage) k coin
@@ -74,15 +75,15 @@ module _ (mac : List ℕ → List ℕ → List ℕ) (m : Module) (t : Station) (
       s = own (statement-code (mac (m .key))) (m .station) (t .identity .question) (x .kind) (x .value) (x .flag) (x .round)
 
       sent-on : (a : Bool) (number : ℕ) → Keeps (pick a (sends number s (x .first ++ x .second)
-          (began (m .n) (t .identity .question) (t .jump) (x .stage) d s (x .first ++ x .second))) (refused not-above))
-      sent-on true number = stays (t .stage) (t .decision) (k .held) there
+          (began (m .n) (t .identity .question) l (x .stage) s (x .first ++ x .second))) (refused not-above))
+      sent-on true number = stays (t .stage) (t .lasting .decision) (k .held) there
       sent-on false number = refl
 
-      end : (c : Bool) → Keeps (pick c (keeps closed-now (shut k d))
-          (moved (statement-code (mac (m .key))) last-round (m .n) (m .station) (last-for m (t .identity .question)) k x d))
-      end true = stays (t .stage) (t .decision) (k .held) there
+      end : (c : Bool) → Keeps (pick c (keeps closed-now (shut k l))
+          (moved (statement-code (mac (m .key))) last-round (m .n) (m .station) (last-for m (t .identity .question)) k x l))
+      end true = stays (t .stage) (t .lasting .decision) (k .held) there
       end false =
-          sent-on (above (last-for m (t .identity .question)) (t .identity .question) (step s)) (pick (ltb (t .decision) none || eqb d none) sent sent-decided)
+          sent-on (above (last-for m (t .identity .question)) (t .identity .question) (step s)) (pick (ltb (t .lasting .decision) none || eqb (l .decision) none) sent sent-decided)
 
       take-in : (b : Bool) → Keeps (pick b (keeps kept k) (ended (statement-code (mac (m .key))) last-round (m .n) (m .station) (last-for m (t .identity .question)) k coin))
       take-in true = refl
@@ -92,7 +93,7 @@ module _ (mac : List ℕ → List ℕ → List ℕ) (m : Module) (t : Station) (
       u = own (statement-code (mac (m .key))) (m .station) (t .identity .question) (main-of ws .kind) (copied-value (main-of ws) coin) (main-of ws .flag) (main-of ws .round)
 
       enter : (a : Bool) → Keeps (pick a (sends jumped u (certificate-of ws)
-          (began (m .n) (t .identity .question) (t .jump) (stage-of (main-of ws)) (t .decision) u (certificate-of ws))) (refused not-above))
+          (began (m .n) (t .identity .question) (t .lasting) (stage-of (main-of ws)) u (certificate-of ws))) (refused not-above))
       enter true = refl
       enter false = refl
 

@@ -16,8 +16,9 @@ use Rattle.certificate.specs.Check.{check-by}
 use Rattle.modules.specs.declared.Module.{Module}
 use Rattle.modules.specs.Counter.{module-fits}
 use Rattle.sealed.specs.Sealed.{is-toss, coding-plain, coding-coin}
+use Rattle.station.specs.declared.Lasting.{Lasting}
 use Rattle.station.specs.declared.Station.{Station}
-use Rattle.station.specs.Machine.{Outcome, sends, own, began, proposing}
+use Rattle.station.specs.Machine.{Outcome, sends, own, began, proposing, with-decision}
 use Rattle.station.specs.Words.{Lengths}
 use Rattle.station.specs.Fit.{fits}
 use Rattle.station.specs.Returns.{unrefused, wrote}
@@ -40,10 +41,10 @@ abbrev pub as-given : ℕ → Module → Station → List ℕ → Returned
 as-given k m t out = record { number = k; count = 0; station = t; after = m; lent = out }
 
 -- "P flagged R-GET with the call's coin": a P of round r with the coin as its value and none votes as its certificate, answered with a number
-abbrev pub tossing : (Statement → List ℕ) → ℕ → ℕ → Bool → ℕ → ℕ → ℕ → ℕ → List Statement → ℕ → Outcome
-tossing code n number jump question answer r d votes coin =
+abbrev pub tossing : (Statement → List ℕ) → ℕ → ℕ → Lasting → ℕ → ℕ → ℕ → List Statement → ℕ → Outcome
+tossing code n number l question answer r votes coin =
     let s = own code number question kind-P coin R-GET r in
-    sends answer s votes (began n question jump (proposing r R-GET) d s votes)
+    sends answer s votes (began n question l (proposing r R-GET) s votes)
 
 -- "All modules of a group share one key and one n."
 pub record OfGroup (key : List ℕ) (n number : ℕ) (m : Module) : Type 0 where
@@ -80,8 +81,8 @@ module _ (form : Form) (mac : List ℕ → List ℕ → List ℕ) where
   pub data CoinEffect (m : Module) (t : Station) (ws out : List ℕ) : Type 0 where
     no-effect : giving form mac m t ws 0 out ≡ giving form mac m t ws 1 out → CoinEffect m t ws out
     tossed : (answer r d : ℕ) (votes : List Statement) → one-of (sent ∷ jumped ∷ []) answer ≡ true
-        → giving form mac m t ws 0 out ≡ returned form m t out (tossing (statement-code form (mac (m .key))) (m .n) (m .station) (t .jump) (t .identity .question) answer r d votes 0)
-        → giving form mac m t ws 1 out ≡ returned form m t out (tossing (statement-code form (mac (m .key))) (m .n) (m .station) (t .jump) (t .identity .question) answer r d votes 1)
+        → giving form mac m t ws 0 out ≡ returned form m t out (tossing (statement-code form (mac (m .key))) (m .n) (m .station) (with-decision d (t .lasting)) (t .identity .question) answer r votes 0)
+        → giving form mac m t ws 1 out ≡ returned form m t out (tossing (statement-code form (mac (m .key))) (m .n) (m .station) (with-decision d (t .lasting)) (t .identity .question) answer r votes 1)
         → CoinEffect m t ws out
 
   pub record Demand-2 : Type 0 where

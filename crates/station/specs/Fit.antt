@@ -69,7 +69,7 @@ module _ (form : Form) where
   abbrev pub rest-fits : ℕ → ℕ → Station → Bool
   rest-fits n number t =
       stage-fits (t .stage) (getD (t .held .slots) ((number - 1) * statement-words form) 0)
-      && leb (t .decision) none
+      && leb (t .lasting .decision) none
       && group-fits n (t .identity .question) (kept-for-value n (t .stage) (held-by form t)) (t .groups .value)
       && group-fits n (t .identity .question) (kept-for-none n (t .stage) (held-by form t)) (t .groups .none)
 

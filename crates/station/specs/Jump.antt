@@ -26,18 +26,19 @@ use Rattle.modules.specs.Counter.{above, module-fits, last-for}
 use Rattle.station.specs.declared.Stage.{Stage}
 use Rattle.station.specs.declared.Stage.the-variants.{Gathering, Proposing, Voting}
 use Rattle.station.specs.declared.Station.{Station}
-use Rattle.station.specs.Machine.{State, Outcome, refused, keeps, sends, Next, own, began, shut, stage-step, closes, decision-at, follows, keeping, insert, moved, ended, taken, stage-of, jumps, copied-value, entered, answered, step-tests}
+use Rattle.station.specs.Machine.{State, Outcome, refused, keeps, sends, Next, own, began, shut, stage-step, closes, lasting-at, with-setting, follows, keeping, insert, moved, ended, taken, stage-of, jumps, copied-value, entered, answered, step-tests}
 use Rattle.station.specs.Words.{state-of, as-station, Lengths}
 use Rattle.station.specs.Fit.{fits}
 use Rattle.station.specs.Returns.{unrefused}
 use Rattle.station.specs.Calls.{Returned, returned, no-station, opening, opening-outcome, station-tests, give-tests, giving, giving-outcome}
 use Rattle.station.specs.Demand.{as-given}
 use Rattle.station.specs.Laws.Views.{Gives, refuses, holds-on, shuts, goes-on, enters, gives-view, Opens, no-opening, begins, opens-view}
+use Rattle.station.specs.declared.Lasting.{Lasting}
 
 -- ---- the setting alone
 abbrev pub set-jump : Bool → Station → Station
 set-jump b t =
-    record { identity = t .identity; stage = t .stage; closed = t .closed; jump = b; decision = t .decision; held = t .held; groups = t .groups }
+    record { identity = t .identity; stage = t .stage; closed = t .closed; lasting = with-setting b (t .lasting); held = t .held; groups = t .groups }
 
 -- all that a call returns but for the station's setting
 abbrev pub but-setting : Returned → Returned
@@ -49,8 +50,7 @@ with-jump b t =
       question = t .question;
       stage = t .stage;
       closed = t .closed;
-      jump = b;
-      decision = t .decision;
+      lasting = with-setting b (t .lasting);
       held = t .held;
       for-value = t .for-value;
       for-none = t .for-none;
@@ -69,18 +69,19 @@ follows-same n (Proposing r f) t coin = refl
 follows-same n (Voting r) t coin = refl
 
 module _ (code : Statement → List ℕ) (top n number : ℕ) (last : Last) where
-  moved-same : (t : State) (x : Next) (d : ℕ) → but-jump (moved code top n number last (with-jump true t) x d) ≡ but-jump (moved code top n number last (with-jump false t) x d)
+  moved-same : (t : State) (x : Next) (l : Lasting)
+      → but-jump (moved code top n number last (with-jump true t) x (with-setting true l)) ≡ but-jump (moved code top n number last (with-jump false t) x (with-setting false l))
   unfolding pick
-  moved-same t x d = go (above last (s .question) (step s))
+  moved-same t x l = go (above last (s .question) (step s))
     where
       s : Statement
       s = own code number (t .question) (x .kind) (x .value) (x .flag) (x .round)
 
       u : Bool → State
-      u b = began n (t .question) b (x .stage) d s (x .first ++ x .second)
+      u b = began n (t .question) (with-setting b l) (x .stage) s (x .first ++ x .second)
 
       k : ℕ
-      k = pick (ltb (t .decision) none || eqb d none) sent sent-decided
+      k = pick (ltb (t .lasting .decision) none || eqb (l .decision) none) sent sent-decided
 
       go : (a : Bool) → but-jump (pick a (sends k s (x .first ++ x .second) (u true)) (refused not-above)) ≡ but-jump (pick a (sends k s (x .first ++ x .second) (u false)) (refused not-above))
       go true = refl
@@ -90,15 +91,15 @@ module _ (code : Statement → List ℕ) (top n number : ℕ) (last : Last) wher
   unfolding ended pick
   ended-same t coin = go (closes top (t .stage))
     where
-      d : ℕ
-      d = decision-at (t .stage) (t .decision) (t .held)
+      l : Lasting
+      l = lasting-at (t .stage) (t .lasting) (t .held)
 
-      go : (c : Bool) → but-jump (pick c (keeps closed-now (shut (with-jump true t) d)) (moved code top n number last (with-jump true t) (follows n (t .stage) (with-jump true t) coin) d))
-          ≡ but-jump (pick c (keeps closed-now (shut (with-jump false t) d)) (moved code top n number last (with-jump false t) (follows n (t .stage) (with-jump false t) coin) d))
+      go : (c : Bool) → but-jump (pick c (keeps closed-now (shut (with-jump true t) l)) (moved code top n number last (with-jump true t) (follows n (t .stage) (with-jump true t) coin) (with-setting true l)))
+          ≡ but-jump (pick c (keeps closed-now (shut (with-jump false t) l)) (moved code top n number last (with-jump false t) (follows n (t .stage) (with-jump false t) coin) (with-setting false l)))
       go true = refl
       go false =
-          moved-same t (follows n (t .stage) (with-jump true t) coin) d
-          ∙ ap (λ (x : Next). but-jump (moved code top n number last (with-jump false t) x d)) (follows-same n (t .stage) t coin)
+          moved-same t (follows n (t .stage) (with-jump true t) coin) l
+          ∙ ap (λ (x : Next). but-jump (moved code top n number last (with-jump false t) x (with-setting false l))) (follows-same n (t .stage) t coin)
 
   taken-same : (t : State) (m : Statement) (c : List Statement) (coin : ℕ)
       → but-jump (taken code top n number last (with-jump true t) m c coin) ≡ but-jump (taken code top n number last (with-jump false t) m c coin)
@@ -115,7 +116,7 @@ module _ (code : Statement → List ℕ) (top n number : ℕ) (last : Last) wher
 
 module _ (form : Form) where
   -- ---- with jump off a later step is 8, where the tests before pass
-  pub off-is-8 : (mac : List ℕ → List ℕ → List ℕ) (m : Module) (t : Station) (ws : List ℕ) (coin : ℕ) (out : List ℕ) → t .jump ≡ false
+  pub off-is-8 : (mac : List ℕ → List ℕ → List ℕ) (m : Module) (t : Station) (ws : List ℕ) (coin : ℕ) (out : List ℕ) → t .lasting .jump ≡ false
       → All (λ x. x .ok ≡ true) (station-tests form m t coin out) → All (λ x. x .ok ≡ true) (bundle-tests form (mac (m .key)) (m .n) (Only (t .identity .question)) ws)
       → stage-step (t .stage) < step (main-of form ws) → giving form mac m t ws coin out ≡ as-given too-early m t out
   unfolding giving returned state-of first-failed pick
@@ -133,7 +134,7 @@ module _ (form : Form) where
       eight = rw (off, le-leb (stage-step (t .stage)) (step (main-of form ws)) (omega arith), lt-leb (step (main-of form ws)) (stage-step (t .stage)) up)
 
   -- ---- with jump on a valid bundle of a later step is answered 23, or 12 where the module's last pair is not below that step, and nothing else
-  pub on-is-23-or-12 : (mac : List ℕ → List ℕ → List ℕ) (m : Module) (t : Station) (ws : List ℕ) (coin : ℕ) (out : List ℕ) → t .jump ≡ true
+  pub on-is-23-or-12 : (mac : List ℕ → List ℕ → List ℕ) (m : Module) (t : Station) (ws : List ℕ) (coin : ℕ) (out : List ℕ) → t .lasting .jump ≡ true
       → All (λ x. x .ok ≡ true) (station-tests form m t coin out) → All (λ x. x .ok ≡ true) (bundle-tests form (mac (m .key)) (m .n) (Only (t .identity .question)) ws)
       → stage-step (t .stage) < step (main-of form ws)
       → giving form mac m t ws coin out .number ≡ pick (above (last-for m (t .identity .question)) (t .identity .question) (step (main-of form ws))) jumped not-above
@@ -154,7 +155,7 @@ module _ (form : Form) where
       staying = taken (statement-code form (mac (m .key))) (last-round form) (m .n) (m .station) (last-for m (t .identity .question)) (state-of form t) (main-of form ws) (certificate-of form ws) coin
 
       ahead : jumps (state-of form t) (main-of form ws) ≡ true
-      ahead = join (t .jump) (ltb (stage-step (t .stage)) (step (main-of form ws))) on (lt-ltb (stage-step (t .stage)) (step (main-of form ws)) up)
+      ahead = join (t .lasting .jump) (ltb (stage-step (t .stage)) (step (main-of form ws))) on (lt-ltb (stage-step (t .stage)) (step (main-of form ws)) up)
 
       passes : first-failed (step-tests (state-of form t) (main-of form ws)) ≡ 0
       passes = rw (ahead, le-leb (stage-step (t .stage)) (step (main-of form ws)) (omega arith))
@@ -163,7 +164,7 @@ module _ (form : Form) where
       s = own (statement-code form (mac (m .key))) (m .station) (t .identity .question) (main-of form ws .kind) (copied-value (main-of form ws) coin) (main-of form ws .flag) (main-of form ws .round)
 
       go : (a : Bool) → returned form m t out (pick a (sends jumped s (certificate-of form ws)
-          (began (m .n) (t .identity .question) (t .jump) (stage-of (main-of form ws)) (t .decision) s (certificate-of form ws))) (refused not-above)) .number ≡ pick a jumped not-above
+          (began (m .n) (t .identity .question) (t .lasting) (stage-of (main-of form ws)) s (certificate-of form ws))) (refused not-above)) .number ≡ pick a jumped not-above
       go true = refl
       go false = refl
 
@@ -198,12 +199,12 @@ module _ (form : Form) where
 
   -- ---- a giving leaves question and setting, but for closing, which clears the setting
   pub setting-kept : (mac : List ℕ → List ℕ → List ℕ) (m : Module) (t : Station) (ws : List ℕ) (coin : ℕ) (out : List ℕ) → Lengths form t
-      → (giving form mac m t ws coin out .station .identity .question ≡ t .identity .question) × (giving form mac m t ws coin out .station .jump ≡ true → t .jump ≡ true)
+      → (giving form mac m t ws coin out .station .identity .question ≡ t .identity .question) × (giving form mac m t ws coin out .station .lasting .jump ≡ true → t .lasting .jump ≡ true)
   unfolding giving returned as-station state-of
   setting-kept mac m t ws coin out L = go (giving-outcome form mac m t ws coin out) (gives-view form mac m t ws coin out L)
     where
       go : (o : Outcome) → Gives form mac m t ws coin out o
-          → (returned form m t out o .station .identity .question ≡ t .identity .question) × (returned form m t out o .station .jump ≡ true → t .jump ≡ true)
+          → (returned form m t out o .station .identity .question ≡ t .identity .question) × (returned form m t out o .station .lasting .jump ≡ true → t .lasting .jump ≡ true)
       go _ (refuses e) = (refl, λ j. j)
       go _ (holds-on A few) = (refl, λ j. j)
       go _ (shuts A size c) = (refl, λ j. never false refl j)
@@ -212,11 +213,11 @@ module _ (form : Form) where
 
   -- ---- an open station keeps its setting, on or off, through every outcome
   pub open-keeps-setting : (mac : List ℕ → List ℕ → List ℕ) (m : Module) (t : Station) (ws : List ℕ) (coin : ℕ) (out : List ℕ) → Lengths form t
-      → giving form mac m t ws coin out .station .closed ≡ false → giving form mac m t ws coin out .station .jump ≡ t .jump
+      → giving form mac m t ws coin out .station .closed ≡ false → giving form mac m t ws coin out .station .lasting .jump ≡ t .lasting .jump
   unfolding giving returned as-station state-of
   open-keeps-setting mac m t ws coin out L = go (giving-outcome form mac m t ws coin out) (gives-view form mac m t ws coin out L)
     where
-      go : (o : Outcome) → Gives form mac m t ws coin out o → returned form m t out o .station .closed ≡ false → returned form m t out o .station .jump ≡ t .jump
+      go : (o : Outcome) → Gives form mac m t ws coin out o → returned form m t out o .station .closed ≡ false → returned form m t out o .station .lasting .jump ≡ t .lasting .jump
       go _ (refuses e) open-still = refl
       go _ (holds-on A few) open-still = refl
       go _ (shuts A size c) open-still = never true open-still refl
@@ -225,12 +226,12 @@ module _ (form : Form) where
 
   -- ---- and an opening that is not refused gives it the setting that it brings
   pub opened-with-setting : (mac : List ℕ → List ℕ → List ℕ) (m : Module) (question proposal jump : ℕ) (out : List ℕ) → unrefused (opening form mac m question proposal jump out .number) ≡ true
-      → opening form mac m question proposal jump out .station .jump ≡ eqb jump 1
+      → opening form mac m question proposal jump out .station .lasting .jump ≡ eqb jump 1
   unfolding opening returned as-station
   opened-with-setting mac m question proposal jump out = go (opening-outcome form mac m question proposal jump out) (opens-view form mac m question proposal jump out)
     where
       go : (o : Outcome) → Opens form mac m question proposal jump out o → unrefused (returned form m (no-station form) out o .number) ≡ true
-          → returned form m (no-station form) out o .station .jump ≡ eqb jump 1
+          → returned form m (no-station form) out o .station .lasting .jump ≡ eqb jump 1
       go _ (no-opening {k} e) u = never (unrefused k) e u
       go _ (begins room range bit later) u = refl
 

@@ -16,6 +16,7 @@ use Rattle.rules.specs.Rules.{group, proposals, some, some-D-GET, some-value, n
 use Rattle.certificate.specs.Check.{every}
 use Rattle.modules.specs.declared.Last.{Last}
 use Rattle.modules.specs.Counter.{above}
+use Rattle.station.specs.declared.Lasting.{Lasting}
 use Rattle.station.specs.declared.Stage.{Stage}
 use Rattle.station.specs.declared.Stage.the-variants.{Gathering, Proposing, Voting}
 
@@ -43,14 +44,23 @@ voting r = Voting (record { 0 = r })
 abbrev pub stage-of : Statement → Stage
 stage-of m = pick (eqb (m .kind) kind-P) (proposing (m .round) (m .flag)) (voting (m .round))
 
--- what a station knows: the question, its stage, whether it is closed, whether it jumps, its decision (2 = none), the statements of its step by rising
--- station, and the two groups that it keeps
+-- what outlasts a step, whether the station jumps and its decision (2 = none): as an opening makes it, with a setting, with a decision
+abbrev pub undecided : Bool → Lasting
+undecided jump = record { jump = jump; decision = none }
+
+abbrev pub with-setting : Bool → Lasting → Lasting
+with-setting jump l = record { jump = jump; decision = l .decision }
+
+abbrev pub with-decision : ℕ → Lasting → Lasting
+with-decision d l = record { jump = l .jump; decision = d }
+
+-- what a station knows: the question, its stage, whether it is closed, what outlasts a step, the statements of its step by rising station, and the two
+-- groups that it keeps
 pub record State : Type 0 where
   pub question : ℕ
   pub stage : Stage
   pub closed : Bool
-  pub jump : Bool
-  pub decision : ℕ
+  pub lasting : Lasting
   pub held : List Statement
   pub for-value : List Statement
   pub for-none : List Statement
@@ -108,8 +118,7 @@ keeping n t m c =
       question = t .question;
       stage = t .stage;
       closed = t .closed;
-      jump = t .jump;
-      decision = t .decision;
+      lasting = t .lasting;
       held = insert m (t .held);
       for-value = pick (takes (supplies-for-value (t .stage)) (t .held) m) (take (quorum n) c) (t .for-value);
       for-none = pick (takes (supplies-for-none (t .stage)) (t .held) m) (take (quorum n) c) (t .for-none);
@@ -197,6 +206,10 @@ decision-at Gathering old h = old
 decision-at (Proposing r f) old h = old
 decision-at (Voting r) old h = decision-after old (decided h)
 
+-- what outlasts the end of a step
+abbrev pub lasting-at : Stage → Lasting → List Statement → Lasting
+lasting-at g l h = with-decision (decision-at g (l .decision) h) l
+
 -- ---- what a call does
 pub data Outcome : Type 0 where
   refused : ℕ → Outcome
@@ -218,14 +231,13 @@ own code number question kind value flag round =
 
 -- the state of a station that has just sent, with the whole certificate that it wrote: its own statement held, of the certificate the first q statements
 -- kept where a later bundle needs them
-abbrev pub began : ℕ → ℕ → Bool → Stage → ℕ → Statement → List Statement → State
-began n question jump g decision s c =
+abbrev pub began : ℕ → ℕ → Lasting → Stage → Statement → List Statement → State
+began n question l g s c =
     record {
       question = question;
       stage = g;
       closed = false;
-      jump = jump;
-      decision = decision;
+      lasting = l;
       held = s ∷ [];
       for-value = pick (supplies-for-value g s) (take (quorum n) c) [];
       for-none = pick (supplies-for-none g s) (take (quorum n) c) [];
@@ -235,15 +247,15 @@ began n question jump g decision s c =
 abbrev pub sending : Last → ℕ → Statement → List Statement → State → Outcome
 sending last number s c t = pick (above last (s .question) (step s)) (sends number s c t) (refused not-above)
 
--- a closed station: its decision alone is left
-abbrev pub shut : State → ℕ → State
-shut t d =
-    record { question = t .question; stage = t .stage; closed = true; jump = false; decision = d; held = []; for-value = []; for-none = [] }
+-- a closed station: of its step nothing is left, and it does not jump
+abbrev pub shut : State → Lasting → State
+shut t l =
+    record { question = t .question; stage = t .stage; closed = true; lasting = with-setting false l; held = []; for-value = []; for-none = [] }
 
 -- ---- jumping (Job 3 of document 02)
 -- "With it on, a valid bundle of a later step makes the station enter that step"
 abbrev pub jumps : State → Statement → Bool
-jumps t m = t .jump && ltb (stage-step (t .stage)) (step m)
+jumps t m = t .lasting .jump && ltb (stage-step (t .stage)) (step m)
 
 -- "For a D-GET P or a V it writes its own statement with the same content and certificate; for an R-GET P it tosses its own coin with that certificate."
 abbrev pub copied-value : Statement → ℕ → ℕ
@@ -255,19 +267,19 @@ module _ (code : Statement → List ℕ) (top n number : ℕ) (last : Last) wher
   abbrev pub opened : ℕ → ℕ → Bool → Outcome
   opened question proposal jump =
       let s = own code number question kind-INIT proposal D-GET 0 in
-      sending last sent s [] (began n question jump Gathering none s [])
+      sending last sent s [] (began n question (undecided jump) Gathering s [])
 
   -- the step of t has ended
-  abbrev pub moved : State → Next → ℕ → Outcome
-  moved t x d =
+  abbrev pub moved : State → Next → Lasting → Outcome
+  moved t x l =
       let s = own code number (t .question) (x .kind) (x .value) (x .flag) (x .round) in
       let c = x .first ++ x .second in
-      sending last (pick (ltb (t .decision) none || eqb d none) sent sent-decided) s c (began n (t .question) (t .jump) (x .stage) d s c)
+      sending last (pick (ltb (t .lasting .decision) none || eqb (l .decision) none) sent sent-decided) s c (began n (t .question) l (x .stage) s c)
 
   unfoldable pub ended : State → ℕ → Outcome
   ended t coin =
-      let d = decision-at (t .stage) (t .decision) (t .held) in
-      pick (closes top (t .stage)) (keeps closed-now (shut t d)) (moved t (follows n (t .stage) t coin) d)
+      let l = lasting-at (t .stage) (t .lasting) (t .held) in
+      pick (closes top (t .stage)) (keeps closed-now (shut t l)) (moved t (follows n (t .stage) t coin) l)
 
   -- "The q-th statement ends the step in that call."
   unfoldable pub taken : State → Statement → List Statement → ℕ → Outcome
@@ -275,11 +287,11 @@ module _ (code : Statement → List ℕ) (top n number : ℕ) (last : Last) wher
       let k = keeping n t m c in
       pick (ltb (length (k .held)) (quorum n)) (keeps kept k) (ended k coin)
 
-  -- the station enters the step of m, by m's certificate: "Only its own statement is held afterwards." The decision stays
+  -- the station enters the step of m, by m's certificate: "Only its own statement is held afterwards." What outlasts a step stays
   abbrev pub entered : State → Statement → List Statement → ℕ → Outcome
   entered t m c coin =
       let s = own code number (t .question) (m .kind) (copied-value m coin) (m .flag) (m .round) in
-      sending last jumped s c (began n (t .question) (t .jump) (stage-of m) (t .decision) s c)
+      sending last jumped s c (began n (t .question) (t .lasting) (stage-of m) s c)
 
   -- a bundle that passed the tests: it makes the station jump, or is taken
   abbrev pub answered : State → Statement → List Statement → ℕ → Outcome

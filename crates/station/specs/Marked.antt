@@ -22,7 +22,7 @@ use Rattle.modules.specs.Counter.{no-pair, pair, above}
 use Rattle.sealed.specs.Present.{coding-plain}
 use Rattle.station.specs.declared.Stage.{Stage}
 use Rattle.station.specs.declared.Stage.the-variants.{Gathering}
-use Rattle.station.specs.Machine.{State, Outcome, refused, keeps, sends, proposing, voting, began, insert, number-of, first-value, those, vote-value, decided, carried, follows, ended, taken, answered, conflict, step-tests}
+use Rattle.station.specs.Machine.{State, Outcome, refused, keeps, sends, proposing, voting, began, insert, number-of, first-value, those, vote-value, decided, carried, follows, ended, taken, answered, conflict, step-tests, undecided, with-decision}
 use Rattle.station.specs.Calls.{unless}
 
 -- ---- statements of question 1, by round, station, value and flag
@@ -71,7 +71,7 @@ pub data Seen : Type 0 where
 abbrev pub unless-kept : (ℕ → State → Seen) → Outcome → Seen
 unless-kept f (refused k) = answers k
 unless-kept f (keeps k t) = f k t
-unless-kept f (sends k s c t) = writes k (s .kind) (s .value) (s .flag) (s .round) c (t .decision)
+unless-kept f (sends k s c t) = writes k (s .kind) (s .value) (s .flag) (s .round) c (t .lasting .decision)
 
 -- a station is given a bundle that is read already, well-formed, of its question and with codes that verify: what giving comes to then
 -- (`given-as-called`)
@@ -99,7 +99,7 @@ stations-of (s ∷ h) = s .station ∷ stations-of h
 abbrev pub left-by : Outcome → List Left
 left-by (refused k) = []
 left-by (keeps k t) = []
-left-by (sends k s c t) = record { stations = stations-of (t .held); for-value = t .for-value; for-none = t .for-none; decision = t .decision } ∷ []
+left-by (sends k s c t) = record { stations = stations-of (t .held); for-value = t .for-value; for-none = t .for-none; decision = t .lasting .decision } ∷ []
 
 -- ---- a row: its case, and what it gives
 pub data Row : Type 0 where
@@ -122,12 +122,12 @@ module-at key last = record { key = key; n = 4; station = 1; last = pair 1 last 
 
 abbrev pub RowHolds : (List ℕ → List ℕ → List ℕ) → List ℕ → Row → Type 0
 RowHolds mac key (counts n q a b) = (quorum n ≡ q) × ((backing n 0 ≡ a) × (backing n 1 ≡ b))
-RowHolds mac key (gives n g b l coin x) = seen (statement-code (mac key)) n (b .main .station) coin l (keeps kept (began n 1 false g none (b .main) (b .certificate))) ≡ x
-RowHolds mac key (catches n g b l coin x) = seen (statement-code (mac key)) n (b .main .station) coin l (keeps kept (began n 1 true g none (b .main) (b .certificate))) ≡ x
+RowHolds mac key (gives n g b l coin x) = seen (statement-code (mac key)) n (b .main .station) coin l (keeps kept (began n 1 (undecided false) g (b .main) (b .certificate))) ≡ x
+RowHolds mac key (catches n g b l coin x) = seen (statement-code (mac key)) n (b .main .station) coin l (keeps kept (began n 1 (undecided true) g (b .main) (b .certificate))) ≡ x
 RowHolds mac key (meets last g b x y) =
-    seen (statement-code (mac key)) 4 (b .main .station) 0 [] (giving-read (statement-code (mac key)) 4 (b .main .station) (pair 1 last) 0 (began 4 1 true g none (b .main) (b .certificate)) x) ≡ y
+    seen (statement-code (mac key)) 4 (b .main .station) 0 [] (giving-read (statement-code (mac key)) 4 (b .main .station) (pair 1 last) 0 (began 4 1 (undecided true) g (b .main) (b .certificate)) x) ≡ y
 RowHolds mac key (lands d g b x l) =
-    left-by (giving-read (statement-code (mac key)) 4 (b .main .station) no-pair 0 (began 4 1 true g d (b .main) (b .certificate)) x) ≡ l ∷ []
+    left-by (giving-read (statement-code (mac key)) 4 (b .main .station) no-pair 0 (began 4 1 (with-decision d (undecided true)) g (b .main) (b .certificate)) x) ≡ l ∷ []
 RowHolds mac key (codes last s k) = coding-plain mac (module-at key last) (written s) .number ≡ k
 
 abbrev pub marked : List Row

@@ -23,13 +23,13 @@ use Rattle.station.specs.Refused.{opening-refused}
 use Rattle.station.specs.Present.{fits, opening, giving, no-station}
 
 -- it names no decision, so that a refused opening never looks like a decided station
-pub no-station-undecided : no-station .decision ≡ none
+pub no-station-undecided : no-station .lasting .decision ≡ none
 unfolding Rattle.station.specs.Calls.no-station
 no-station-undecided = refl
 
 pub refused-undecided : (mac : List ℕ → List ℕ → List ℕ) (m : Module) (question v jump : ℕ) (out : List ℕ)
-    → unrefused (opening mac m question v jump out .number) ≡ false → opening mac m question v jump out .station .decision ≡ none
-refused-undecided mac m question v jump out e = ap (λ (r : Returned). r .station .decision) (opening-refused mac m question v jump out e) ∙ no-station-undecided
+    → unrefused (opening mac m question v jump out .number) ≡ false → opening mac m question v jump out .station .lasting .decision ≡ none
+refused-undecided mac m question v jump out e = ap (λ (r : Returned). r .station .lasting .decision) (opening-refused mac m question v jump out e) ∙ no-station-undecided
 
 -- it fits no module that is in range
 pub no-station-fits : (m : Module) → module-fits m ≡ true → fits (m .n) (m .station) no-station ≡ false

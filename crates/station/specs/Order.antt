@@ -19,7 +19,7 @@ use Rattle.modules.specs.Counter.{above, last-for}
 use Rattle.modules.specs.Present.{module-fits}
 use Rattle.station.specs.declared.Stage.the-variants.{Gathering}
 use Rattle.station.specs.declared.Station.{Station}
-use Rattle.station.specs.Machine.{refused, sends, proposing, own, began, insert, taken, conflict}
+use Rattle.station.specs.Machine.{refused, sends, proposing, own, began, insert, taken, conflict, undecided}
 use Rattle.station.specs.Marked.{init, proposal, all-of, nones, _by_, answers, seen, Row, gives, RowHolds}
 use Rattle.station.specs.Present.{returned, no-station, open-tests, opening, give-tests}
 
@@ -42,7 +42,7 @@ module _ (mac : List ℕ → List ℕ → List ℕ) (m : Module) (out : List ℕ
 
       go : (a b c : Bool)
           → returned m no-station out (pick (eqb (first-failed (test a short-output ∷ test b out-of-range ∷ [])) 0)
-          (pick c (sends sent s [] (began (m .n) question (eqb jump 1) Gathering none s [])) (refused not-above)) (refused (first-failed (test a short-output ∷ test b out-of-range ∷ [])))) .number
+          (pick c (sends sent s [] (began (m .n) question (undecided (eqb jump 1)) Gathering s [])) (refused not-above)) (refused (first-failed (test a short-output ∷ test b out-of-range ∷ [])))) .number
           ≡ pick (eqb (first-failed (test a short-output ∷ test b out-of-range ∷ test c not-above ∷ [])) 0) sent (first-failed (test a short-output ∷ test b out-of-range ∷ test c not-above ∷ []))
       go false b c = refl
       go true false c = refl

@@ -8,6 +8,7 @@ use Rattle.format.specs.Statement.{Statement}
 use Rattle.rules.specs.declared.Group.{Group}
 use Rattle.modules.specs.declared.Module.{Module}
 use Rattle.station.specs.declared.Identity.{Identity}
+use Rattle.station.specs.declared.Lasting.{Lasting}
 use Rattle.station.specs.declared.Stage.{Stage}
 use Rattle.station.specs.declared.Station.{Station}
 use Rattle.station.specs.Machine.{State, Outcome}
@@ -28,7 +29,7 @@ kept-words = Rattle.station.specs.Words.kept-words present-form
 abbrev pub Lengths : Station → Type 0
 Lengths = Rattle.station.specs.Words.Lengths present-form
 
-abbrev pub empty-station : Identity → Stage → Bool → Bool → ℕ → Station
+abbrev pub empty-station : Identity → Stage → Bool → Lasting → Station
 empty-station = Rattle.station.specs.Words.empty-station present-form
 
 abbrev pub held-by : Station → List Statement

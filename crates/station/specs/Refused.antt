@@ -11,7 +11,7 @@ use Rattle.modules.specs.declared.Module.{Module}
 use Rattle.station.specs.declared.Station.{Station}
 use Rattle.station.specs.Machine.{Outcome}
 use Rattle.station.specs.Demand.{as-given}
-use Rattle.station.specs.Laws.Views.{decision-then, Gives, refuses, holds-on, shuts, goes-on, enters, gives-view, Opens, no-opening, begins, opens-view}
+use Rattle.station.specs.Laws.Views.{lasting-then, Gives, refuses, holds-on, shuts, goes-on, enters, gives-view, Opens, no-opening, begins, opens-view}
 use Rattle.station.specs.Returns.{unrefused, wrote, wrote-unrefused, sent-wrote}
 use Rattle.station.specs.Present.{returned, opening, opening-outcome, giving, giving-outcome, no-station, Lengths}
 
@@ -26,7 +26,7 @@ module _ (mac : List ℕ → List ℕ → List ℕ) (m : Module) where
       go _ (refuses e) u = refl
       go _ (holds-on A few) u = never true u refl
       go _ (shuts A size c) u = never true u refl
-      go _ (goes-on {k} A size c above e) u = never (unrefused k) u (wrote-unrefused k (ap wrote e ∙ sent-wrote (ltb (t .decision) none || eqb (decision-then present-form mac m t ws coin out) none)))
+      go _ (goes-on {k} A size c above e) u = never (unrefused k) u (wrote-unrefused k (ap wrote e ∙ sent-wrote (ltb (t .lasting .decision) none || eqb (lasting-then present-form mac m t ws coin out .decision) none)))
       go _ (enters J above) u = never true u refl
 
   pub opening-refused : (question proposal jump : ℕ) (out : List ℕ) → unrefused (opening mac m question proposal jump out .number) ≡ false

@@ -32,7 +32,7 @@ use Rattle.format.specs.Present.{bundle-words, most-stations, place-of, stateme
 use Rattle.station.specs.Returns.{unrefused, wrote, wrote-unrefused, sent-wrote}
 use Rattle.station.specs.Demand.{message}
 use Rattle.station.specs.Laws.ReadBack.{length-all}
-use Rattle.station.specs.Laws.Views.{InRange, after, sent-statement, jump-statement, Gives, refuses, holds-on, shuts, goes-on, enters, gives-view, init-statement, Opens, no-opening, begins, opens-view, decision-then}
+use Rattle.station.specs.Laws.Views.{InRange, after, sent-statement, jump-statement, Gives, refuses, holds-on, shuts, goes-on, enters, gives-view, init-statement, Opens, no-opening, begins, opens-view, lasting-then}
 use Rattle.station.specs.Laws.Fits.{own-proper, next-ready, sent-proper, jump-proper}
 use Rattle.station.specs.Present.{returned, opening, giving, opening-outcome, giving-outcome, no-station, Lengths, BySeal}
 
@@ -192,5 +192,5 @@ module _ (mac : List ℕ → List ℕ → List ℕ) (eight : (key ws : List ℕ)
       go _ (refuses e) u = refl
       go _ (holds-on A few) u = refl
       go _ (shuts A size c) u = refl
-      go _ (goes-on {k} A size c later e) u = never (wrote k) u (ap wrote e ∙ sent-wrote (ltb (t .decision) none || eqb (decision-then present-form mac m t ws coin out) none))
+      go _ (goes-on {k} A size c later e) u = never (wrote k) u (ap wrote e ∙ sent-wrote (ltb (t .lasting .decision) none || eqb (lasting-then present-form mac m t ws coin out .decision) none))
       go _ (enters J later) u = never true u refl

@@ -16,6 +16,7 @@ use Rattle.rules.specs.Rules.{group, proposals, none-votes, some}
 use Rattle.station.specs.declared.Stage.{Stage}
 use Rattle.station.specs.declared.Stage.the-variants.{Gathering, Proposing, Voting}
 use Rattle.station.specs.declared.Identity.{Identity}
+use Rattle.station.specs.declared.Lasting.{Lasting}
 use Rattle.station.specs.declared.Station.{Station}
 use Rattle.station.specs.Machine.{State, supplies-for-value, supplies-for-none, round-in, kept-for-value, kept-for-none}
 use Rattle.format.specs.Bundle.{all-written}
@@ -50,14 +51,13 @@ module _ (form : Form) where
     pub for-none : length (t .groups .none) ≡ kept-words
 
   -- a station that holds nothing
-  abbrev pub empty-station : Identity → Stage → Bool → Bool → ℕ → Station
-  empty-station identity stage closed jump decision =
+  abbrev pub empty-station : Identity → Stage → Bool → Lasting → Station
+  empty-station identity stage closed l =
       record {
         identity = identity;
         stage = stage;
         closed = closed;
-        jump = jump;
-        decision = decision;
+        lasting = l;
         held = record { heard = 0; slots = replicate slots-words 0 };
         groups = record { value = replicate kept-words 0; none = replicate kept-words 0 };
       }
@@ -71,8 +71,7 @@ module _ (form : Form) where
         question = t .identity .question;
         stage = t .stage;
         closed = t .closed;
-        jump = t .jump;
-        decision = t .decision;
+        lasting = t .lasting;
         held = held-by t;
         for-value = statements form (t .groups .value) 0 (kept-for-value (t .identity .n) (t .stage) (held-by t) .size);
         for-none = statements form (t .groups .none) 0 (kept-for-none (t .identity .n) (t .stage) (held-by t) .size);
@@ -99,8 +98,7 @@ module _ (form : Form) where
         identity = record { n = n; station = number; question = t .question };
         stage = t .stage;
         closed = t .closed;
-        jump = t .jump;
-        decision = t .decision;
+        lasting = t .lasting;
         held = record { heard = set-of (t .held); slots = slots-of (t .held) 1 sites };
         groups = record { value = group-words (t .for-value); none = group-words (t .for-none) };
       }

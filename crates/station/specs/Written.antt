@@ -30,7 +30,7 @@ use Rattle.modules.specs.Counter.{last-for}
 use Rattle.station.specs.declared.Stage.{Stage}
 use Rattle.station.specs.declared.Stage.the-variants.{Gathering, Proposing, Voting}
 use Rattle.station.specs.declared.Station.{Station}
-use Rattle.station.specs.Machine.{State, Outcome, Next, own, began, shut, stage-of, copied-value, supplies-for-value, supplies-for-none, takes, closes, those, has-value, first-value, vote-value, carried, follows}
+use Rattle.station.specs.Machine.{State, Outcome, Next, own, began, shut, stage-of, copied-value, supplies-for-value, supplies-for-none, takes, closes, those, has-value, first-value, vote-value, carried, follows, undecided}
 use Rattle.station.specs.Words as W
 use Rattle.station.specs.Words.{state-of, group-words, sites, Lengths, kept-words}
 use Rattle.station.specs.Calls.{returned, opening, giving, opening-outcome, giving-outcome, no-station}
@@ -43,11 +43,12 @@ use Rattle.station.specs.Laws.FitSane.{for-value-size, for-none-size}
 use Rattle.station.specs.Laws.Keep.{all-take}
 use Rattle.station.specs.Laws.Pieces.{those-all}
 use Rattle.station.specs.Laws.End.{Given}
-use Rattle.station.specs.Laws.Views.{Accepted, Jumping, jump-statement, after, decision-then, sent-statement, Gives, refuses, holds-on, shuts, goes-on, enters, gives-view, full-after, init-statement, Opens, no-opening, begins, opens-view}
+use Rattle.station.specs.Laws.Views.{Accepted, Jumping, jump-statement, after, lasting-then, sent-statement, Gives, refuses, holds-on, shuts, goes-on, enters, gives-view, full-after, init-statement, Opens, no-opening, begins, opens-view}
 use Rattle.station.specs.Returns.{unrefused, wrote, wrote-unrefused}
 use Rattle.station.specs.Demand.{message, OfGroup, Reached, by-opening, by-giving}
 use Rattle.station.specs.Laws.Fits.{backed, own-proper, init-sane, next-ready, sent-proper, sent-sane, kept-sane, jump-proper, jump-fitting, jump-sane}
 use Rattle.station.specs.Laws.Bundles.{bundle-valid, backed-few, ws-length}
+use Rattle.station.specs.declared.Lasting.{Lasting}
 
 -- ---- what is held and kept verifies
 pub same-self : (l : List ℕ) → same-words l l ≡ true
@@ -123,10 +124,10 @@ module _ (form : Form) where
     pub given : Given (t .held)
 
   -- the state of a station that has sent, by its own statement and its certificate
-  began-certain : (code : List ℕ → List ℕ) (n question d : ℕ) (jump : Bool) (g : Stage) (s : Statement) (c : List Statement) → verifies form code s ≡ true
-      → All (λ s. verifies form code s ≡ true) c → Backed n s c → Certain code (began n question jump g d s c)
+  began-certain : (code : List ℕ → List ℕ) (n question : ℕ) (l : Lasting) (g : Stage) (s : Statement) (c : List Statement) → verifies form code s ≡ true
+      → All (λ s. verifies form code s ≡ true) c → Backed n s c → Certain code (began n question l g s c)
   unfolding pick
-  began-certain code n question d jump g s c v vs b =
+  began-certain code n question l g s c v vs b =
       record { held = (v, tt); for-value = part (supplies-for-value g s); for-none = part (supplies-for-none g s); given = (backed-given n s c b, tt) }
     where
       part : (b : Bool) → All (λ s. verifies form code s ≡ true) (pick b (take (quorum n) c) [])
@@ -185,8 +186,8 @@ module _ (form : Form) where
       all-verify : All (λ s. verifies form code s ≡ true) (x .first ++ x .second)
       all-verify = all-append (λ y. verifies form code y ≡ true) (x .first) (x .second) (parts-verify .0) (parts-verify .1)
 
-      pub sent-certain : Certain code (began (m .n) (t .identity .question) (t .jump) (x .stage) (decision-then form mac m t ws coin out) s (x .first ++ x .second))
-      sent-certain = began-certain code (m .n) (t .identity .question) (decision-then form mac m t ws coin out) (t .jump) (x .stage) s (x .first ++ x .second) s-verifies all-verify sent-backed
+      pub sent-certain : Certain code (began (m .n) (t .identity .question) (lasting-then form mac m t ws coin out) (x .stage) s (x .first ++ x .second))
+      sent-certain = began-certain code (m .n) (t .identity .question) (lasting-then form mac m t ws coin out) (x .stage) s (x .first ++ x .second) s-verifies all-verify sent-backed
 
       pub sent-valid : Valid form code (m .n) (bundle-of form s (x .first ++ x .second))
       sent-valid =
@@ -213,9 +214,9 @@ module _ (form : Form) where
     pub jump-few : length (certificate-of form ws) ≤ most-statements form
     jump-few = backed-few form (m .n) u (certificate-of form ws) (J .range .at-most) (jump-fitting form mac eight m t ws coin out J .backed)
 
-    pub jump-certain : Certain (mac (m .key)) (began (m .n) (t .identity .question) (t .jump) (stage-of (main-of form ws)) (t .decision) u (certificate-of form ws))
+    pub jump-certain : Certain (mac (m .key)) (began (m .n) (t .identity .question) (t .lasting) (stage-of (main-of form ws)) u (certificate-of form ws))
     jump-certain =
-        began-certain (mac (m .key)) (m .n) (t .identity .question) (t .decision) (t .jump) (stage-of (main-of form ws)) u (certificate-of form ws) own-code given-verifies
+        began-certain (mac (m .key)) (m .n) (t .identity .question) (t .lasting) (stage-of (main-of form ws)) u (certificate-of form ws) own-code given-verifies
         (jump-fitting form mac eight m t ws coin out J .backed)
 
     pub jump-valid : Valid form (mac (m .key)) (m .n) (bundle-of form u (certificate-of form ws))
@@ -251,7 +252,7 @@ module _ (form : Form) where
           go : (o : Outcome) → Opens form mac m question v jump out o → unrefused (returned form m (no-station form) out o .number) ≡ true → Good number (returned form m (no-station form) out o .station)
           go _ (no-opening e) u = never _ e u
           go _ (begins room r p a) u =
-              let b = began (m .n) question (eqb jump 1) Gathering none (init-statement form mac m question v out) [] in
+              let b = began (m .n) question (undecided (eqb jump 1)) Gathering (init-statement form mac m question v out) [] in
               subst (λ (i : ℕ). Good i (W.as-station form (m .n) (m .station) b)) (G .same-number)
               (good-state (m .station) (m .n) b (r .at-most) (r .low) (r .high)
               (init-sane form mac eight m question v (eqb jump 1) r p)
@@ -278,8 +279,8 @@ module _ (form : Form) where
               here (after form mac m t ws coin out) (good-state (m .station) (m .n) (after form mac m t ws coin out) (A .range .at-most) (A .range .low) (A .range .high)
               (kept-sane form mac eight m t ws coin out (good .lengths) A few) (of-key (kept-certain mac m t ws coin out A (C A))))
           go _ (shuts A size c) u =
-              here (shut (after form mac m t ws coin out) (decision-then form mac m t ws coin out))
-              (good-shut (m .station) (m .n) (shut (after form mac m t ws coin out) (decision-then form mac m t ws coin out)) refl refl refl refl)
+              here (shut (after form mac m t ws coin out) (lasting-then form mac m t ws coin out))
+              (good-shut (m .station) (m .n) (shut (after form mac m t ws coin out) (lasting-then form mac m t ws coin out)) refl refl refl refl)
           go _ (goes-on A size c above k) u =
               here _ (good-state (m .station) (m .n) _ (A .range .at-most) (A .range .low) (A .range .high)
               (sent-sane form mac eight m t ws coin out (good .lengths) A size c) (of-key (sent-certain mac m t ws coin out A eight (good .lengths) (C A) size c)))

@@ -34,13 +34,18 @@ pub struct Groups {
     pub none: [u32; KEPT_WORDS],
 }
 
-// A station: whether it jumps onto bundles of later steps is a setting that its opening gave it.
+// What outlasts a step: whether the station jumps onto bundles of later steps, a setting that its opening gave it, and its decision, or 2.
+pub struct Lasting {
+    pub jump: bool,
+    pub decision: u32,
+}
+
+// A station.
 pub struct Station {
     pub identity: Identity,
     pub stage: Stage,
     pub closed: bool,
-    pub jump: bool,
-    pub decision: u32,
+    pub lasting: Lasting,
     pub held: Held,
     pub groups: Groups,
 }

@@ -62,7 +62,7 @@ truth-word so = pick so 1 0
 -- n, station number, question; the stage's three words; closed; the decision
 unfoldable pub settings-of : Station → List ℕ
 settings-of t =
-    t .identity .n ∷ t .identity .station ∷ t .identity .question ∷ (stage-words (t .stage) ++ (truth-word (t .closed) ∷ t .decision ∷ []))
+    t .identity .n ∷ t .identity .station ∷ t .identity .question ∷ (stage-words (t .stage) ++ (truth-word (t .closed) ∷ t .lasting .decision ∷ []))
 
 -- the set of stations heard
 unfoldable pub sets-of : Station → List ℕ
@@ -74,7 +74,7 @@ statements-of t = t .held .slots ++ t .groups .value ++ t .groups .none
 
 -- the jump setting stands last
 unfoldable pub words-of : Station → List ℕ
-words-of t = settings-of t ++ sets-of t ++ statements-of t ++ (truth-word (t .jump) ∷ [])
+words-of t = settings-of t ++ sets-of t ++ statements-of t ++ (truth-word (t .lasting .jump) ∷ [])
 
 -- ---- words that are a station
 -- a stage's three words: `0 0 0`, `1 round 0`, `1 round 1` or `2 round 0`, with any round
@@ -105,8 +105,7 @@ station-in ws =
       identity = identity-in ws;
       stage = stage-in (getD ws stage-at 0) (getD ws (stage-at + 1) 0) (getD ws (stage-at + 2) 0);
       closed = eqb (getD ws closed-at 0) 1;
-      jump = eqb (getD ws jump-at 0) 1;
-      decision = getD ws decision-at 0;
+      lasting = record { jump = eqb (getD ws jump-at 0) 1; decision = getD ws decision-at 0 };
       held = record { heard = getD ws heard-at 0; slots = part slots-at slots-words ws };
       groups = record { value = part value-at kept-words ws; none = part none-at kept-words ws };
     }

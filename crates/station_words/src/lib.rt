@@ -7,6 +7,7 @@ use station::Groups;
 use station::Held;
 use station::Identity;
 use station::KEPT_WORDS;
+use station::Lasting;
 use station::SLOTS_WORDS;
 use station::Stage;
 use station::Station;
@@ -129,6 +130,10 @@ fn station_in(ws: &[u32]) -> Station
         station: ws[1],
         question: ws[2],
     };
+    let lasting = Lasting {
+        jump: ws[JUMP_AT] == 1,
+        decision: ws[DECISION_AT],
+    };
     let held = Held {
         heard: ws[HEARD_AT],
         slots: slots_in(ws),
@@ -141,8 +146,7 @@ fn station_in(ws: &[u32]) -> Station
         identity,
         stage: stage_in(ws[STAGE_AT], ws[STAGE_AT + 1], ws[STAGE_AT + 2]),
         closed: ws[CLOSED_AT] == 1,
-        jump: ws[JUMP_AT] == 1,
-        decision: ws[DECISION_AT],
+        lasting,
         held,
         groups,
     }
@@ -200,6 +204,7 @@ fn head(t: Station) -> [u32; 9]
     let identity = t.identity;
     let g = t.stage;
     let stage = stage_words(g);
+    let lasting = t.lasting;
     let held = t.held;
     [
         identity.n,
@@ -209,7 +214,7 @@ fn head(t: Station) -> [u32; 9]
         stage[1],
         stage[2],
         truth_word(t.closed),
-        t.decision,
+        lasting.decision,
         held.heard,
     ]
 }
@@ -258,7 +263,8 @@ fn put_station(t: Station, out: &mut [u32])
     let groups = t.groups;
     let value = groups.value;
     let none = groups.none;
-    let jump = [truth_word(t.jump)];
+    let lasting = t.lasting;
+    let jump = [truth_word(lasting.jump)];
     put_parts(out, &words, &slots, &value, &none, &jump);
 }
 

@@ -21,14 +21,14 @@ use Rattle.status.specs.Status.{decision-on, readable, told, nothing, st
 -- the station is on the question asked for, and the decision named is its own
 pub record Named (t : Station) (question v : ℕ) : Type 0 where
   pub asked : t .identity .question ≡ question
-  pub own : t .decision ≡ v
+  pub own : t .lasting .decision ≡ v
 
 -- a decision on a question is the station's, and the station is on that question
 pub named-on : (t : Station) (question : ℕ) → decision-on question t < none → Named t question (decision-on question t)
 unfolding decision-on pick
 named-on t question h = go (eqb (t .identity .question) question) refl h
   where
-    go : (b : Bool) → eqb (t .identity .question) question ≡ b → pick b (t .decision) none < none → Named t question (pick b (t .decision) none)
+    go : (b : Bool) → eqb (t .identity .question) question ≡ b → pick b (t .lasting .decision) none < none → Named t question (pick b (t .lasting .decision) none)
     go true e h = record { asked = eqb-true _ _ e; own = refl }
     go false e h = absurd (omega arith)
 

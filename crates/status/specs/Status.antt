@@ -15,7 +15,7 @@ use Rattle.status.specs.declared.Status.{Status}
 
 -- the decision on the question asked for: the station's own, or none where the station is on another question
 unfoldable pub decision-on : ℕ → Station → ℕ
-decision-on question t = pick (eqb (t .identity .question) question) (t .decision) none
+decision-on question t = pick (eqb (t .identity .question) question) (t .lasting .decision) none
 
 -- "n, station number … out of range; a station whose n or number isn't the given module's, or whose stage, set and held statements don't fit one another"
 abbrev pub readable : Module → Station → Bool

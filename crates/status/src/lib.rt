@@ -34,7 +34,8 @@ fn decision_on(t: Station, question: u32) -> u32
 {
     let id = t.identity;
     if id.question == question {
-        return t.decision;
+        let lasting = t.lasting;
+        return lasting.decision;
     }
     NONE
 }

@@ -135,7 +135,7 @@ unfoldable pub shown-step : World → ℕ → ℕ
 shown-step w s = pick (is-open w s) (stage-step (station-at w s .stage)) 0
 
 unfoldable pub shown-decision : World → ℕ → ℕ
-shown-decision w s = pick (is-open w s) (station-at w s .decision) none
+shown-decision w s = pick (is-open w s) (station-at w s .lasting .decision) none
 
 -- "Each event prints event, returned number, step after it, decision": the events count from the second line on
 unfoldable pub told : World → ℕ → ℕ → ℕ → Turn

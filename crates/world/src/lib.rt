@@ -268,5 +268,6 @@ pub fn shown_decision(w: World, s: u32) -> u32
     }
     let stations = w.stations;
     let t = station_at(stations, s);
-    t.decision
+    let lasting = t.lasting;
+    lasting.decision
 }

@@ -19,7 +19,7 @@ use Rattle.station.specs.Machine.{State, closes, follows, Next, began, shut, st
 use Rattle.station.specs.Words as W
 use Rattle.station.specs.Words.{state-of}
 use Rattle.station.specs.Laws.Sane.{Sane}
-use Rattle.station.specs.Laws.Views.{Accepted, Jumping, jump-statement, after, decision-then, sent-statement}
+use Rattle.station.specs.Laws.Views.{Accepted, Jumping, jump-statement, after, lasting-then, sent-statement}
 use Rattle.station.specs.Laws.Fits.{sent-proper, jump-fitting, jump-sane}
 use Rattle.station.specs.Written.{shut-lengths}
 use Rattle.agreement.specs.Maths.Safe.{Just, Split}
@@ -61,10 +61,10 @@ module _ (form : Form) where
 
     module _ (size : length (k .held) ≡ quorum n) where
       pub shut-line : Line form n (reads form l) (m .station)
-          (W.as-station form n (m .station) (shut k (decision-then form mac m t ws coin out))) (main-of form ws ∷ took)
+          (W.as-station form n (m .station) (shut k (lasting-then form mac m t ws coin out))) (main-of form ws ∷ took)
       unfolding W.as-station state-of
       shut-line =
-          let v = shut k (decision-then form mac m t ws coin out) in
+          let v = shut k (lasting-then form mac m t ws coin out) in
           record {
             lengths = shut-lengths form n (m .station) v refl refl refl;
             standing = T.shut-standing form n (m .station) (reads form l) (state-of form t) took (L .standing) is-open (main-of form ws) (certificate-of form ws) (A .fitting) (A .new) (A .calm) (all-coded .0) (all-coded .1) size
@@ -94,14 +94,14 @@ module _ (form : Form) where
             T.sent-split form n (m .station) (reads form l) (state-of form t) took (L .standing) is-open (main-of form ws) (certificate-of form ws) (A .fitting) (A .new) (A .calm) (all-coded .0) (all-coded .1) size
             coin (A .coin-bit) more-state (A .range .at-least) s (sent-proper form mac eight m t ws coin out (L .lengths) A size more) refl (A .range .low) (A .range .high) refl refl refl refl refl
 
-        pub sent-line : Line form n (bare s ∷ reads form l) (m .station) (W.as-station form n (m .station) (began n (t .identity .question) (t .jump) (x .stage) (decision-then form mac m t ws coin out) s (x .first ++ x .second)))
+        pub sent-line : Line form n (bare s ∷ reads form l) (m .station) (W.as-station form n (m .station) (began n (t .identity .question) (lasting-then form mac m t ws coin out) (x .stage) s (x .first ++ x .second)))
             (s ∷ (main-of form ws ∷ took))
         unfolding state-of
         sent-line =
             let K =
             T.sent-standing form n (m .station) (reads form l) (state-of form t) took (L .standing) is-open (main-of form ws) (certificate-of form ws) (A .fitting) (A .new) (A .calm) (all-coded .0) (all-coded .1) size
             coin (A .coin-bit) more-state (A .range .at-least) s (sent-proper form mac eight m t ws coin out (L .lengths) A size more) refl (A .range .low) (A .range .high) refl refl refl refl refl in
-            open-line form n (m .station) (bare s ∷ reads form l) (began n (t .identity .question) (t .jump) (x .stage) (decision-then form mac m t ws coin out) s (x .first ++ x .second)) (s ∷ (main-of form ws ∷ took))
+            open-line form n (m .station) (bare s ∷ reads form l) (began n (t .identity .question) (lasting-then form mac m t ws coin out) (x .stage) s (x .first ++ x .second)) (s ∷ (main-of form ws ∷ took))
             (A .range .at-most) (A .range .low) (A .range .high) (K .while-open refl .sane) K
 
   -- ---- a jump: the own statement is justified by the given certificate, and it alone is taken
@@ -135,14 +135,14 @@ module _ (form : Form) where
     unfolding state-of
     up = omega (arith, J .ahead, J .fitting .in-step)
 
-    sane : Sane form (m .n) (m .station) (began (m .n) (t .identity .question) (t .jump) g (t .decision) u (certificate-of form ws))
+    sane : Sane form (m .n) (m .station) (began (m .n) (t .identity .question) (t .lasting) g u (certificate-of form ws))
     sane = jump-sane form mac eight m t ws coin out J (L .lengths)
 
-    entered : Standing form (m .n) (bare u ∷ reads form l) (m .station) (began (m .n) (t .identity .question) (t .jump) g (t .decision) u (certificate-of form ws)) (u ∷ took)
+    entered : Standing form (m .n) (bare u ∷ reads form l) (m .station) (began (m .n) (t .identity .question) (t .lasting) g u (certificate-of form ws)) (u ∷ took)
     unfolding state-of
     entered =
         let F = jump-fitting form mac eight m t ws coin out J in
-        entered-standing form (m .n) (m .station) (t .identity .question) (t .jump) (reads form l) g (t .decision) u (certificate-of form ws) took (J .range .at-least) (J .range .low) (J .range .high) refl u-step
+        entered-standing form (m .n) (m .station) (t .identity .question) (t .lasting) (reads form l) g u (certificate-of form ws) took (J .range .at-least) (J .range .low) (J .range .high) refl u-step
         (stage-step (t .stage)) up (O .upto) (K .facts) (K .asked) given-coded (F .alike) (F .backed) (K .low) (K .named) (K .names) sane
 
     pub jump-just : Just (m .n) (reads form l) u
@@ -151,7 +151,7 @@ module _ (form : Form) where
         let F = jump-fitting form mac eight m t ws coin out J in
         backed-just (m .n) (reads form l) u (certificate-of form ws) given-coded (F .alike) (F .backed)
 
-    pub jump-line : Line form (m .n) (bare u ∷ reads form l) (m .station) (W.as-station form (m .n) (m .station) (began (m .n) (t .identity .question) (t .jump) g (t .decision) u (certificate-of form ws))) (u ∷ took)
+    pub jump-line : Line form (m .n) (bare u ∷ reads form l) (m .station) (W.as-station form (m .n) (m .station) (began (m .n) (t .identity .question) (t .lasting) g u (certificate-of form ws))) (u ∷ took)
     jump-line =
-        open-line form (m .n) (m .station) (bare u ∷ reads form l) (began (m .n) (t .identity .question) (t .jump) g (t .decision) u (certificate-of form ws)) (u ∷ took)
+        open-line form (m .n) (m .station) (bare u ∷ reads form l) (began (m .n) (t .identity .question) (t .lasting) g u (certificate-of form ws)) (u ∷ took)
         (J .range .at-most) (J .range .low) (J .range .high) sane entered

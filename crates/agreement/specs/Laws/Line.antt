@@ -139,15 +139,15 @@ module _ (form : Form) where
     unfolding state-of
     line-asked = L .standing .asked
 
-    pub line-low : t .decision ≤ none
+    pub line-low : t .lasting .decision ≤ none
     unfolding state-of
     line-low = L .standing .low
 
-    pub line-named : (v : ℕ) → v < none → t .decision ≡ v → Enough n took (t .identity .question) v
+    pub line-named : (v : ℕ) → v < none → t .lasting .decision ≡ v → Enough n took (t .identity .question) v
     unfolding state-of
     line-named = L .standing .named
 
-    pub line-names : (v r : ℕ) → v < none → quorum n ≤ count (votes took (t .identity .question) r v) n → t .decision < none
+    pub line-names : (v r : ℕ) → v < none → quorum n ≤ count (votes took (t .identity .question) r v) n → t .lasting .decision < none
     unfolding state-of
     line-names = L .standing .names
 

@@ -22,13 +22,13 @@ use Rattle.modules.specs.declared.Module.{Module}
 use Rattle.modules.specs.Counter.{above, advanced, last-for}
 use Rattle.station.specs.declared.Stage.the-variants.{Gathering}
 use Rattle.station.specs.declared.Station.{Station}
-use Rattle.station.specs.Machine.{State, Outcome, refused, keeps, sends, began, shut, stage-of, closes, follows, has-value}
+use Rattle.station.specs.Machine.{State, Outcome, refused, keeps, sends, began, shut, stage-of, closes, follows, has-value, undecided}
 use Rattle.station.specs.Words as W
 use Rattle.station.specs.Words.{Lengths}
 use Rattle.station.specs.Calls.{Returned, returned, opening, giving, opening-outcome, giving-outcome, no-station}
 use Rattle.format.specs.Laws.ReadBack.{Proper, statement-drop, statement-back}
 use Rattle.station.specs.Laws.Keep.{steps-0}
-use Rattle.station.specs.Laws.Views.{InRange, init-statement, Opens, no-opening, begins, opens-view, Gives, refuses, holds-on, shuts, goes-on, enters, gives-view, sent-statement, jump-statement, Accepted, Jumping, after, decision-then}
+use Rattle.station.specs.Laws.Views.{InRange, init-statement, Opens, no-opening, begins, opens-view, Gives, refuses, holds-on, shuts, goes-on, enters, gives-view, sent-statement, jump-statement, Accepted, Jumping, after, lasting-then}
 use Rattle.station.specs.Returns.{unrefused, wrote, took-given, wrote-unrefused, sent-wrote, sent-took-given}
 use Rattle.station.specs.Laws.Fits.{own-proper, init-sane, sent-proper, jump-proper}
 use Rattle.station.specs.Demand.{OfGroup}
@@ -69,7 +69,7 @@ module _ (form : Form) where
     unfolding step
     init-step = steps-0 kind-INIT 0 refl
 
-    init-standing : Standing form (m .n) l2 (m .station) (began (m .n) q j Gathering none s []) (s ∷ [])
+    init-standing : Standing form (m .n) l2 (m .station) (began (m .n) q (undecided j) Gathering s []) (s ∷ [])
     unfolding some pick
     init-standing =
         record {
@@ -97,8 +97,8 @@ module _ (form : Form) where
         none-yet : (w k : ℕ) → quorum (m .n) ≤ count (votes (s ∷ []) q k w) (m .n) → ⊥
         none-yet w k enough = omega (arith, enough-before q k w (m .n) (quorum (m .n)) s [] (λ e. omega (arith, init-step)) enough, none-there (m .n))
 
-    pub init-line : Line form (m .n) l2 (m .station) (W.as-station form (m .n) (m .station) (began (m .n) q j Gathering none s [])) (s ∷ [])
-    init-line = open-line form (m .n) (m .station) l2 (began (m .n) q j Gathering none s []) (s ∷ []) (r .at-most) (r .low) (r .high) (init-sane form mac eight m q v j r p) init-standing
+    pub init-line : Line form (m .n) l2 (m .station) (W.as-station form (m .n) (m .station) (began (m .n) q (undecided j) Gathering s [])) (s ∷ [])
+    init-line = open-line form (m .n) (m .station) l2 (began (m .n) q (undecided j) Gathering s []) (s ∷ []) (r .at-most) (r .low) (r .high) (init-sane form mac eight m q v j r p) init-standing
 
   module _ (G : Ground form) (faulty : List ℕ) where
     open Ground G using (mac, eight, key, n, top)
@@ -274,10 +274,10 @@ module _ (form : Form) where
               }
 
           begun : (r : InRange form mj) (p : v < 2) → above (last-for mj q) q (step (init-statement form mac mj q v out)) ≡ true
-              → opening-outcome form mac mj q v setting out ≡ sends sent (init-statement form mac mj q v out) [] (began (mj .n) q (eqb setting 1) Gathering none (init-statement form mac mj q v out) []) → Inv (c ∷ cs)
+              → opening-outcome form mac mj q v setting out ≡ sends sent (init-statement form mac mj q v out) [] (began (mj .n) q (undecided (eqb setting 1)) Gathering (init-statement form mac mj q v out) []) → Inv (c ∷ cs)
           begun r p a e =
               let s = init-statement form mac mj q v out in
-              let o = sends sent s [] (began (mj .n) q (eqb setting 1) Gathering none s []) in
+              let o = sends sent s [] (began (mj .n) q (undecided (eqb setting 1)) Gathering s []) in
               let proper : Proper form (mj .n) s = own-proper form mac eight mj q kind-INIT v D-GET 0 r (init refl refl p refl) in
               let coded = one-read c cs lo hi (I .logs) s proper refl (open-coded form G mj j q v setting out ∙ ap (log-of form G j) e) in
               let to-n : (l : List Statement) → Just (mj .n) l s → Just n l s = λ l x. subst (λ (z : ℕ). Just z l s) (mine .same-n) x in
@@ -291,7 +291,7 @@ module _ (form : Form) where
             where
               picked : (i x : ℕ) (line : Lineage) → 1 ≤ i → i ≤ n → member i faulty ≡ false → (b : Bool) → (eqb j i && true && eqb (openings form mac key n cs i) x) ≡ b
                   → pick b (found (record {
-                    present = W.as-station form (mj .n) (mj .station) (began (mj .n) q (eqb setting 1) Gathering none (init-statement form mac mj q v out) []);
+                    present = W.as-station form (mj .n) (mj .station) (began (mj .n) q (undecided (eqb setting 1)) Gathering (init-statement form mac mj q v out) []);
                     took = statement form (over (bundle-of form (init-statement form mac mj q v out) []) out) 1 ∷ [];
                   })) (lineage form mac key n cs i x) ≡ found line
                   → Line form n (bare (init-statement form mac mj q v out) ∷ reads form (log form mac key n cs)) i (line .present) (line .took)
@@ -300,7 +300,7 @@ module _ (form : Form) where
                   let proper : Proper form (mj .n) s = own-proper form mac eight mj q kind-INIT v D-GET 0 r (init refl refl p refl) in
                   let ji : j ≡ i = eqb-true j i (both (eqb j i) true (both (eqb j i && true) _ z .0) .0) in
                   let same = same-line _ line f in
-                  let T = W.as-station form (mj .n) (mj .station) (began (mj .n) q (eqb setting 1) Gathering none s []) in
+                  let T = W.as-station form (mj .n) (mj .station) (began (mj .n) q (undecided (eqb setting 1)) Gathering s []) in
                   let L : Line form n (bare s ∷ reads form (log form mac key n cs)) j T (s ∷ [])
                   = of-mine j mj mine (bare s ∷ reads form (log form mac key n cs)) T (s ∷ []) (init-line mac eight mj q v (eqb setting 1) out (reads form (log form mac key n cs)) r p) in
                   let L1 : Line form n (bare s ∷ reads form (log form mac key n cs)) j T (statement form (over (bundle-of form s []) out) 1 ∷ [])
@@ -318,7 +318,7 @@ module _ (form : Form) where
     module _ (j o : ℕ) (t : Station) (ws : List ℕ) (coin : ℕ) (out : List ℕ) (cs : List Call) (lo : 1 ≤ j) (hi : j ≤ n) (I : Inv cs) (len : Lengths form t)
         (came : CodesCame form mac key n (log form mac key n cs) ws)
         (sound : member j faulty ≡ false → unrefused (answer form mac key n cs (call j (gives o t ws coin out)) .number) ≡ true → Presents form mac key n cs j o t)
-        (opened-on : member j faulty ≡ false → unrefused (answer form mac key n cs (call j (gives o t ws coin out)) .number) ≡ true → t .jump ≡ true → Off cs j (t .identity .question) → ⊥) where
+        (opened-on : member j faulty ≡ false → unrefused (answer form mac key n cs (call j (gives o t ws coin out)) .number) ≡ true → t .lasting .jump ≡ true → Off cs j (t .identity .question) → ⊥) where
       abbrev g : Call
       g = call j (gives o t ws coin out)
 
@@ -432,10 +432,10 @@ module _ (form : Form) where
           go _ e (shuts A size c) = closed-so A size c e
             where
               closed-so : (A : Accepted form mac mg t ws coin out) (size : length (after form mac mg t ws coin out .held) ≡ quorum (mg .n)) → closes (last-round form) (t .stage) ≡ true
-                  → giving-outcome form mac mg t ws coin out ≡ keeps closed-now (shut (after form mac mg t ws coin out) (decision-then form mac mg t ws coin out))
+                  → giving-outcome form mac mg t ws coin out ≡ keeps closed-now (shut (after form mac mg t ws coin out) (lasting-then form mac mg t ws coin out))
                   → Inv (g ∷ cs)
               closed-so A size c e =
-                  let u = shut (after form mac mg t ws coin out) (decision-then form mac mg t ws coin out) in
+                  let u = shut (after form mac mg t ws coin out) (lasting-then form mac mg t ws coin out) in
                   silent-inv (keeps closed-now u) e refl refl
                   (placed (returned form mg t out (keeps closed-now u)) before (I .lines) (λ h. whose h (number-g (keeps closed-now u) e refl))
                   (λ H h. of-mine j mg mine-g before (W.as-station form (mg .n) (mg .station) u) (main-of form ws ∷ H .line .took)
@@ -444,20 +444,20 @@ module _ (form : Form) where
             where
               sent-so : (k : ℕ) (A : Accepted form mac mg t ws coin out) (size : length (after form mac mg t ws coin out .held) ≡ quorum (mg .n)) (c : closes (last-round form) (t .stage) ≡ false)
                   → above (last-for mg (t .identity .question)) (t .identity .question) (step (sent-statement form mac mg t ws coin out)) ≡ true
-                  → k ≡ pick (ltb (t .decision) none || eqb (decision-then form mac mg t ws coin out) none) sent sent-decided
+                  → k ≡ pick (ltb (t .lasting .decision) none || eqb (lasting-then form mac mg t ws coin out .decision) none) sent sent-decided
                   → giving-outcome form mac mg t ws coin out ≡ sends k (sent-statement form mac mg t ws coin out)
                   (follows (mg .n) (t .stage) (after form mac mg t ws coin out) coin .first ++ follows (mg .n) (t .stage) (after form mac mg t ws coin out) coin .second)
-                  (began (mg .n) (t .identity .question) (t .jump) (follows (mg .n) (t .stage) (after form mac mg t ws coin out) coin .stage) (decision-then form mac mg t ws coin out) (sent-statement form mac mg t ws coin out)
+                  (began (mg .n) (t .identity .question) (lasting-then form mac mg t ws coin out) (follows (mg .n) (t .stage) (after form mac mg t ws coin out) coin .stage) (sent-statement form mac mg t ws coin out)
                   (follows (mg .n) (t .stage) (after form mac mg t ws coin out) coin .first ++ follows (mg .n) (t .stage) (after form mac mg t ws coin out) coin .second)) → Inv (g ∷ cs)
               sent-so k A size more a w e =
                   let s = sent-statement form mac mg t ws coin out in
                   let x = follows (mg .n) (t .stage) (after form mac mg t ws coin out) coin in
-                  let u = began (mg .n) (t .identity .question) (t .jump) (x .stage) (decision-then form mac mg t ws coin out) s (x .first ++ x .second) in
+                  let u = began (mg .n) (t .identity .question) (lasting-then form mac mg t ws coin out) (x .stage) s (x .first ++ x .second) in
                   let o' = sends k s (x .first ++ x .second) u in
                   let proper : Proper form (mg .n) s = sent-proper form mac eight mg t ws coin out len A size more in
                   let coded = one-read g cs lo hi (I .logs) s proper refl (log-g o' e) in
-                  let wr : wrote k ≡ true = ap wrote w ∙ sent-wrote (ltb (t .decision) none || eqb (decision-then form mac mg t ws coin out) none) in
-                  let tk : took-given k ≡ true = ap took-given w ∙ sent-took-given (ltb (t .decision) none || eqb (decision-then form mac mg t ws coin out) none) in
+                  let wr : wrote k ≡ true = ap wrote w ∙ sent-wrote (ltb (t .lasting .decision) none || eqb (lasting-then form mac mg t ws coin out .decision) none) in
+                  let tk : took-given k ≡ true = ap took-given w ∙ sent-took-given (ltb (t .lasting .decision) none || eqb (lasting-then form mac mg t ws coin out .decision) none) in
                   let un : unrefused (answer form mac key n cs g .number) ≡ true = number-g o' e (wrote-unrefused k wr) in
                   let T : Station = W.as-station form (mg .n) (mg .station) u in
                   record {
@@ -478,10 +478,10 @@ module _ (form : Form) where
             where
               jumped-so : (J : Jumping form mac mg t ws coin out) → above (last-for mg (t .identity .question)) (t .identity .question) (step (jump-statement form mac mg t ws coin out)) ≡ true
                   → giving-outcome form mac mg t ws coin out ≡ sends jumped (jump-statement form mac mg t ws coin out) (certificate-of form ws)
-                  (began (mg .n) (t .identity .question) (t .jump) (stage-of (main-of form ws)) (t .decision) (jump-statement form mac mg t ws coin out) (certificate-of form ws)) → Inv (g ∷ cs)
+                  (began (mg .n) (t .identity .question) (t .lasting) (stage-of (main-of form ws)) (jump-statement form mac mg t ws coin out) (certificate-of form ws)) → Inv (g ∷ cs)
               jumped-so J a e =
                   let s = jump-statement form mac mg t ws coin out in
-                  let u = began (mg .n) (t .identity .question) (t .jump) (stage-of (main-of form ws)) (t .decision) s (certificate-of form ws) in
+                  let u = began (mg .n) (t .identity .question) (t .lasting) (stage-of (main-of form ws)) s (certificate-of form ws) in
                   let o' = sends jumped s (certificate-of form ws) u in
                   let proper : Proper form (mg .n) s = jump-proper form mac eight mg t ws coin out J in
                   let coded = one-read g cs lo hi (I .logs) s proper refl (log-g o' e) in

@@ -32,12 +32,12 @@ none-found line e = absurd (let z : _≡_ {A = ℕ} 0 1 = cc in omega arith)
 module _ (form : Form) where
   -- an opening that is not refused returns a station on its question, which jumps if the setting is 1
   opening-setting : (mac : List ℕ → List ℕ → List ℕ) (m : Module) (q v jump : ℕ) (out : List ℕ) → unrefused (opening form mac m q v jump out .number) ≡ true
-      → (opening form mac m q v jump out .station .identity .question ≡ q) × (opening form mac m q v jump out .station .jump ≡ true → jump ≡ 1)
+      → (opening form mac m q v jump out .station .identity .question ≡ q) × (opening form mac m q v jump out .station .lasting .jump ≡ true → jump ≡ 1)
   unfolding opening returned W.as-station
   opening-setting mac m q v jump out = go (opening-outcome form mac m q v jump out) (opens-view form mac m q v jump out)
     where
       go : (o : Outcome) → Opens form mac m q v jump out o → unrefused (returned form m (no-station form) out o .number) ≡ true
-          → (returned form m (no-station form) out o .station .identity .question ≡ q) × (returned form m (no-station form) out o .station .jump ≡ true → jump ≡ 1)
+          → (returned form m (no-station form) out o .station .identity .question ≡ q) × (returned form m (no-station form) out o .station .lasting .jump ≡ true → jump ≡ 1)
       go _ (no-opening {k} w) u = never (unrefused k) w u
       go _ (begins room r p a) u = (refl, λ j. eqb-true jump 1 j)
 
@@ -47,7 +47,7 @@ module _ (form : Form) where
   gave-is r ws (found l) line e = sym (ap (λ (x : Lineage). x .present) (same-line _ line e))
 
   module _ (mac : List ℕ → List ℕ → List ℕ) (key : List ℕ) (n : ℕ) where
-    pub setting-known : (cs : List Call) → Given form mac key n cs → (i k : ℕ) (line : Lineage) → Sound form mac key n i cs → lineage form mac key n cs i k ≡ found line → line .present .jump ≡ true
+    pub setting-known : (cs : List Call) → Given form mac key n cs → (i k : ℕ) (line : Lineage) → Sound form mac key n i cs → lineage form mac key n cs i k ≡ found line → line .present .lasting .jump ≡ true
         → JumpOff form mac key n i (line .present .identity .question) cs → ⊥
     unfolding lineage Given Sound JumpOff act
     setting-known [] g i k line s e on off = none-found line e
@@ -63,7 +63,7 @@ module _ (form : Form) where
             let a = both (eqb j i) _ (both (eqb j i && unrefused (r .number)) _ b .0) in
             let o = opening-setting mac (modules form mac key n cs j) q v jump out (a .1) in
             let t : r .station ≡ line .present = ap (λ (x : Lineage). x .present) (same-line _ line f) in
-            let one : jump ≡ 1 = o .1 (ap (λ (x : Station). x .jump) t ∙ on) in
+            let one : jump ≡ 1 = o .1 (ap (λ (x : Station). x .lasting .jump) t ∙ on) in
             let zero : jump ≡ 0 = off .0 (eqb-true j i (a .0)) (a .1) (sym (o .0) ∙ ap (λ (x : Station). x .identity .question) t) in
             omega arith
     setting-known (call j (gives o t ws coin out) ∷ cs) g i k line s e on off =
@@ -73,14 +73,14 @@ module _ (form : Form) where
         r : Returned
         r = answer form mac key n cs (call j (gives o t ws coin out))
 
-        here : ((x : Lineage) → lineage form mac key n cs i o ≡ found x → x .present .jump ≡ true → JumpOff form mac key n i (x .present .identity .question) cs → ⊥)
+        here : ((x : Lineage) → lineage form mac key n cs i o ≡ found x → x .present .lasting .jump ≡ true → JumpOff form mac key n i (x .present .identity .question) cs → ⊥)
             → (eqb j i && unrefused (r .number) && eqb o k) ≡ true → gave form r ws (lineage form mac key n cs i k) ≡ found line → ⊥
         here known b f =
             let a = both (eqb j i) _ (both (eqb j i && unrefused (r .number)) _ b .0) in
             let p : Presents form mac key n cs i o t = s .0 (eqb-true j i (a .0)) (a .1) in
             let kept = setting-kept form mac (modules form mac key n cs j) t ws coin out (g .1 .0 .0) in
             let now : line .present ≡ r .station = gave-is r ws (lineage form mac key n cs i k) line f in
-            known (p .line) (p .is) (ap (λ (x : Station). x .jump) (p .now) ∙ kept .1 (sym (ap (λ (x : Station). x .jump) now) ∙ on))
+            known (p .line) (p .is) (ap (λ (x : Station). x .lasting .jump) (p .now) ∙ kept .1 (sym (ap (λ (x : Station). x .lasting .jump) now) ∙ on))
             (subst (λ (q : ℕ). JumpOff form mac key n i q cs)
             (ap (λ (x : Station). x .identity .question) now ∙ kept .0 ∙ sym (ap (λ (x : Station). x .identity .question) (p .now))) (off .1))
     setting-known (call j (codes ws) ∷ cs) g i k line s e on off = setting-known cs (g .1 .1) i k line (s .1) e on (off .1)

@@ -22,6 +22,7 @@ use Rattle.station.specs.Machine.{stage-step, has-value, began, supplies-for-va
 use Rattle.station.specs.Laws.Sane.{Sane}
 use Rattle.station.specs.Laws.Keep.{all-take}
 use Rattle.station.specs.Written.{backed-given}
+use Rattle.station.specs.declared.Lasting.{Lasting}
 use Rattle.agreement.specs.Maths.Safe.{Just}
 use Rattle.agreement.specs.Maths.Just.{bare, Coded, backed-just, just-more, coded-more}
 use Rattle.agreement.specs.Maths.Took.{NowHeld, votes-held, number-few, enough-before, enough-after}
@@ -34,12 +35,12 @@ pub few-votes : (n q : ℕ) (held took : List Statement) (σ v r : ℕ) → NowH
 few-votes n q held took σ v r now few e enough =
     omega (arith, votes-held q r v held took n (subst (λ (z : ℕ). NowHeld z held took) e now), number-few (has-value v) held)
 
-module _ (form : Form) (n number q : ℕ) (jump : Bool) (l : List Statement) (g : Stage) (d : ℕ) (s : Statement) (c took : List Statement) (big : least-stations ≤ n) (low : 1 ≤ s .station) (high : s .station ≤ n)
+module _ (form : Form) (n number q : ℕ) (lasting : Lasting) (l : List Statement) (g : Stage) (s : Statement) (c took : List Statement) (big : least-stations ≤ n) (low : 1 ≤ s .station) (high : s .station ≤ n)
     (on : s .question ≡ q) (s-step : step s ≡ stage-step g) (before : ℕ) (up : before < stage-step g) (upto : All (λ y. step y ≤ before) took)
     (facts : All (λ y. Coded n l y × Just n l y) took) (asked : All (λ y. y .question ≡ q) took) (c-coded : All (Coded n l) c) (c-asked : All (λ y. y .question ≡ q) c) (s-backed : Backed n s c)
-    (d-low : d ≤ none) (named : (v : ℕ) → v < none → d ≡ v → Enough n took q v)
-    (names : (v r : ℕ) → v < none → quorum n ≤ count (votes took q r v) n → d < none)
-    (sane : Sane form n number (began n q jump g d s c)) where
+    (d-low : lasting .decision ≤ none) (named : (v : ℕ) → v < none → lasting .decision ≡ v → Enough n took q v)
+    (names : (v r : ℕ) → v < none → quorum n ≤ count (votes took q r v) n → lasting .decision < none)
+    (sane : Sane form n number (began n q lasting g s c)) where
   abbrev l2 : List Statement
   l2 = bare s ∷ l
 
@@ -66,14 +67,14 @@ module _ (form : Form) (n number q : ℕ) (jump : Bool) (l : List Statement) (g 
     all-map (λ y f e. absurd (omega (arith, up))) took upto,
   )
 
-  names2 : (v r : ℕ) → v < none → quorum n ≤ count (votes took2 q r v) n → d < none
+  names2 : (v r : ℕ) → v < none → quorum n ≤ count (votes took2 q r v) n → lasting .decision < none
   names2 v r low enough = go (eqb (stage-step g) (2 * r + 1)) refl
     where
-      go : (b : Bool) → eqb (stage-step g) (2 * r + 1) ≡ b → d < none
+      go : (b : Bool) → eqb (stage-step g) (2 * r + 1) ≡ b → lasting .decision < none
       go true e = absurd (few-votes n q (s ∷ []) took2 (stage-step g) v r now2 (omega arith) (eqb-true _ _ e) enough)
       go false e = names v r low (enough-before q r v n (quorum n) s took (λ z. eqb-false (stage-step g) (2 * r + 1) e (sym s-step ∙ z)) enough)
 
-  named2 : (v : ℕ) → v < none → d ≡ v → Enough n took2 q v
+  named2 : (v : ℕ) → v < none → lasting .decision ≡ v → Enough n took2 q v
   named2 v low e = let E = named v low e in record { round = E .round; enough = enough-after q (E .round) v n (quorum n) s took (E .enough) }
 
   kept2 : (b : Bool) → All (Coded n l2) (pick b (take (quorum n) c) [])
@@ -81,7 +82,7 @@ module _ (form : Form) (n number q : ℕ) (jump : Bool) (l : List Statement) (g 
   kept2 true = all-take (Coded n l2) (quorum n) c (all-map (coded-more n (bare s) l) c c-coded)
   kept2 false = tt
 
-  pub entered-standing : Standing form n l2 number (began n q jump g d s c) took2
+  pub entered-standing : Standing form n l2 number (began n q lasting g s c) took2
   entered-standing =
       record {
         facts = facts2;

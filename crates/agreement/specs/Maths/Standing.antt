@@ -36,9 +36,9 @@ module _ (form : Form) (n : ℕ) where
   pub record Standing (l : List Statement) (number : ℕ) (u : State) (took : List Statement) : Type 0 where
     pub facts : All (λ s. Coded n l s × Just n l s) took
     pub asked : All (λ s. s .question ≡ u .question) took
-    pub low : u .decision ≤ none
-    pub named : (v : ℕ) → v < none → u .decision ≡ v → Enough n took (u .question) v
-    pub names : (v r : ℕ) → v < none → quorum n ≤ count (votes took (u .question) r v) n → u .decision < none
+    pub low : u .lasting .decision ≤ none
+    pub named : (v : ℕ) → v < none → u .lasting .decision ≡ v → Enough n took (u .question) v
+    pub names : (v r : ℕ) → v < none → quorum n ≤ count (votes took (u .question) r v) n → u .lasting .decision < none
     pub while-open : u .closed ≡ false → Open l number u took
 
   -- it stays so as the log grows

@@ -22,7 +22,7 @@ use Rattle.rules.specs.declared.Which.the-variants.{Any, Only}
 use Rattle.certificate.specs.Check.{every}
 use Rattle.station.specs.declared.Stage.{Stage}
 use Rattle.station.specs.declared.Stage.the-variants.{Gathering, Proposing, Voting}
-use Rattle.station.specs.Machine.{State, stage-step, kind-in, round-in, has-value, decided, decision-at, closes, follows, Next, began, takes, supplies-for-value, supplies-for-none, vote-value, carried, keeping, held-of, conflict, value-group}
+use Rattle.station.specs.Machine.{State, stage-step, kind-in, round-in, has-value, decided, decision-at, closes, follows, Next, began, takes, supplies-for-value, supplies-for-none, vote-value, carried, keeping, held-of, conflict, value-group, with-decision}
 use Rattle.station.specs.Laws.Insert.{insert-all, some-insert}
 use Rattle.station.specs.Laws.Sane.{Sane}
 use Rattle.station.specs.Laws.Keep.{Fitting, keep-sane, all-take, steps-P, steps-V, steps-0}
@@ -75,7 +75,7 @@ module _ (form : Form) (n number : ℕ) (l : List Statement) (u : State) (took :
   k = keeping n u m c
 
   abbrev decided-then : ℕ
-  decided-then = decision-at (u .stage) (u .decision) (k .held)
+  decided-then = decision-at (u .stage) (u .lasting .decision) (k .held)
 
   abbrev took1 : List Statement
   took1 = m ∷ took
@@ -129,21 +129,21 @@ module _ (form : Form) (n number : ℕ) (l : List Statement) (u : State) (took :
         ∙ right (has-value (s .value) m && eqb (m .station) (s .station)) _ (f e)) took (O .now-held),
   )
 
-  named1 : (v : ℕ) → v < none → u .decision ≡ v → Enough n took1 (u .question) v
+  named1 : (v : ℕ) → v < none → u .lasting .decision ≡ v → Enough n took1 (u .question) v
   named1 v low e =
       let E = K .named v low e in
       record { round = E .round; enough = enough-after (u .question) (E .round) v n (quorum n) m took (E .enough) }
 
   -- enough votes of another step were there before
-  names-before : (v r : ℕ) → v < none → (stage-step (u .stage) ≡ 2 * r + 1 → ⊥) → quorum n ≤ count (votes took1 (u .question) r v) n → u .decision < none
+  names-before : (v r : ℕ) → v < none → (stage-step (u .stage) ≡ 2 * r + 1 → ⊥) → quorum n ≤ count (votes took1 (u .question) r v) n → u .lasting .decision < none
   names-before v r low ne enough =
       K .names v r low (enough-before (u .question) r v n (quorum n) m took (λ e. ne (sym main-step ∙ e)) enough)
 
   -- ---- kept
-  names-kept : length (k .held) < quorum n → (v r : ℕ) → v < none → quorum n ≤ count (votes took1 (u .question) r v) n → u .decision < none
+  names-kept : length (k .held) < quorum n → (v r : ℕ) → v < none → quorum n ≤ count (votes took1 (u .question) r v) n → u .lasting .decision < none
   names-kept few v r low enough = go (eqb (stage-step (u .stage)) (2 * r + 1)) refl
     where
-      go : (b : Bool) → eqb (stage-step (u .stage)) (2 * r + 1) ≡ b → u .decision < none
+      go : (b : Bool) → eqb (stage-step (u .stage)) (2 * r + 1) ≡ b → u .lasting .decision < none
       go true e = absurd (few-votes n (u .question) (k .held) took1 (stage-step (u .stage)) v r now1 few (eqb-true _ _ e) enough)
       go false e = names-before v r low (eqb-false _ _ e) enough
 
@@ -182,11 +182,11 @@ module _ (form : Form) (n number : ℕ) (l : List Statement) (u : State) (took :
         (omega (arith, size, votes-held (u .question) r v (k .held) took1 n (subst (λ (z : ℕ). NowHeld z (k .held) took1) e now1)))
 
     -- what is decided first, or was before
-    decided-first : (r v : ℕ) → v < none → every (has-value v) (k .held) ≡ true → decision-at (Voting (record { 0 = r })) (u .decision) (k .held) < none
+    decided-first : (r v : ℕ) → v < none → every (has-value v) (k .held) ≡ true → decision-at (Voting (record { 0 = r })) (u .lasting .decision) (k .held) < none
     unfolding pick
-    decided-first r v low all = go (ltb (u .decision) none) refl
+    decided-first r v low all = go (ltb (u .lasting .decision) none) refl
       where
-        go : (b : Bool) → ltb (u .decision) none ≡ b → pick b (u .decision) (decided (k .held)) < none
+        go : (b : Bool) → ltb (u .lasting .decision) none ≡ b → pick b (u .lasting .decision) (decided (k .held)) < none
         go true x = ltb-true _ _ x
         go false x = every-decided (k .held) v low all
 
@@ -196,10 +196,10 @@ module _ (form : Form) (n number : ℕ) (l : List Statement) (u : State) (took :
         go : (b : Bool) → eqb (stage-step (u .stage)) (2 * r + 1) ≡ b → decided-then < none
         go true e =
             let x = eqb-true (stage-step (u .stage)) (2 * r + 1) e in
-            subst (λ (g : Stage). decision-at g (u .decision) (k .held) < none) (sym (voting-of (u .stage) r x .is)) (decided-first r v low (every-held v r x enough))
+            subst (λ (g : Stage). decision-at g (u .lasting .decision) (k .held) < none) (sym (voting-of (u .stage) r x .is)) (decided-first r v low (every-held v r x enough))
         go false e =
-            let y : u .decision < none = names-before v r low (eqb-false _ _ e) enough in
-            subst (λ (d : ℕ). d < none) (sym (kept-decision (u .stage) (u .decision) (k .held) y)) y
+            let y : u .lasting .decision < none = names-before v r low (eqb-false _ _ e) enough in
+            subst (λ (d : ℕ). d < none) (sym (kept-decision (u .stage) (u .lasting .decision) (k .held) y)) y
 
     -- a decision is what q votes said
     voted-enough : (r v : ℕ) → u .stage ≡ Voting (record { 0 = r }) → every (has-value v) (k .held) ≡ true → Enough n took1 (u .question) v
@@ -221,20 +221,20 @@ module _ (form : Form) (n number : ℕ) (l : List Statement) (u : State) (took :
     unfolding pick
     named-ended v low e = go (u .stage) refl e
       where
-        counted : (r : ℕ) → u .stage ≡ Voting (record { 0 = r }) → (b : Bool) → ltb (u .decision) none ≡ b → pick b (u .decision) (decided (k .held)) ≡ v → Enough n took1 (u .question) v
+        counted : (r : ℕ) → u .stage ≡ Voting (record { 0 = r }) → (b : Bool) → ltb (u .lasting .decision) none ≡ b → pick b (u .lasting .decision) (decided (k .held)) ≡ v → Enough n took1 (u .question) v
         counted r g true x y = named1 v low y
         counted r g false x y = voted-enough r v g (decided-every (k .held) v y low)
 
-        go : (g : Stage) → u .stage ≡ g → decision-at g (u .decision) (k .held) ≡ v → Enough n took1 (u .question) v
+        go : (g : Stage) → u .stage ≡ g → decision-at g (u .lasting .decision) (k .held) ≡ v → Enough n took1 (u .question) v
         go Gathering g y = named1 v low y
         go (Proposing r f) g y = named1 v low y
-        go (Voting r) g y = counted (r .0) g (ltb (u .decision) none) refl y
+        go (Voting r) g y = counted (r .0) g (ltb (u .lasting .decision) none) refl y
 
     low-ended : decided-then ≤ none
-    low-ended = decision-low (u .stage) (u .decision) (k .held) (K .low)
+    low-ended = decision-low (u .stage) (u .lasting .decision) (k .held) (K .low)
 
     -- closed
-    pub shut-standing : (v : State) → v .question ≡ u .question → v .closed ≡ true → v .decision ≡ decided-then → Standing form n l number v took1
+    pub shut-standing : (v : State) → v .question ≡ u .question → v .closed ≡ true → v .lasting .decision ≡ decided-then → Standing form n l number v took1
     shut-standing v q closed d =
         record {
           facts = facts1;
@@ -326,15 +326,15 @@ module _ (form : Form) (n number : ℕ) (l : List Statement) (u : State) (took :
       unfolding step
       s-step = λ i. Rattle.format.specs.Words.step-of ((kind≡ ∙ R .kind) i) ((round≡ ∙ R .round) i)
 
-      sent-sane : Sane form n number (began n (u .question) (u .jump) (x .stage) decided-then s c2)
+      sent-sane : Sane form n number (began n (u .question) (with-decision decided-then (u .lasting)) (x .stage) s c2)
       sent-sane =
-          began-sane form n number (u .question) decided-then (u .jump) (x .stage) s c2 big p mine low on s-step (R .rounds) (R .flag s flag≡) low-ended
+          began-sane form n number (u .question) (with-decision decided-then (u .lasting)) (x .stage) s c2 big p mine low on s-step (R .rounds) (R .flag s flag≡) low-ended
           (all-append (Proper form n) (x .first) (x .second) (R .proper) (R .more-proper)) c2-asked
           (λ e. subst (λ (c : List Statement). Holds (value-group n (x .stage) (s .value)) c) (sym (R .front))
           (subst (λ (v : ℕ). Holds (value-group n (x .stage) v) (x .first)) (sym value≡) (R .for-value s value≡ flag≡ e)))
           (λ e. subst (λ (c : List Statement). Holds (none-votes n (round-in (x .stage) - 1)) c) (sym (R .front)) (R .for-none s value≡ flag≡ e))
 
-      pub sent-standing : Standing form n (bare s ∷ l) number (began n (u .question) (u .jump) (x .stage) decided-then s c2) (s ∷ took1)
+      pub sent-standing : Standing form n (bare s ∷ l) number (began n (u .question) (with-decision decided-then (u .lasting)) (x .stage) s c2) (s ∷ took1)
       sent-standing =
-          entered-standing form n number (u .question) (u .jump) l (x .stage) decided-then s c2 took1 big low high on s-step (stage-step (u .stage)) (steps-up n (u .stage) k coin) upto1 facts1 asked1 c2-coded c2-asked
+          entered-standing form n number (u .question) (with-decision decided-then (u .lasting)) l (x .stage) s c2 took1 big low high on s-step (stage-step (u .stage)) (steps-up n (u .stage) k coin) upto1 facts1 asked1 c2-coded c2-asked
           s-backed low-ended named-ended names-ended sent-sane

@@ -1,15 +1,21 @@
 -- The last round closes the station; any other goes on.
+use mathlib.Core.Bool.{true}
+use mathlib.Core.Path.{ap, _∙_}
+use Rattle.station.specs.Present.{empty-station}
 use Rattle.giving.specs.Gives.{shut-words}
 use Rattle.giving.specs.Laws.Found.{answers-none, ends-closed, ends-on}
 use borrow.Author.Needs.{needs}
 use Rattle.giving.proofs.end_step.Statement.{statement}
 use Rattle.giving.proofs.end_step.Tie as tie
 
-decision-after-requires : tie.Need-decision-after-requires
-decision-after-requires c κs = search needs
+lasting-after-requires : tie.Need-lasting-after-requires
+lasting-after-requires c κs = search needs
 
 closes-requires : tie.Need-closes-requires
 closes-requires c κs = search needs
+
+jump-off-requires : tie.Need-jump-off-requires
+jump-off-requires c κs = search needs
 
 empty-requires : tie.Need-empty-requires
 empty-requires c κs = search needs
@@ -20,11 +26,11 @@ no-bundle-requires c κs = search needs
 returns : tie.Need-returns
 unfolding shut-words
 returns c =
-    let i = c .before .before .before in
+    let i = c .before .before .before .before in
     let d = i .before .before in
-    let a = d .before .before .before .before .before .args in
+    let a = d .before .before .before .before .before .before .args in
     answers-none _ _ _ _ _ _ (c .no-bundle .ensures)
-    (ends-closed (a .m) (a .k) (a .coin) (a .out .now) _ _ _ (d .decision-after .ensures) (i .before .closes .ensures) (i .if1 .taken) (c .before .empty .ensures))
+    (ends-closed (a .m) (a .k) (a .coin) (a .out .now) _ _ _ (d .lasting-after .ensures) (i .before .closes .ensures) (i .if1 .taken) (c .before .empty .ensures ∙ ap (empty-station (a .k .identity) (a .k .stage) true) (c .before .before .jump-off .ensures)))
 
 next-requires : tie.Need-next-requires
 next-requires c κs = search needs
@@ -41,15 +47,16 @@ returns-2 c =
     let x = g .before .before in
     let i = x .before .before in
     let d = i .before .before in
-    let a = d .before .before .before .before .before .args in
-    ends-on (a .m) (a .k) (a .coin) (a .out .now) _ _ _ _ _ _ _ _ (d .decision-after .ensures) (i .before .closes .ensures) (i .if1 .left) (x .next .ensures) (g .go-on .ensures)
+    let a = d .before .before .before .before .before .before .args in
+    ends-on (a .m) (a .k) (a .coin) (a .out .now) _ _ _ _ _ _ _ _ (d .lasting-after .ensures) (i .before .closes .ensures) (i .if1 .left) (x .next .ensures) (g .go-on .ensures)
 
 pub end-step-spec : {M : Type 1} → statement M
 end-step-spec =
     tie.close
     (tie.spec
-    decision-after-requires
+    lasting-after-requires
     closes-requires
+    jump-off-requires
     empty-requires
     no-bundle-requires
     returns

@@ -13,7 +13,7 @@ use Rattle.giving.proofs.give.Tie as tie
 -- the parameter's arrays have their declared lengths
 lengths : (s : tie.Start) → Lengths (s .args .t)
 lengths s =
-    let f = s .good .1 .0 .1 .1 .1 .1 .1 .1 .1 in
+    let f = s .good .1 .0 .1 .1 .1 .1 .1 .1 in
     let held = f .0 in
     let groups = f .1 .0 in
     record {
@@ -25,7 +25,7 @@ lengths s =
 -- and words of 32 bits
 low-words : (s : tie.Start) → LowWords (s .args .t)
 low-words s =
-    let f = s .good .1 .0 .1 .1 .1 .1 .1 .1 .1 in
+    let f = s .good .1 .0 .1 .1 .1 .1 .1 .1 in
     let held = f .0 in
     let groups = f .1 .0 in
     record {
@@ -68,11 +68,11 @@ returns-2 c =
     let b = i .before in
     let f = b .before in
     let w = f .before in
-    let e = w .before .before in
+    let e = w .before .before .before in
     let s = e .before .before .before in
     let a = s .args in
     give-jump (a .m) (a .t) (a .ws .now) (a .coin) (a .out .now) (lengths s) (λ i. e .before .before .shared-slice-known .given i .fits) _ _ _ _ _
-    (none-found (a .m) (a .t) (a .ws .now) (a .coin) (a .out .now) _ (e .refusal .ensures) (w .before .if1 .left))
+    (none-found (a .m) (a .t) (a .ws .now) (a .coin) (a .out .now) _ (e .refusal .ensures) (w .before .before .if1 .left))
     (sym (jumps-found (a .m) (a .t) (a .ws .now) (a .coin) (a .out .now) _ _ _ (w .word-at .ensures) (f .read-fields .ensures) (b .jumps .ensures)) ∙ i .if2 .taken)
     (j .jump-on .ensures) (λ i. c .slice-known2 .given i .fits)
 
@@ -95,12 +95,12 @@ returns-3 c =
     let b = i .before in
     let f = b .before in
     let w = f .before in
-    let e = w .before .before in
+    let e = w .before .before .before in
     let s = e .before .before .before in
     let a = s .args in
     answers-none _ _ _ _ _ _ (c .no-bundle2 .ensures)
     (give-12 (a .m) (a .t) (a .ws .now) (a .coin) (a .out .now) (lengths s) (low-words s) (λ i. e .before .before .shared-slice-known .given i .fits) _ _ _ _ _ _
-    (none-found (a .m) (a .t) (a .ws .now) (a .coin) (a .out .now) _ (e .refusal .ensures) (w .before .if1 .left))
+    (none-found (a .m) (a .t) (a .ws .now) (a .coin) (a .out .now) _ (e .refusal .ensures) (w .before .before .if1 .left))
     (sym (jumps-found (a .m) (a .t) (a .ws .now) (a .coin) (a .out .now) _ _ _ (w .word-at .ensures) (f .read-fields .ensures) (b .jumps .ensures)) ∙ i .if2 .left)
     (k .keep .ensures) (c .before .before .before .before .before .taken .ensures) (λ i. c .before .before .before .slice-known3 .given i .fits) (c .before .if3 .taken))
 
@@ -114,11 +114,11 @@ returns-4 c =
     let b = i .before in
     let f = b .before in
     let w = f .before in
-    let e = w .before .before in
+    let e = w .before .before .before in
     let s = e .before .before .before in
     let a = s .args in
     give-after (a .m) (a .t) (a .ws .now) (a .coin) (a .out .now) (lengths s) (low-words s) (λ i. e .before .before .shared-slice-known .given i .fits) _ _ _ _ _ _
-    (none-found (a .m) (a .t) (a .ws .now) (a .coin) (a .out .now) _ (e .refusal .ensures) (w .before .if1 .left))
+    (none-found (a .m) (a .t) (a .ws .now) (a .coin) (a .out .now) _ (e .refusal .ensures) (w .before .before .if1 .left))
     (sym (jumps-found (a .m) (a .t) (a .ws .now) (a .coin) (a .out .now) _ _ _ (w .word-at .ensures) (f .read-fields .ensures) (b .jumps .ensures)) ∙ i .if2 .left)
     (k .keep .ensures) (c .before .before .before .before .taken .ensures) (λ i. c .before .before .slice-known3 .given i .fits) (c .if3 .left)
 

@@ -10,8 +10,9 @@ use Rattle.format.specs.Numbers.{closed-now, kept}
 use Rattle.format.specs.Group.{quorum}
 use Rattle.format.specs.Present.{last-round}
 use Rattle.modules.specs.declared.Module.{Module}
+use Rattle.station.specs.declared.Lasting.{Lasting}
 use Rattle.station.specs.declared.Station.{Station}
-use Rattle.station.specs.Machine.{closes, decision-at}
+use Rattle.station.specs.Machine.{closes, lasting-at}
 use Rattle.station.specs.Calls.{Returned}
 use Rattle.station.specs.Answers.{Answers}
 use Rattle.station.specs.Present.{held-by}
@@ -29,20 +30,20 @@ answers-none y r number t m lent e a = subst (λ (z : Given). Answers y (z .numb
 
 -- the end of a step
 module _ (m : Module) (k : Station) (coin : ℕ) (out : List ℕ) where
-  pub ends-closed : (d : ℕ) (t : Station) (b : Bool) → d ≡ decision-at (k .stage) (k .decision) (held-by k) → b ≡ closes last-round (k .stage) → b ≡ true → t ≡ shut-words k d
+  pub ends-closed : (l : Lasting) (t : Station) (b : Bool) → l ≡ lasting-at (k .stage) (k .lasting) (held-by k) → b ≡ closes last-round (k .stage) → b ≡ true → t ≡ shut-words k l
       → Answers (ending-words m k coin out) closed-now 0 t m out
   unfolding ending-words
-  ends-closed d t b ed eb h et =
+  ends-closed l t b el eb h et =
       answers-by (with-no-bundle closed-now t m out) (ending-words m k coin out)
-      (ap (λ (y : Station). with-no-bundle closed-now y m out) (et ∙ ap (shut-words k) ed) ∙ here _ _ _ (sym eb ∙ h))
+      (ap (λ (y : Station). with-no-bundle closed-now y m out) (et ∙ ap (shut-words k) el) ∙ here _ _ _ (sym eb ∙ h))
 
-  pub ends-on : (d : ℕ) (x : Following) (b : Bool) (number count : ℕ) (t : Station) (after : Module) (xs : List ℕ) → d ≡ decision-at (k .stage) (k .decision) (held-by k)
-      → b ≡ closes last-round (k .stage) → b ≡ false → x ≡ next-by (m .n) (k .stage) (k .held .heard) (k .held .slots) coin → Answers (moving m k x d out) number count t after xs
+  pub ends-on : (l : Lasting) (x : Following) (b : Bool) (number count : ℕ) (t : Station) (after : Module) (xs : List ℕ) → l ≡ lasting-at (k .stage) (k .lasting) (held-by k)
+      → b ≡ closes last-round (k .stage) → b ≡ false → x ≡ next-by (m .n) (k .stage) (k .held .heard) (k .held .slots) coin → Answers (moving m k x l out) number count t after xs
       → Answers (ending-words m k coin out) number count t after xs
   unfolding ending-words
-  ends-on d x b number count t after xs ed eb h ex a =
-      answers-same (moving m k x d out) (ending-words m k coin out) number count t after xs
-      ((λ i. moving m k (ex i) (ed i) out) ∙ skip _ _ _ _ (sym eb ∙ h) refl) a
+  ends-on l x b number count t after xs el eb h ex a =
+      answers-same (moving m k x l out) (ending-words m k coin out) number count t after xs
+      ((λ i. moving m k (ex i) (el i) out) ∙ skip _ _ _ _ (sym eb ∙ h) refl) a
 
   pub taken-kept : (c q : ℕ) → c ≡ ones (k .held .heard) → q ≡ quorum (m .n) → c < q → Answers (after-words m k coin out) kept 0 k m out
   unfolding after-words

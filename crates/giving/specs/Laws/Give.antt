@@ -20,12 +20,13 @@ use Rattle.hmac.specs.Code.{hmac-code}
 use Rattle.modules.specs.declared.Module.{Module}
 use Rattle.modules.specs.Counter.{above, last-for}
 use Rattle.station.specs.declared.Station.{Station}
-use Rattle.station.specs.Machine.{refused, taken, jumps, entered, answered, closes, decision-at}
+use Rattle.station.specs.Machine.{refused, taken, jumps, entered, answered, closes, lasting-at}
 use Rattle.station.specs.Present as W
 use Rattle.station.specs.Calls.{Returned}
 use Rattle.station.specs.Answers.{Answers}
 use Rattle.station.specs.Laws.Views.{Accepted, accepted, jumping as makes-jump, after}
 use Rattle.station.specs.Present.{held-by, state-of, returned, give-tests, giving, Lengths}
+use Rattle.station.specs.declared.Lasting.{Lasting}
 use Rattle.refusal.specs.Refusal.{first-refusal, first-refusal-by-length, jumps-by, jumps-is}
 use Rattle.laws.specs.Below.{Below}
 use Rattle.keeping.specs.Laws.One.{LowWords}
@@ -56,7 +57,7 @@ module _ (m : Module) (t : Station) (ws : List ℕ) (coin : ℕ) (out : List ℕ
   none-found k e z = sym (first-refusal-by-length m t ws coin out) ∙ sym e ∙ z
 
   -- whether it jumps, as the code finds it
-  pub jumps-found : (w : ℕ) (f : Fields) (b : Bool) → w ≡ getD ws 1 0 → f ≡ fields-of w → b ≡ jumps-by (t .stage) (t .jump) f → b ≡ jumps (state-of t) (main-of ws)
+  pub jumps-found : (w : ℕ) (f : Fields) (b : Bool) → w ≡ getD ws 1 0 → f ≡ fields-of w → b ≡ jumps-by (t .stage) (t .lasting .jump) f → b ≡ jumps (state-of t) (main-of ws)
   jumps-found w f b ew ef eb = eb ∙ jumps-is t ws f (ef ∙ ap fields-of ew)
 
   pub give-jump : Lengths t → Below ws → (number count : ℕ) (u : Station) (after-m : Module) (xs : List ℕ) → first-failed (give-tests hmac-code m t ws coin out) ≡ 0
@@ -78,21 +79,21 @@ module _ (m : Module) (t : Station) (ws : List ℕ) (coin : ℕ) (out : List ℕ
       go (ltb (ones (k .held .heard)) (quorum (m .n))) (closes last-round (k .stage))
       (above (last-for m (k .identity .question)) (k .identity .question) (step-of (next-by (m .n) (k .stage) (k .held .heard) (k .held .slots) coin .kind) (next-by (m .n) (k .stage) (k .held .heard) (k .held .slots) coin .round .0)))
     where
-      d : ℕ
-      d = decision-at (k .stage) (k .decision) (held-by k)
+      l : Lasting
+      l = lasting-at (k .stage) (k .lasting) (held-by k)
 
       sends-it : Returned
       sends-it =
           let x = next-by (m .n) (k .stage) (k .held .heard) (k .held .slots) coin in
-          sending-words m k x (own-fields m (x .kind) (x .value) (x .flag) (x .round .0)) d out
+          sending-words m k x (own-fields m (x .kind) (x .value) (x .flag) (x .round .0)) l out
 
       all : Bool → Bool → Bool → Returned
-      all a b c = pick a (with-no-bundle kept k m out) (pick b (with-no-bundle closed-now (shut-words k d) m out) (pick c sends-it (with-no-bundle not-above k m out)))
+      all a b c = pick a (with-no-bundle kept k m out) (pick b (with-no-bundle closed-now (shut-words k l) m out) (pick c sends-it (with-no-bundle not-above k m out)))
 
       go : (a b c : Bool) → all a b c .number ≡ not-above → all a b c .lent ≡ out
       go true b c e = refl
       go false true c e = refl
-      go false false true e = never (eqb (pick (ltb (k .decision) none || eqb d none) sent sent-decided) not-above) (not-12 (ltb (k .decision) none || eqb d none)) (eq-eqb _ _ e)
+      go false false true e = never (eqb (pick (ltb (k .lasting .decision) none || eqb (l .decision) none) sent sent-decided) not-above) (not-12 (ltb (k .lasting .decision) none || eqb (l .decision) none)) (eq-eqb _ _ e)
       go false false false e = refl
 
   module _ (L : Lengths t) (A : LowWords t) (low : Below ws) (number count : ℕ) (u kk : Station) (after-m : Module) (xs : List ℕ)

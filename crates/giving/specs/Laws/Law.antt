@@ -36,6 +36,7 @@ use Rattle.station.specs.Laws.Slots.{held-back}
 use Rattle.station.specs.Laws.Sane.{InRounds, Kept}
 use Rattle.station.specs.Laws.End.{Full, Ready, kept-equal, kept-none, both-values}
 use Rattle.station.specs.Present.{sites, slots-of, group-words, held-in}
+use Rattle.station.specs.declared.Lasting.{Lasting}
 use Rattle.writer.specs.Laws.Bundle.{Certificate, all-held, some-held, kept-alone}
 use Rattle.laws.specs.Below.{Below}
 use Rattle.sending.specs.Sent.{sent-count, sent-lent, sent-bundle, sent-station, sent-after}
@@ -211,7 +212,7 @@ module _ (n : ℕ) (K : State) (top : n ≤ most-stations) (F : Full present-for
       from-votes (r .0) (i .0) (omega (arith, i .1, eqb-false (r .0) last-round goes)) coin R
 
 -- what is sent, by words and by the definition
-module _ (m : Module) (K : State) (top : m .n ≤ most-stations) (F : Full present-form (m .n) K) (d : ℕ) (out : List ℕ) (room : output-words ≤ length out) (X : Following) (x : Next)
+module _ (m : Module) (K : State) (top : m .n ≤ most-stations) (F : Full present-form (m .n) K) (l : Lasting) (out : List ℕ) (room : output-words ≤ length out) (X : Following) (x : Next)
     (ek : X .kind ≡ x .kind) (ev : X .value ≡ x .value) (ef : X .flag ≡ x .flag) (er : X .round .0 ≡ x .round) (es : X .stage ≡ x .stage)
     (C : Chosen (m .n) K top F X x) (p : Proper present-form (m .n) (own-statement m (K .question) (x .kind) (x .value) (x .flag) (x .round))) (fit : module-fits m ≡ true)
     (later : above (last-for m (K .question)) (K .question) (step (own-statement m (K .question) (x .kind) (x .value) (x .flag) (x .round))) ≡ true) where
@@ -227,14 +228,14 @@ module _ (m : Module) (K : State) (top : m .n ≤ most-stations) (F : Full prese
   abbrev by-definition : Returned
   by-definition =
       record {
-        number = answer (K .decision) d;
+        number = answer (K .lasting .decision) (l .decision);
         count = bundle-words (length (x .first ++ x .second));
-        station = W.as-station (m .n) (m .station) (began (m .n) (K .question) (K .jump) (x .stage) d s (x .first ++ x .second));
+        station = W.as-station (m .n) (m .station) (began (m .n) (K .question) l (x .stage) s (x .first ++ x .second));
         after = advanced m (K .question) (step s);
         lent = over (bundle-of s (x .first ++ x .second)) out;
       }
 
-  pub sending-is : Below (sending-words m k X f d out .lent) → sending-words m k X f d out ≡ by-definition
+  pub sending-is : Below (sending-words m k X f l out .lent) → sending-words m k X f l out ≡ by-definition
   unfolding sending-words Rattle.station.specs.Words.as-station
   sending-is low =
       let sl : List ℕ = slots-of (K .held) 1 sites in
@@ -245,16 +246,16 @@ module _ (m : Module) (K : State) (top : m .n ≤ most-stations) (F : Full prese
       = λ i. sent-lent m (K .question) (own-fields m (ek i) (ev i) (ef i) (er i)) (slots-of (K .held) 1 sites) (C .set i) (group-by (X .kept) (k .groups)) (C .size i) out in
       let count1 : sent-count (X .set) (count-by (X .kept) (m .n) (X .value)) out ≡ bundle-words (length (x .first ++ x .second))
       = (λ i. sent-count (C .set i) (C .size i) out)
-      ∙ count-is m (K .question) (x .kind) (x .value) (x .flag) (x .round) (K .jump) (x .stage) d (C .held) (C .more) (slots-of (K .held) 1 sites) (group-by (X .kept) (k .groups)) (C .made) (x .first ++ x .second) (C .same) out room p fit later in
-      let station1 : sent-station m (K .question) (K .jump) (X .stage) d (sent-bundle m (K .question) f (slots-of (K .held) 1 sites) (X .set) (group-by (X .kept) (k .groups)) (count-by (X .kept) (m .n) (X .value)) out)
-      ≡ W.as-station (m .n) (m .station) (began (m .n) (K .question) (K .jump) (x .stage) d s (x .first ++ x .second))
-      = (λ i. sent-station m (K .question) (K .jump) (es i) d (sent-bundle m (K .question) (own-fields m (ek i) (ev i) (ef i) (er i)) (slots-of (K .held) 1 sites) (C .set i) (group-by (X .kept) (k .groups)) (C .size i) out))
-      ∙ station-is m (K .question) (x .kind) (x .value) (x .flag) (x .round) (K .jump) (x .stage) d (C .held) (C .more) (slots-of (K .held) 1 sites) (group-by (X .kept) (k .groups)) (C .made) (x .first ++ x .second) (C .same) out room p fit later
+      ∙ count-is m (K .question) (x .kind) (x .value) (x .flag) (x .round) l (x .stage) (C .held) (C .more) (slots-of (K .held) 1 sites) (group-by (X .kept) (k .groups)) (C .made) (x .first ++ x .second) (C .same) out room p fit later in
+      let station1 : sent-station m (K .question) l (X .stage) (sent-bundle m (K .question) f (slots-of (K .held) 1 sites) (X .set) (group-by (X .kept) (k .groups)) (count-by (X .kept) (m .n) (X .value)) out)
+      ≡ W.as-station (m .n) (m .station) (began (m .n) (K .question) l (x .stage) s (x .first ++ x .second))
+      = (λ i. sent-station m (K .question) l (es i) (sent-bundle m (K .question) (own-fields m (ek i) (ev i) (ef i) (er i)) (slots-of (K .held) 1 sites) (C .set i) (group-by (X .kept) (k .groups)) (C .size i) out))
+      ∙ station-is m (K .question) (x .kind) (x .value) (x .flag) (x .round) l (x .stage) (C .held) (C .more) (slots-of (K .held) 1 sites) (group-by (X .kept) (k .groups)) (C .made) (x .first ++ x .second) (C .same) out room p fit later
       (subst Below lent0 low) in
       let after1 : sent-after m (K .question) f (slots-of (K .held) 1 sites) (X .set) (group-by (X .kept) (k .groups)) (count-by (X .kept) (m .n) (X .value)) out
       ≡ advanced m (K .question) (step s)
       = (λ i. sent-after m (K .question) (own-fields m (ek i) (ev i) (ef i) (er i)) (slots-of (K .held) 1 sites) (C .set i) (group-by (X .kept) (k .groups)) (C .size i) out)
-      ∙ after-is m (K .question) (x .kind) (x .value) (x .flag) (x .round) (K .jump) (x .stage) d (C .held) (C .more) (slots-of (K .held) 1 sites) (group-by (X .kept) (k .groups)) (C .made) (x .first ++ x .second) (C .same) out room p fit later in
+      ∙ after-is m (K .question) (x .kind) (x .value) (x .flag) (x .round) l (x .stage) (C .held) (C .more) (slots-of (K .held) 1 sites) (group-by (X .kept) (k .groups)) (C .made) (x .first ++ x .second) (C .same) out room p fit later in
       let lent1 = lent0
-      ∙ lent-is m (K .question) (x .kind) (x .value) (x .flag) (x .round) (K .jump) (x .stage) d (C .held) (C .more) (slots-of (K .held) 1 sites) (group-by (X .kept) (k .groups)) (C .made) (x .first ++ x .second) (C .same) out room p fit later in
-      λ i. record { number = answer (K .decision) d; count = count1 i; station = station1 i; after = after1 i; lent = lent1 i }
+      ∙ lent-is m (K .question) (x .kind) (x .value) (x .flag) (x .round) l (x .stage) (C .held) (C .more) (slots-of (K .held) 1 sites) (group-by (X .kept) (k .groups)) (C .made) (x .first ++ x .second) (C .same) out room p fit later in
+      λ i. record { number = answer (K .lasting .decision) (l .decision); count = count1 i; station = station1 i; after = after1 i; lent = lent1 i }

@@ -23,7 +23,7 @@ use Rattle.modules.specs.Counter.{above, last-for}
 use Rattle.station.specs.declared.Stage.{Stage}
 use Rattle.station.specs.declared.Stage.the-variants.{Gathering, Proposing, Voting}
 use Rattle.station.specs.declared.Station.{Station}
-use Rattle.station.specs.Machine.{State, Next, Outcome, refused, keeps, sends, began, moved, shut, ended, taken, jumps, entered, answered, follows, closes, decision-at, round-in}
+use Rattle.station.specs.Machine.{State, Next, Outcome, refused, keeps, sends, began, moved, shut, ended, taken, jumps, entered, answered, follows, closes, lasting-at, round-in}
 use Rattle.station.specs.Words.{set-of}
 use Rattle.station.specs.Present as W
 use Rattle.station.specs.Calls.{Returned}
@@ -32,10 +32,11 @@ use Rattle.station.specs.Laws.Sane.{InRounds}
 use Rattle.station.specs.Laws.Keep.{Grown, grown}
 use Rattle.station.specs.Laws.Insert.{insert-length}
 use Rattle.station.specs.Laws.End.{Full, Ready}
-use Rattle.station.specs.Laws.Views.{Accepted, after, decision-then, sane-before, full-after}
+use Rattle.station.specs.Laws.Views.{Accepted, after, lasting-then, sane-before, full-after}
 use Rattle.station.specs.Laws.Fits.{next-ready, sent-proper}
 use Rattle.station.specs.Seal.{range-fits}
 use Rattle.station.specs.Present.{sites, slots-of, held-in, held-by, state-of, returned, give-tests, giving, Lengths}
+use Rattle.station.specs.declared.Lasting.{Lasting}
 use Rattle.laws.specs.Below.{Below}
 use Rattle.sending.specs.Sends.{own-fields, own-statement}
 use Rattle.ending.specs.declared.Following.{Following}
@@ -82,12 +83,12 @@ module _ (m : Module) (t : Station) (ws : List ℕ) (coin : ℕ) (out : List ℕ
   back = held-back present-form (m .n) (K .held) (A .range .at-most) (G .rising) (G .proper)
 
   -- the step goes on
-  goes-on : length (K .held) ≡ quorum (m .n) → closes last-round (t .stage) ≡ false → (d : ℕ) → d ≡ decision-then present-form hmac-code m t ws coin out
-      → Below (moving m k (next-by (m .n) (K .stage) (set-of (K .held)) (slots-of (K .held) 1 sites) coin) d out .lent)
-      → returned m t out (moved (statement-code (hmac-code (m .key))) last-round (m .n) (m .station) (last-for m (t .identity .question)) K (follows (m .n) (K .stage) K coin) d)
-      ≡ or-as-was m t out (moving m k (next-by (m .n) (K .stage) (set-of (K .held)) (slots-of (K .held) 1 sites) coin) d out)
+  goes-on : length (K .held) ≡ quorum (m .n) → closes last-round (t .stage) ≡ false → (l : Lasting) → l ≡ lasting-then present-form hmac-code m t ws coin out
+      → Below (moving m k (next-by (m .n) (K .stage) (set-of (K .held)) (slots-of (K .held) 1 sites) coin) l out .lent)
+      → returned m t out (moved (statement-code (hmac-code (m .key))) last-round (m .n) (m .station) (last-for m (t .identity .question)) K (follows (m .n) (K .stage) K coin) l)
+      ≡ or-as-was m t out (moving m k (next-by (m .n) (K .stage) (set-of (K .held)) (slots-of (K .held) 1 sites) coin) l out)
   unfolding Rattle.station.specs.Calls.returned moving Rattle.station.specs.Words.state-of Rattle.station.specs.Words.as-station step pick sending-words answer
-  goes-on size goes d same-d low =
+  goes-on size goes l same-l low =
       ap (λ (z : ℕ). returned m t out (pick (above (last-for m q) q z) sent-all (refused not-above))) (sym (λ i. step-of (ek i) (er i)))
       ∙ go (above (last-for m q) q (step-of (X .kind) (X .round .0))) refl low
     where
@@ -119,14 +120,14 @@ module _ (m : Module) (t : Station) (ws : List ℕ) (coin : ℕ) (out : List ℕ
       s = own-statement m (t .identity .question) (x .kind) (x .value) (x .flag) (x .round)
 
       sent-all : Outcome
-      sent-all = sends (pick (ltb (t .decision) none || eqb d none) sent sent-decided) s (x .first ++ x .second) (began (m .n) (t .identity .question) (t .jump) (x .stage) d s (x .first ++ x .second))
+      sent-all = sends (pick (ltb (t .lasting .decision) none || eqb (l .decision) none) sent sent-decided) s (x .first ++ x .second) (began (m .n) (t .identity .question) l (x .stage) s (x .first ++ x .second))
 
-      go : (a : Bool) → above (last-for m q) q (step-of (X .kind) (X .round .0)) ≡ a → Below (pick a (sending-words m k X (own-fields m (X .kind) (X .value) (X .flag) (X .round .0)) d out) (with-no-bundle not-above k m out) .lent)
+      go : (a : Bool) → above (last-for m q) q (step-of (X .kind) (X .round .0)) ≡ a → Below (pick a (sending-words m k X (own-fields m (X .kind) (X .value) (X .flag) (X .round .0)) l out) (with-no-bundle not-above k m out) .lent)
           → returned m t out (pick a sent-all (refused not-above))
-          ≡ or-as-was m t out (pick a (sending-words m k X (own-fields m (X .kind) (X .value) (X .flag) (X .round .0)) d out) (with-no-bundle not-above k m out))
+          ≡ or-as-was m t out (pick a (sending-words m k X (own-fields m (X .kind) (X .value) (X .flag) (X .round .0)) l out) (with-no-bundle not-above k m out))
       go true later low =
-          skip _ _ _ _ (not-12 (ltb (t .decision) none || eqb d none))
-          (sym (sending-is m K (A .range .at-most) F d out (A .room) X x ek (ap (λ (y : Next). y .value) e) (ap (λ (y : Next). y .flag) e) er (ap (λ (y : Next). y .stage) e)
+          skip _ _ _ _ (not-12 (ltb (t .lasting .decision) none || eqb (l .decision) none))
+          (sym (sending-is m K (A .range .at-most) F l out (A .room) X x ek (ap (λ (y : Next). y .value) e) (ap (λ (y : Next). y .flag) e) er (ap (λ (y : Next). y .stage) e)
           (chosen (m .n) K (A .range .at-most) F (t .stage) refl goes coin R) (sent-proper present-form hmac-code hmac-eight m t ws coin out L A size goes)
           (range-fits m (A .range)) (ap (above (last-for m q) q) (sym (λ i. step-of (ek i) (er i))) ∙ later) low))
       go false later low = refl
@@ -137,25 +138,25 @@ module _ (m : Module) (t : Station) (ws : List ℕ) (coin : ℕ) (out : List ℕ
   unfolding Rattle.station.specs.Calls.returned ended ending-words shut-words Rattle.station.specs.Words.state-of Rattle.station.specs.Words.as-station pick set-of Rattle.station.specs.Words.slots-of Rattle.station.specs.Words.slot-of Rattle.format.specs.Bundle.all-written
   ends size low = go (closes last-round (t .stage)) refl low
     where
-      d : ℕ
-      d = decision-then present-form hmac-code m t ws coin out
+      l : Lasting
+      l = lasting-then present-form hmac-code m t ws coin out
 
-      same-d : decision-at (t .stage) (t .decision) (held-in (set-of (K .held)) (slots-of (K .held) 1 sites) 0 sites) ≡ decision-then present-form hmac-code m t ws coin out
-      same-d = ap (decision-at (t .stage) (t .decision)) back
+      same-l : lasting-at (t .stage) (t .lasting) (held-in (set-of (K .held)) (slots-of (K .held) 1 sites) 0 sites) ≡ lasting-then present-form hmac-code m t ws coin out
+      same-l = ap (lasting-at (t .stage) (t .lasting)) back
 
       go : (b : Bool) → closes last-round (t .stage) ≡ b
-          → Below (pick b (with-no-bundle closed-now (shut-words k (decision-at (t .stage) (t .decision) (held-by k))) m out)
-          (moving m k (next-by (m .n) (t .stage) (set-of (K .held)) (slots-of (K .held) 1 sites) coin) (decision-at (t .stage) (t .decision) (held-by k)) out) .lent)
-          → returned m t out (pick b (keeps closed-now (shut K d))
-          (moved (statement-code (hmac-code (m .key))) last-round (m .n) (m .station) (last-for m (t .identity .question)) K (follows (m .n) (t .stage) K coin) d))
-          ≡ or-as-was m t out (pick b (with-no-bundle closed-now (shut-words k (decision-at (t .stage) (t .decision) (held-by k))) m out)
-          (moving m k (next-by (m .n) (t .stage) (set-of (K .held)) (slots-of (K .held) 1 sites) coin) (decision-at (t .stage) (t .decision) (held-by k)) out))
-      go true e low = ap (λ (z : ℕ). with-no-bundle closed-now (shut-words k z) m out) (sym same-d)
+          → Below (pick b (with-no-bundle closed-now (shut-words k (lasting-at (t .stage) (t .lasting) (held-by k))) m out)
+          (moving m k (next-by (m .n) (t .stage) (set-of (K .held)) (slots-of (K .held) 1 sites) coin) (lasting-at (t .stage) (t .lasting) (held-by k)) out) .lent)
+          → returned m t out (pick b (keeps closed-now (shut K l))
+          (moved (statement-code (hmac-code (m .key))) last-round (m .n) (m .station) (last-for m (t .identity .question)) K (follows (m .n) (t .stage) K coin) l))
+          ≡ or-as-was m t out (pick b (with-no-bundle closed-now (shut-words k (lasting-at (t .stage) (t .lasting) (held-by k))) m out)
+          (moving m k (next-by (m .n) (t .stage) (set-of (K .held)) (slots-of (K .held) 1 sites) coin) (lasting-at (t .stage) (t .lasting) (held-by k)) out))
+      go true e low = ap (λ (z : Lasting). with-no-bundle closed-now (shut-words k z) m out) (sym same-l)
       go false e low =
-          subst (λ (z : ℕ). Below (moving m k (next-by (m .n) (t .stage) (set-of (K .held)) (slots-of (K .held) 1 sites) coin) z out .lent)
-          → returned m t out (moved (statement-code (hmac-code (m .key))) last-round (m .n) (m .station) (last-for m (t .identity .question)) K (follows (m .n) (t .stage) K coin) d)
-          ≡ or-as-was m t out (moving m k (next-by (m .n) (t .stage) (set-of (K .held)) (slots-of (K .held) 1 sites) coin) z out)) (sym same-d)
-          (goes-on size e d refl) low
+          subst (λ (z : Lasting). Below (moving m k (next-by (m .n) (t .stage) (set-of (K .held)) (slots-of (K .held) 1 sites) coin) z out .lent)
+          → returned m t out (moved (statement-code (hmac-code (m .key))) last-round (m .n) (m .station) (last-for m (t .identity .question)) K (follows (m .n) (t .stage) K coin) l)
+          ≡ or-as-was m t out (moving m k (next-by (m .n) (t .stage) (set-of (K .held)) (slots-of (K .held) 1 sites) coin) z out)) (sym same-l)
+          (goes-on size e l refl) low
 
   pub given-is : first-failed (give-tests hmac-code m t ws coin out) ≡ 0 → jumps (state-of t) (main-of ws) ≡ false → Below (after-words m k coin out .lent)
       → giving hmac-code m t ws coin out ≡ or-as-was m t out (after-words m k coin out)

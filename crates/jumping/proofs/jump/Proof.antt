@@ -42,7 +42,7 @@ returns-2 : tie.Need-returns-2
 returns-2 c =
     let z = c .before .before .before .before in
     let s = z .before .before in
-    let i = s .before in
+    let i = s .before .before in
     let v = i .before in
     let t = v .before in
     let f = t .before in

@@ -47,7 +47,7 @@ module _ (m : Module) (t : Station) (ws : List ℕ) (coin : ℕ) (out : List ℕ
   jumped-12 h = answers-of (record { number = not-above; count = 0; station = t; after = m; lent = out }) (jumping m t ws coin out) (skip _ _ _ _ (sym tested ∙ not-true v h) refl)
 
   pub jumped-sent : (count : ℕ) (u : Station) (after : Module) (xs : List ℕ) (g : Stage) → not v ≡ false → g ≡ stage-by given
-      → (count ≡ copy-count (length ws) (length out)) × (u ≡ sent-station m (t .identity .question) (t .jump) g (t .decision) (copy-bundle m f ws out)) × (after ≡ copy-module m f ws out)
+      → (count ≡ copy-count (length ws) (length out)) × (u ≡ sent-station m (t .identity .question) (t .lasting) g (copy-bundle m f ws out)) × (after ≡ copy-module m f ws out)
       × (xs ≡ copy-lent m f ws out) → Answers (jumping m t ws coin out) jumped count u after xs
   unfolding jumping jump-words step-in
   jumped-sent count u after xs g h gg s =
@@ -55,7 +55,7 @@ module _ (m : Module) (t : Station) (ws : List ℕ) (coin : ℕ) (out : List ℕ
       record {
         number-is = ap (λ (r : Returned). r .number) e;
         count-is = s .0 ∙ ap (λ (r : Returned). r .count) e;
-        station-is = s .1 ∙ ap (λ (x : Stage). sent-station m (t .identity .question) (t .jump) x (t .decision) (copy-bundle m f ws out)) gg ∙ ap (λ (r : Returned). r .station) e;
+        station-is = s .1 ∙ ap (λ (x : Stage). sent-station m (t .identity .question) (t .lasting) x (copy-bundle m f ws out)) gg ∙ ap (λ (r : Returned). r .station) e;
         after-is = s .2 ∙ ap (λ (r : Returned). r .after) e;
         lent-is = s .3 ∙ ap (λ (r : Returned). r .lent) e;
       }

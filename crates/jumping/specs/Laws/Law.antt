@@ -37,7 +37,7 @@ module _ (m : Module) (t : Station) (ws : List ℕ) (coin : ℕ) (out : List ℕ
   s = jump-statement present-form hmac-code m t ws coin out
 
   whole : Outcome
-  whole = sends jumped s (certificate-of ws) (began (m .n) q (t .jump) (stage-of given) (t .decision) s (certificate-of ws))
+  whole = sends jumped s (certificate-of ws) (began (m .n) q (t .lasting) (stage-of given) s (certificate-of ws))
 
   asked : given .question ≡ q
   unfolding Rattle.station.specs.Words.state-of
@@ -57,13 +57,13 @@ module _ (m : Module) (t : Station) (ws : List ℕ) (coin : ℕ) (out : List ℕ
       sym (λ i.
       record {
         number = jumped;
-        count = copy-count-is m (t .identity .question) (given .kind) (copied-value given coin) (given .flag) (given .round) (t .jump) (stage-of given) (t .decision) given (certificate-of ws) ws b asked out (J .room) (J .range .at-most)
+        count = copy-count-is m (t .identity .question) (given .kind) (copied-value given coin) (given .flag) (given .round) (t .lasting) (stage-of given) given (certificate-of ws) ws b asked out (J .room) (J .range .at-most)
             (J .fitting .proper) p (J .fitting .certificate) few fit later i;
-        station = copy-station-is m (t .identity .question) (given .kind) (copied-value given coin) (given .flag) (given .round) (t .jump) (stage-of given) (t .decision) given (certificate-of ws) ws b asked out (J .room) (J .range .at-most)
+        station = copy-station-is m (t .identity .question) (given .kind) (copied-value given coin) (given .flag) (given .round) (t .lasting) (stage-of given) given (certificate-of ws) ws b asked out (J .room) (J .range .at-most)
             (J .fitting .proper) p (J .fitting .certificate) few fit later low-out i;
-        after = copy-after-is m (t .identity .question) (given .kind) (copied-value given coin) (given .flag) (given .round) (t .jump) (stage-of given) (t .decision) given (certificate-of ws) ws b asked out (J .room) (J .range .at-most)
+        after = copy-after-is m (t .identity .question) (given .kind) (copied-value given coin) (given .flag) (given .round) (t .lasting) (stage-of given) given (certificate-of ws) ws b asked out (J .room) (J .range .at-most)
             (J .fitting .proper) p (J .fitting .certificate) few fit later i;
-        lent = copy-lent-is m (t .identity .question) (given .kind) (copied-value given coin) (given .flag) (given .round) (t .jump) (stage-of given) (t .decision) given (certificate-of ws) ws b asked out (J .room) (J .range .at-most)
+        lent = copy-lent-is m (t .identity .question) (given .kind) (copied-value given coin) (given .flag) (given .round) (t .lasting) (stage-of given) given (certificate-of ws) ws b asked out (J .room) (J .range .at-most)
             (J .fitting .proper) p (J .fitting .certificate) few fit later i;
       })
 

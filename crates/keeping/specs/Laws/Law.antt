@@ -141,8 +141,7 @@ module _ (n number : ℕ) (t : Station) (ws : List ℕ) (top : n ≤ most-statio
         identity = record { n = F .same-n i; station = F .same-number i; question = t .identity .question };
         stage = t .stage;
         closed = t .closed;
-        jump = t .jump;
-        decision = t .decision;
+        lasting = t .lasting;
         held = record { heard = set-after i; slots = slots-after i };
         groups = record { value = one i; none = two i };
       }

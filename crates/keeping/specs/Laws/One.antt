@@ -55,9 +55,9 @@ fit-out n number t h shut =
     let c = both (ltb (t .held .heard) (2 ^ sites) && ltb (ones (t .held .heard)) (quorum n) && bit (t .held .heard) (number - 1)) _ (b .0) in
     let d = both (ltb (t .held .heard) (2 ^ sites) && ltb (ones (t .held .heard)) (quorum n)) _ (c .0) in
     let e = both (ltb (t .held .heard) (2 ^ sites)) _ (d .0) in
-    let u = both (stage-fits (t .stage) (getD (t .held .slots) ((number - 1) * 10) 0) && leb (t .decision) none
+    let u = both (stage-fits (t .stage) (getD (t .held .slots) ((number - 1) * 10) 0) && leb (t .lasting .decision) none
     && group-fits n (t .identity .question) (kept-for-value n (t .stage) (held-by t)) (t .groups .value)) _ (b .1) in
-    let v = both (stage-fits (t .stage) (getD (t .held .slots) ((number - 1) * 10) 0) && leb (t .decision) none) _ (u .0) in
+    let v = both (stage-fits (t .stage) (getD (t .held .slots) ((number - 1) * 10) 0) && leb (t .lasting .decision) none) _ (u .0) in
     record {
       same-n = eqb-true _ _ (i .0);
       same-number = eqb-true _ _ (i .1);
@@ -139,8 +139,7 @@ one-form n number t top L A h shut =
       identity = record { n = F .same-n i; station = F .same-number i; question = t .identity .question };
       stage = t .stage;
       closed = t .closed;
-      jump = t .jump;
-      decision = t .decision;
+      lasting = t .lasting;
       held = record { heard = a i; slots = b i };
       groups = record { value = c i; none = d i };
     }

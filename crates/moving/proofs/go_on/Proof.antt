@@ -18,8 +18,8 @@ returns c =
     let v = c .before in
     let t = v .before in
     let f = t .before in
-    let a = f .before .before .before .before .args in
-    moved-12 (a .m) (a .k) (a .x) (a .d) (a .out .now) _ _ _ (f .own-fields .ensures) (t .step-of .ensures) (v .is-above .ensures) (c .if1 .taken)
+    let a = f .before .before .before .before .before .args in
+    moved-12 (a .m) (a .k) (a .x) (a .l) (a .out .now) _ _ _ (f .own-fields .ensures) (t .step-of .ensures) (v .is-above .ensures) (c .if1 .taken)
 
 send-next-requires : tie.Need-send-next-requires
 send-next-requires c κs = search needs
@@ -31,8 +31,8 @@ same-length : tie.Need-same-length
 same-length c = search needs
 
 returns-2 : tie.Need-returns-2
-returns-2 c = let a = c .before .before .before .before .before .before .before .before .before .before .before .before .before .before .args in
-    moved-sent (a .m) (a .k) (a .x) (a .d) (a .out .now) _ _ _ (c .before .before .before .before .before .before .before .before .before .before .own-fields .ensures) (c .before .before .before .before .before .before .before .before .before .step-of .ensures) (c .before .before .before .before .before .before .before .before .is-above .ensures) _ _ _ _ _ (c .before .before .before .before .before .before .before .if1 .left) (c .answer .ensures) (c .before .before .before .before .before .send-next .ensures)
+returns-2 c = let a = c .before .before .before .before .before .before .before .before .before .before .before .before .before .before .before .args in
+    moved-sent (a .m) (a .k) (a .x) (a .l) (a .out .now) _ _ _ (c .before .before .before .before .before .before .before .before .before .before .own-fields .ensures) (c .before .before .before .before .before .before .before .before .before .step-of .ensures) (c .before .before .before .before .before .before .before .before .is-above .ensures) _ _ _ _ _ (c .before .before .before .before .before .before .before .if1 .left) (c .answer .ensures) (c .before .before .before .before .before .send-next .ensures)
 
 pub go-on-spec : {M : Type 1} → statement M
 go-on-spec =

@@ -21,7 +21,7 @@ returns c =
     let n = c .before .before .before .before .before .before in
     let g = n .before in
     let a = g .before .before .before .before .before .before .args in
-    next-sent (a .m) (a .k) (a .x) (a .d) (a .out .now) (a .f) _ _ _ _ _ _ (g .group-by .ensures) (n .count-by .ensures) (c .before .before .send .ensures)
+    next-sent (a .m) (a .k) (a .x) (a .l) (a .out .now) (a .f) _ _ _ _ _ _ (g .group-by .ensures) (n .count-by .ensures) (c .before .before .send .ensures)
 
 pub send-next-spec : {M : Type 1} → statement M
 send-next-spec =

@@ -11,6 +11,7 @@ use Rattle.format.specs.Numbers.{not-above, kept}
 use Rattle.format.specs.Words.{step-of, step-in}
 use Rattle.modules.specs.declared.Module.{Module}
 use Rattle.modules.specs.Counter.{above, last-for}
+use Rattle.station.specs.declared.Lasting.{Lasting}
 use Rattle.station.specs.declared.Station.{Station}
 use Rattle.station.specs.Calls.{Returned}
 use Rattle.station.specs.Answers.{Answers}
@@ -41,14 +42,14 @@ answers-same x y number count t after lent e a =
       lent-is = a .lent-is ∙ ap (λ (r : Returned). r .lent) e;
     }
 
-module _ (m : Module) (k : Station) (x : Following) (d : ℕ) (out : List ℕ) where
+module _ (m : Module) (k : Station) (x : Following) (l : Lasting) (out : List ℕ) where
   -- all that `send` promises, with the certificate that was chosen
   pub next-sent : (f : Fields) (count : ℕ) (t : Station) (after : Module) (xs group : List ℕ) (z : ℕ)
       → group ≡ group-by (x .kept) (k .groups) → z ≡ count-by (x .kept) (m .n) (x .value)
-      → (count ≡ sent-count (x .set) z out) × (t ≡ sent-station m (k .identity .question) (k .jump) (x .stage) d (sent-bundle m (k .identity .question) f (k .held .slots) (x .set) group z out))
+      → (count ≡ sent-count (x .set) z out) × (t ≡ sent-station m (k .identity .question) l (x .stage) (sent-bundle m (k .identity .question) f (k .held .slots) (x .set) group z out))
       × (after ≡ sent-after m (k .identity .question) f (k .held .slots) (x .set) group z out) × (xs ≡ sent-lent m (k .identity .question) f (k .held .slots) (x .set) group z out)
       → (count ≡ sent-count (x .set) (count-by (x .kept) (m .n) (x .value)) out)
-      × (t ≡ sent-station m (k .identity .question) (k .jump) (x .stage) d (sent-bundle m (k .identity .question) f (k .held .slots) (x .set) (group-by (x .kept) (k .groups)) (count-by (x .kept) (m .n) (x .value)) out))
+      × (t ≡ sent-station m (k .identity .question) l (x .stage) (sent-bundle m (k .identity .question) f (k .held .slots) (x .set) (group-by (x .kept) (k .groups)) (count-by (x .kept) (m .n) (x .value)) out))
       × (after ≡ sent-after m (k .identity .question) f (k .held .slots) (x .set) (group-by (x .kept) (k .groups)) (count-by (x .kept) (m .n) (x .value)) out)
       × (xs ≡ sent-lent m (k .identity .question) f (k .held .slots) (x .set) (group-by (x .kept) (k .groups)) (count-by (x .kept) (m .n) (x .value)) out)
   next-sent f count t after xs group z eg ez h = rw (eg, ez) at h
@@ -59,19 +60,19 @@ module _ (m : Module) (k : Station) (x : Following) (d : ℕ) (out : List ℕ) w
     unfolding step-in
     tested = rw (et, ef) at ev
 
-    pub moved-12 : not v ≡ true → Answers (moving m k x d out) not-above 0 k m out
+    pub moved-12 : not v ≡ true → Answers (moving m k x l out) not-above 0 k m out
     unfolding moving
-    moved-12 h = answers-by (with-no-bundle not-above k m out) (moving m k x d out) (skip _ _ _ _ (sym tested ∙ not-true v h) refl)
+    moved-12 h = answers-by (with-no-bundle not-above k m out) (moving m k x l out) (skip _ _ _ _ (sym tested ∙ not-true v h) refl)
 
-    pub moved-sent : (number count : ℕ) (t : Station) (after : Module) (xs : List ℕ) → not v ≡ false → number ≡ answer (k .decision) d
+    pub moved-sent : (number count : ℕ) (t : Station) (after : Module) (xs : List ℕ) → not v ≡ false → number ≡ answer (k .lasting .decision) (l .decision)
         → (count ≡ sent-count (x .set) (count-by (x .kept) (m .n) (x .value)) out)
-        × (t ≡ sent-station m (k .identity .question) (k .jump) (x .stage) d (sent-bundle m (k .identity .question) f (k .held .slots) (x .set) (group-by (x .kept) (k .groups)) (count-by (x .kept) (m .n) (x .value)) out))
+        × (t ≡ sent-station m (k .identity .question) l (x .stage) (sent-bundle m (k .identity .question) f (k .held .slots) (x .set) (group-by (x .kept) (k .groups)) (count-by (x .kept) (m .n) (x .value)) out))
         × (after ≡ sent-after m (k .identity .question) f (k .held .slots) (x .set) (group-by (x .kept) (k .groups)) (count-by (x .kept) (m .n) (x .value)) out)
         × (xs ≡ sent-lent m (k .identity .question) f (k .held .slots) (x .set) (group-by (x .kept) (k .groups)) (count-by (x .kept) (m .n) (x .value)) out)
-        → Answers (moving m k x d out) number count t after xs
+        → Answers (moving m k x l out) number count t after xs
     unfolding moving sending-words
     moved-sent number count t after xs h en s =
-        let r : Answers (sending-words m k x f d out) number count t after xs = record { number-is = en; count-is = s .0; station-is = s .1; after-is = s .2; lent-is = s .3 } in
-        answers-same (sending-words m k x (own-fields m (x .kind) (x .value) (x .flag) (x .round .0)) d out) (moving m k x d out) number count t after xs
+        let r : Answers (sending-words m k x f l out) number count t after xs = record { number-is = en; count-is = s .0; station-is = s .1; after-is = s .2; lent-is = s .3 } in
+        answers-same (sending-words m k x (own-fields m (x .kind) (x .value) (x .flag) (x .round .0)) l out) (moving m k x l out) number count t after xs
         (here _ _ _ (sym tested ∙ not-false v h))
-        (subst (λ (z : Fields). Answers (sending-words m k x z d out) number count t after xs) ef r)
+        (subst (λ (z : Fields). Answers (sending-words m k x z l out) number count t after xs) ef r)

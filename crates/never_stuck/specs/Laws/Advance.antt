@@ -36,11 +36,11 @@ pub state-stage : (t : Station) → state-of t .stage ≡ t .stage
 unfolding Rattle.station.specs.Words.state-of
 state-stage t = refl
 
-pub state-decision : (t : Station) → state-of t .decision ≡ t .decision
+pub state-decision : (t : Station) → state-of t .lasting .decision ≡ t .lasting .decision
 unfolding Rattle.station.specs.Words.state-of
 state-decision t = refl
 
-pub state-jump : (t : Station) → state-of t .jump ≡ t .jump
+pub state-jump : (t : Station) → state-of t .lasting .jump ≡ t .lasting .jump
 unfolding Rattle.station.specs.Words.state-of
 state-jump t = refl
 
@@ -129,7 +129,7 @@ module _ (G : Ground present-form) (q : ℕ) (team : ℕ → Bool) (floor : ℕ)
     pub sound : Sound mac key n x (step .list)
     pub presents : Presents mac key n (step .list) x k station
     pub state : State
-    pub setting : state .jump ≡ jump
+    pub setting : state .lasting .jump ≡ jump
     pub full : length (state .held) ≡ quorum n
     pub all-ok : every ok (state .held) ≡ true
     pub ended : Ended G q (step .list) x k g d state coin station
@@ -140,7 +140,7 @@ module _ (G : Ground present-form) (q : ℕ) (team : ℕ → Bool) (floor : ℕ)
     -- as many givings as are missing, each of a site of the team that is not held
     pub advance : (d : ℕ) (cs : List Call) (t : Station) → Premises G cs → Waits mac key n cs q x k t → floor ≤ stage-step (t .stage)
         → ((y : ℕ) → 1 ≤ y → y ≤ n → team y ≡ true → Said G cs y q (stage-step (t .stage)) ok) → every ok (state-of t .held) ≡ true
-        → length (state-of t .held) < quorum n → quorum n ≤ d + length (state-of t .held) → Advanced cs x k (t .stage) (t .decision) (t .jump) coin ok
+        → length (state-of t .held) < quorum n → quorum n ≤ d + length (state-of t .held) → Advanced cs x k (t .stage) (t .lasting .decision) (t .lasting .jump) coin ok
     advance zero cs t P W fl said oks few fuel = absurd (omega arith)
     advance (suc d) cs t P W fl said oks few fuel =
         let z = someone team (state-of t .held) n (omega arith) in
@@ -149,8 +149,8 @@ module _ (G : Ground present-form) (q : ℕ) (team : ℕ → Bool) (floor : ℕ)
         go : (y : ℕ) → 1 ≤ y → y ≤ n → team y ≡ true → (w : Said G cs y q (stage-step (t .stage)) ok) → held-of y (state-of t .held) ≡ false
             → ((cs : List Call) (t : Station) → Premises G cs → Waits mac key n cs q x k t → floor ≤ stage-step (t .stage)
             → ((y : ℕ) → 1 ≤ y → y ≤ n → team y ≡ true → Said G cs y q (stage-step (t .stage)) ok) → every ok (state-of t .held) ≡ true
-            → length (state-of t .held) < quorum n → quorum n ≤ d + length (state-of t .held) → Advanced cs x k (t .stage) (t .decision) (t .jump) coin ok)
-            → Advanced cs x k (t .stage) (t .decision) (t .jump) coin ok
+            → length (state-of t .held) < quorum n → quorum n ≤ d + length (state-of t .held) → Advanced cs x k (t .stage) (t .lasting .decision) (t .lasting .jump) coin ok)
+            → Advanced cs x k (t .stage) (t .lasting .decision) (t .lasting .jump) coin ok
         go y lo hi ty w new ih = split (moved G q cs P x k t W y (stage-step (t .stage)) (w .words) (w .spoke) coin bit un refl)
           where
             un : unrefused (answer mac key n cs (call x (gives k t (w .words) coin room)) .number) ≡ true
@@ -196,8 +196,8 @@ module _ (G : Ground present-form) (q : ℕ) (team : ℕ → Bool) (floor : ℕ)
                       there = s .there;
                     }
 
-            widen : Stands (call x (gives k t (w .words) coin room) ∷ cs) x (stage-step (t .stage)) → Advanced (call x (gives k t (w .words) coin room) ∷ cs) x k (t .stage) (t .decision) (t .jump) coin ok
-                → Advanced cs x k (t .stage) (t .decision) (t .jump) coin ok
+            widen : Stands (call x (gives k t (w .words) coin room) ∷ cs) x (stage-step (t .stage)) → Advanced (call x (gives k t (w .words) coin room) ∷ cs) x k (t .stage) (t .lasting .decision) (t .lasting .jump) coin ok
+                → Advanced cs x k (t .stage) (t .lasting .decision) (t .lasting .jump) coin ok
             widen sx a =
                 record {
                   step = then-step cs x one (a .step);
@@ -213,7 +213,7 @@ module _ (G : Ground present-form) (q : ℕ) (team : ℕ → Bool) (floor : ℕ)
                   by-last = λ st. then-last cs (call x (gives k t (w .words) coin room) ∷ cs) (a .step .list) (last-one st) (a .by-last (λ z b c d. stands-on sx z (st z b c d)));
                 }
 
-            split : Moved G q cs P x k t W y (stage-step (t .stage)) (w .words) (w .spoke) coin bit un → Advanced cs x k (t .stage) (t .decision) (t .jump) coin ok
+            split : Moved G q cs P x k t W y (stage-step (t .stage)) (w .words) (w .spoke) coin bit un → Advanced cs x k (t .stage) (t .lasting .decision) (t .lasting .jump) coin ok
             split (ends full e vs) =
                 record {
                   step = one;
@@ -230,14 +230,14 @@ module _ (G : Ground present-form) (q : ℕ) (team : ℕ → Bool) (floor : ℕ)
                 }
             split (stays W' few1 e) =
                 let se : t' .stage ≡ t .stage = sym (state-stage t') ∙ ap (λ (u : State). u .stage) e ∙ state-stage t in
-                let de : t' .decision ≡ t .decision = sym (state-decision t') ∙ ap (λ (u : State). u .decision) e ∙ state-decision t in
-                let je : t' .jump ≡ t .jump = sym (state-jump t') ∙ ap (λ (u : State). u .jump) e ∙ state-jump t in
+                let de : t' .lasting .decision ≡ t .lasting .decision = sym (state-decision t') ∙ ap (λ (u : State). u .lasting .decision) e ∙ state-decision t in
+                let je : t' .lasting .jump ≡ t .lasting .jump = sym (state-jump t') ∙ ap (λ (u : State). u .lasting .jump) e ∙ state-jump t in
                 let he : state-of t' .held ≡ insert (main-of (w .words)) (state-of t .held) = ap (λ (u : State). u .held) e in
                 let le : length (state-of t' .held) ≡ suc (length (state-of t .held)) = ap length he ∙ insert-length (main-of (w .words)) (state-of t .held) in
                 widen (record { opening = k; station = t'; presents = W' .presents; asked = W' .asked; there = ap stage-step se })
-                (subst (λ (z : ℕ). Advanced (call x (gives k t (w .words) coin room) ∷ cs) x k (t .stage) z (t .jump) coin ok) de
-                (subst (λ (z : Stage). Advanced (call x (gives k t (w .words) coin room) ∷ cs) x k z (t' .decision) (t .jump) coin ok) se
-                (subst (λ (z : Bool). Advanced (call x (gives k t (w .words) coin room) ∷ cs) x k (t' .stage) (t' .decision) z coin ok) je
+                (subst (λ (z : ℕ). Advanced (call x (gives k t (w .words) coin room) ∷ cs) x k (t .stage) z (t .lasting .jump) coin ok) de
+                (subst (λ (z : Stage). Advanced (call x (gives k t (w .words) coin room) ∷ cs) x k z (t' .lasting .decision) (t .lasting .jump) coin ok) se
+                (subst (λ (z : Bool). Advanced (call x (gives k t (w .words) coin room) ∷ cs) x k (t' .stage) (t' .lasting .decision) z coin ok) je
                 (ih (call x (gives k t (w .words) coin room) ∷ cs) t' (one .premises) W' (subst (λ (z : Stage). floor ≤ stage-step z) (sym se) fl)
                 (λ y a b c. subst (λ (z : Stage). Said G (call x (gives k t (w .words) coin room) ∷ cs) y q (stage-step z) ok) (sym se) (said-on cs x one y (stage-step (t .stage)) ok (said y a b c)))
                 (ap (every ok) he ∙ oks1) (subst (λ (z : List Statement). length z < quorum n) (sym he) few1) (omega (arith, le, fuel))))))

@@ -29,7 +29,7 @@ use Rattle.modules.specs.Counter.{above, pair, last-for}
 use Rattle.modules.specs.Above.{above-in, later-step}
 use Rattle.modules.specs.Present.{module-fits}
 use Rattle.station.specs.declared.Station.{Station}
-use Rattle.station.specs.Machine.{Next, refused, keeps, sends, began, shut, stage-of, jumps, moved, ended, taken, follows, closes, decision-at, held-of, conflict, stage-step, place-tests, step-tests}
+use Rattle.station.specs.Machine.{Next, refused, keeps, sends, began, shut, stage-of, jumps, moved, ended, taken, follows, closes, lasting-at, held-of, conflict, stage-step, place-tests, step-tests}
 use Rattle.station.specs.Returns.{unrefused}
 use Rattle.station.specs.Demand.{by-opening, by-giving, OfGroup}
 use Rattle.station.specs.Written.{reached-good}
@@ -38,6 +38,7 @@ use Rattle.station.specs.Laws.Sane.{Sane}
 use Rattle.station.specs.Laws.FitSane.{fits-sane}
 use Rattle.station.specs.Laws.Views.{after, sent-statement, jump-statement, ten-tests}
 use Rattle.station.specs.Present.{state-of, fits, returned, opening, giving, station-tests, give-tests, Lengths, Reached}
+use Rattle.station.specs.declared.Lasting.{Lasting}
 use Rattle.agreement.specs.Maths.Taking.{steps-up}
 use Rattle.agreement.specs.Laws.Ground.{Ground}
 use Rattle.agreement.specs.Laws.Lists.{same-line}
@@ -72,8 +73,8 @@ module _ (mac : List ℕ → List ℕ → List ℕ) (m : Module) (t : Station) (
       s : Statement
       s = sent-statement present-form mac m t ws coin out
 
-      d : ℕ
-      d = decision-at (t .stage) (t .decision) (after present-form mac m t ws coin out .held)
+      l : Lasting
+      l = lasting-at (t .stage) (t .lasting) (after present-form mac m t ws coin out .held)
 
       up : above (last-for m (t .identity .question)) (t .identity .question) (step s) ≡ true
       up =
@@ -82,15 +83,15 @@ module _ (mac : List ℕ → List ℕ → List ℕ) (m : Module) (t : Station) (
           subst (λ (l : Last). above l (t .identity .question) (step s) ≡ true) (sym stands) (above-in (pair (t .identity .question) (stage-step (t .stage))) (t .identity .question) (step s) (later-step refl higher))
 
       sent-by : (a b : Bool) → a ≡ true
-          → unrefused (returned m t out (pick a (sends (pick b sent sent-decided) s (x .first ++ x .second) (began (m .n) (t .identity .question) (t .jump) (x .stage) d s (x .first ++ x .second))) (refused not-above)) .number) ≡ true
+          → unrefused (returned m t out (pick a (sends (pick b sent sent-decided) s (x .first ++ x .second) (began (m .n) (t .identity .question) l (x .stage) s (x .first ++ x .second))) (refused not-above)) .number) ≡ true
       sent-by true true e = refl
       sent-by true false e = refl
       sent-by false b e = never false refl e
 
-      ended-by : (c : Bool) → unrefused (returned m t out (pick c (keeps closed-now (shut (after present-form mac m t ws coin out) d))
-          (moved (statement-code (mac (m .key))) last-round (m .n) (m .station) (last-for m (t .identity .question)) (after present-form mac m t ws coin out) x d)) .number) ≡ true
+      ended-by : (c : Bool) → unrefused (returned m t out (pick c (keeps closed-now (shut (after present-form mac m t ws coin out) l))
+          (moved (statement-code (mac (m .key))) last-round (m .n) (m .station) (last-for m (t .identity .question)) (after present-form mac m t ws coin out) x l)) .number) ≡ true
       ended-by true = refl
-      ended-by false = sent-by (above (last-for m (t .identity .question)) (t .identity .question) (step s)) (ltb (t .decision) none || eqb d none) up
+      ended-by false = sent-by (above (last-for m (t .identity .question)) (t .identity .question) (step s)) (ltb (t .lasting .decision) none || eqb (l .decision) none) up
 
       by : (b : Bool) → unrefused (returned m t out (pick b (keeps kept (after present-form mac m t ws coin out))
           (ended (statement-code (mac (m .key))) last-round (m .n) (m .station) (last-for m (t .identity .question)) (after present-form mac m t ws coin out) coin)) .number) ≡ true
@@ -190,7 +191,7 @@ module _ (G : Ground present-form) where
       module _ (there : σ ≡ stage-step (t .stage)) (new : held-of y (state-of t .held) ≡ false) where
         here : jumps (state-of t) (main-of ws) ≡ false
         unfolding Rattle.station.specs.Words.state-of
-        here = is-false _ (λ h. let z : stage-step (t .stage) < step (main-of ws) = ltb-true _ _ (both (t .jump) _ h .1) in omega (arith, sp .in-step))
+        here = is-false _ (λ h. let z : stage-step (t .stage) < step (main-of ws) = ltb-true _ _ (both (t .lasting .jump) _ h .1) in omega (arith, sp .in-step))
 
         passes-9 : All (λ z. z .ok ≡ true) (place-tests (state-of t) (main-of ws))
         unfolding Rattle.station.specs.Words.state-of
@@ -222,10 +223,10 @@ module _ (G : Ground present-form) where
                 (test (jumps (state-of t) (main-of ws) || not (conflict (t .stage) (main-of ws ∷ state-of t .held))) conflicting ∷ []) ten (right (jumps (state-of t) (main-of ws)) _ (not-t _ e), tt))) stands
 
       -- of a later step, where the station jumps: it jumps
-      module _ (on : t .jump ≡ true) (later : stage-step (t .stage) < σ) where
+      module _ (on : t .lasting .jump ≡ true) (later : stage-step (t .stage) < σ) where
         jumping : jumps (state-of t) (main-of ws) ≡ true
         unfolding Rattle.station.specs.Words.state-of
-        jumping = join (t .jump) _ on (lt-ltb (stage-step (t .stage)) (step (main-of ws)) (omega (arith, sp .in-step)))
+        jumping = join (t .lasting .jump) _ on (lt-ltb (stage-step (t .stage)) (step (main-of ws)) (omega (arith, sp .in-step)))
 
         all-tests : first-failed (give-tests mac m t ws coin room) ≡ 0
         unfolding Rattle.station.specs.Words.state-of
@@ -252,6 +253,6 @@ module _ (G : Ground present-form) where
 
             by : (a : Bool) → a ≡ true
                 → unrefused (returned m t room (pick a (sends jumped s (certificate-of ws)
-                (began (m .n) (t .identity .question) (t .jump) (stage-of (main-of ws)) (t .decision) s (certificate-of ws))) (refused not-above)) .number) ≡ true
+                (began (m .n) (t .identity .question) (t .lasting) (stage-of (main-of ws)) s (certificate-of ws))) (refused not-above)) .number) ≡ true
             by true e = refl
             by false e = never false refl e

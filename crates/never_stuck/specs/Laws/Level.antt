@@ -36,7 +36,7 @@ module _ (G : Ground present-form) (q : ℕ) (team : ℕ → Bool) (floor : ℕ)
     pub waits : Waits mac key n cs q y opening station
     pub from : σ ≤ stage-step (station .stage)
     pub upto : stage-step (station .stage) ≤ m
-    pub setting : station .jump ≡ jump
+    pub setting : station .lasting .jump ≡ jump
 
   abbrev pub waiting-on : (jump : Bool) (σ m : ℕ) → Stable G q team floor (λ cs y. Waiting jump cs y σ m)
   waiting-on jump σ m cs x s y ne o =
@@ -72,11 +72,11 @@ module _ (G : Ground present-form) (q : ℕ) (team : ℕ → Bool) (floor : ℕ)
 
   -- all leave step σ
   module _ (σ m : ℕ) (fl : floor ≤ σ) (less : σ < m) (last : m ≤ 2 * last-round + 1) (three : 3 ≤ m) where
-    onto : (cs : List Call) (x k : ℕ) (g : Stage) (d : ℕ) (u : State) (t : Station) → stage-step g ≡ σ → u .jump ≡ false → Ended G q cs x k g d u 0 t → Within cs x (suc σ) m
+    onto : (cs : List Call) (x k : ℕ) (g : Stage) (d : ℕ) (u : State) (t : Station) → stage-step g ≡ σ → u .lasting .jump ≡ false → Ended G q cs x k g d u 0 t → Within cs x (suc σ) m
     onto cs x k g d u t e off (shut c closed asked de) = never (closes last-round g) (before-last g (omega arith)) c
     onto cs x k g d u t e off (went c w se) =
         let s : stage-step (t .stage) ≡ stage-step (follows n g u 0 .stage) = sym (ap stage-step (state-stage t)) ∙ ap (λ (z : State). stage-step (z .stage)) se in
-        record { opening = k; station = t; waits = w; from = above (next-is n g u 0) s; upto = below (next-is n g u 0) s; setting = sym (state-jump t) ∙ ap (λ (z : State). z .jump) se ∙ off }
+        record { opening = k; station = t; waits = w; from = above (next-is n g u 0) s; upto = below (next-is n g u 0) s; setting = sym (state-jump t) ∙ ap (λ (z : State). z .lasting .jump) se ∙ off }
       where
         above : {σ' s : ℕ} → Follows (stage-step g) σ' → s ≡ σ' → suc σ ≤ s
         above (inl f) i = omega (arith, f .0, f .1)
@@ -95,7 +95,7 @@ module _ (G : Ground present-form) (q : ℕ) (team : ℕ → Bool) (floor : ℕ)
         let ne : σ ≡ 1 → ⊥ = λ e. not-one (o .station .stage) rounds (at .there ∙ e) in
         let A = advance G q team floor enough x (o .opening) 0 any t (omega arith) (quorum n) cs (o .station) P (o .waits) (omega (arith, at .there))
         (λ y c d e. subst (λ (z : ℕ). Said G cs y q z any) (sym (at .there)) (said-of ne y (each y c d e))) (every-any (state-of (o .station) .held)) (S .few) (omega arith) in
-        record { step = A .step; now = onto (A .step .list) x (o .opening) (o .station .stage) (o .station .decision) (A .state) (A .station) (at .there) (A .setting ∙ o .setting) (A .ended) }
+        record { step = A .step; now = onto (A .step .list) x (o .opening) (o .station .stage) (o .station .lasting .decision) (A .state) (A .station) (at .there) (A .setting ∙ o .setting) (A .ended) }
       where
         said-of : (σ ≡ 1 → ⊥) → (y : ℕ) → Behind cs y σ m ⊎ Within cs y (suc σ) m → Said G cs y q σ any
         said-of ne y (inl o) = said-within cs P y σ σ m (o .within) (omega arith) ne

@@ -44,8 +44,8 @@ module _ (G : Ground present-form) (q : ℕ) (team : ℕ → Bool) (enough : Quo
   -- a site at a step, with jump on; if it is among the first j sites, it has decided
   pub record Stood (cs : List Call) (y σ : ℕ) (ok : Statement → Bool) (j : ℕ) : Type 0 where
     pub at : At G q team 0 enough cs y σ ok
-    pub setting : at .station .jump ≡ true
-    pub named : y ≤ j → at .station .decision < none
+    pub setting : at .station .lasting .jump ≡ true
+    pub named : y ≤ j → at .station .lasting .decision < none
 
   stood-on : (σ : ℕ) (ok : Statement → Bool) (j : ℕ) → Stable G q team 0 (λ cs y. Stood cs y σ ok j)
   stood-on σ ok j cs x s y ne o = record { at = at-on G q team 0 enough σ ok cs x s y ne (o .at); setting = o .setting; named = o .named }
@@ -59,8 +59,8 @@ module _ (G : Ground present-form) (q : ℕ) (team : ℕ → Bool) (enough : Quo
     pub station : Station
     pub waits : Waits mac key n cs q y opening station
     pub behind : stage-step (station .stage) < σ
-    pub setting : station .jump ≡ true
-    pub named : y ≤ j → station .decision < none
+    pub setting : station .lasting .jump ≡ true
+    pub named : y ≤ j → station .lasting .decision < none
     pub other : y ≡ x → ⊥
 
   trails-on : (x σ j : ℕ) → Stable G q team 0 (λ cs y. Trails cs x y σ j)
@@ -201,7 +201,7 @@ module _ (G : Ground present-form) (q : ℕ) (team : ℕ → Bool) (enough : Quo
 
   -- site x, behind the end of the step
   moved-on : (x σ σ' coin : ℕ) (ok ok' : Statement → Bool) (j j' : ℕ) → Move x σ σ' coin ok ok' j j' → (cs : List Call) → Premises G cs → (k : ℕ) (g : Stage) (d : ℕ) (u : State) (t : Station)
-      → stage-step g ≡ σ → (x ≤ j → d < none) → u .jump ≡ true → every ok (u .held) ≡ true → length (u .held) ≡ quorum n → Ended G q cs x k g d u coin t → Stood cs x σ' ok' j'
+      → stage-step g ≡ σ → (x ≤ j → d < none) → u .lasting .jump ≡ true → every ok (u .held) ≡ true → length (u .held) ≡ quorum n → Ended G q cs x k g d u coin t → Stood cs x σ' ok' j'
   moved-on x σ σ' coin ok ok' j j' M cs P k g d u t e dec on oks full (shut c closed asked de) = never (closes last-round g) (before-last g (omega (arith, M .still-open))) c
   moved-on x σ σ' coin ok ok' j j' M cs P k g d u t e dec on oks full (went c w se) =
       let S = sane-of G cs P q x k t w in
@@ -216,8 +216,8 @@ module _ (G : Ground present-form) (q : ℕ) (team : ℕ → Bool) (enough : Quo
           in-step = is ∙ E .0;
           held-ok = ap (λ (z : State). every ok' (z .held)) se ∙ every-single ok' (saying G q x g u coin) (E .1);
         };
-        setting = sym (state-jump t) ∙ ap (λ (z : State). z .jump) se ∙ on;
-        named = λ le. subst (λ (z : ℕ). z < none) (sym (sym (state-decision t) ∙ ap (λ (z : State). z .decision) se)) (M .names g d (u .held) e oks le dec);
+        setting = sym (state-jump t) ∙ ap (λ (z : State). z .lasting .jump) se ∙ on;
+        named = λ le. subst (λ (z : ℕ). z < none) (sym (sym (state-decision t) ∙ ap (λ (z : State). z .lasting .decision) se)) (M .names g d (u .held) e oks le dec);
       }
 
   pub move : (x σ σ' coin : ℕ) (ok ok' : Statement → Bool) (j j' : ℕ) → 1 ≤ x → x ≤ n → team x ≡ true → coin < 2 → Move x σ σ' coin ok ok' j j' → (cs : List Call) → Premises G cs
@@ -227,14 +227,14 @@ module _ (G : Ground present-form) (q : ℕ) (team : ℕ → Bool) (enough : Quo
       by : Stood cs x σ ok j → Brought cs (λ c y. Stood c y σ' ok' j')
       by o = from A
         where
-          A : Advanced G q team 0 cs x (o .at .opening) (o .at .station .stage) (o .at .station .decision) (o .at .station .jump) coin ok
+          A : Advanced G q team 0 cs x (o .at .opening) (o .at .station .stage) (o .at .station .lasting .decision) (o .at .station .lasting .jump) coin ok
           A =
               let S = sane-of G cs P q x (o .at .opening) (o .at .station) (o .at .waits) in
               advance G q team 0 enough x (o .at .opening) coin ok tx bit (quorum n) cs (o .at .station) P (o .at .waits) (omega arith)
               (λ y a b c. subst (λ (z : ℕ). Said G cs y q z ok) (sym (o .at .in-step)) (said-at G q team 0 enough cs P y σ ok (each y a b c .at))) (o .at .held-ok) (S .few)
               (omega arith)
 
-          from : Advanced G q team 0 cs x (o .at .opening) (o .at .station .stage) (o .at .station .decision) (o .at .station .jump) coin ok → Brought cs (λ c y. Stood c y σ' ok' j')
+          from : Advanced G q team 0 cs x (o .at .opening) (o .at .station .stage) (o .at .station .lasting .decision) (o .at .station .lasting .jump) coin ok → Brought cs (λ c y. Stood c y σ' ok' j')
           from a =
               let on : ByLast mac key n q team cs (a .step .list)
               = a .by-last (λ y b c d. subst (λ (z : ℕ). Stands G q team 0 cs y z) (sym (o .at .in-step)) (stands cs y σ ok j (each y b c d))) in
@@ -243,7 +243,7 @@ module _ (G : Ground present-form) (q : ℕ) (team : ℕ → Bool) (enough : Quo
             where
               now : Stood (a .step .list) x σ' ok' j'
               now =
-                  moved-on x σ σ' coin ok ok' j j' M (a .step .list) (a .step .premises) (o .at .opening) (o .at .station .stage) (o .at .station .decision) (a .state) (a .station) (o .at .in-step) (o .named)
+                  moved-on x σ σ' coin ok ok' j j' M (a .step .list) (a .step .premises) (o .at .opening) (o .at .station .stage) (o .at .station .lasting .decision) (a .state) (a .station) (o .at .in-step) (o .named)
                   (a .setting ∙ o .setting) (a .all-ok) (a .full) (a .ended)
 
               split : (y : ℕ) → Stood cs y σ ok j → (z : Bool) → eqb y x ≡ z → Trails (a .step .list) x y σ' j' ⊎ Stood (a .step .list) y σ' ok' j'

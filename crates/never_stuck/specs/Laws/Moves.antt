@@ -20,7 +20,7 @@ use Rattle.modules.specs.Counter.{last-for}
 use Rattle.station.specs.declared.Stage.{Stage}
 use Rattle.station.specs.declared.Station.{Station}
 use Rattle.station.specs.Machine as Mach
-use Rattle.station.specs.Machine.{State, Next, Outcome, keeps, sends, own, began, stage-of, follows, closes, decision-at, keeping, stage-step, has-value, copied-value}
+use Rattle.station.specs.Machine.{State, Next, Outcome, keeps, sends, own, began, stage-of, follows, closes, decision-at, keeping, stage-step, has-value, copied-value, with-decision, lasting-at}
 use Rattle.station.specs.Calls.{Returned}
 use Rattle.station.specs.Returns.{unrefused, wrote, took-given, sent-took-given}
 use Rattle.station.specs.Written.{reached-good}
@@ -66,9 +66,9 @@ module _ (G : Ground present-form) (q : ℕ) where
   -- the step of stage g has ended with what is held in u, and with the decision d before it: station t has gone on, or is closed
   pub data Ended (cs : List Call) (x k : ℕ) (g : Stage) (d : ℕ) (u : State) (coin : ℕ) (t : Station) : Type 0 where
     went : closes last-round g ≡ false → Waits mac key n cs q x k t
-        → state-of t ≡ began n q (u .jump) (follows n g u coin .stage) (decision-at g d (u .held)) (saying x g u coin) (follows n g u coin .first ++ follows n g u coin .second)
+        → state-of t ≡ began n q (with-decision (decision-at g d (u .held)) (u .lasting)) (follows n g u coin .stage) (saying x g u coin) (follows n g u coin .first ++ follows n g u coin .second)
         → Ended cs x k g d u coin t
-    shut : closes last-round g ≡ true → t .closed ≡ true → t .identity .question ≡ q → t .decision ≡ decision-at g d (u .held) → Ended cs x k g d u coin t
+    shut : closes last-round g ≡ true → t .closed ≡ true → t .identity .question ≡ q → t .lasting .decision ≡ decision-at g d (u .held) → Ended cs x k g d u coin t
 
   -- what is held in u at the end of a round's votes, where it is all for one value, is q votes of the round among those taken
   abbrev pub Voted : Stage → State → List Statement → Type 0
@@ -129,7 +129,7 @@ module _ (G : Ground present-form) (q : ℕ) where
 
     pub data Moved : Type 0 where
       stays : Waits mac key n (g ∷ cs) q x k then → length (with-bundle t ws .held) < quorum n → state-of then ≡ with-bundle t ws → Moved
-      ends : length (with-bundle t ws .held) ≡ quorum n → Ended (g ∷ cs) x k (t .stage) (t .decision) (with-bundle t ws) coin then → Voted (t .stage) (with-bundle t ws) (presents-then .line .took) → Moved
+      ends : length (with-bundle t ws .held) ≡ quorum n → Ended (g ∷ cs) x k (t .stage) (t .lasting .decision) (with-bundle t ws) coin then → Voted (t .stage) (with-bundle t ws) (presents-then .line .took) → Moved
 
     -- what is known of the station before the call, and of what it had taken
     abbrev l : List Statement
@@ -165,17 +165,17 @@ module _ (G : Ground present-form) (q : ℕ) where
         (ap (λ (r : Returned). state-of (r .station)) e ∙ state-back present-form n x (with-bundle t ws) top (range-x .0) (range-x .1) (kept-sane present-form mac eight mm t ws coin room len A few))
 
     shut-so : Accepted present-form mac mm t ws coin room → length (with-bundle t ws .held) ≡ quorum n → closes last-round (t .stage) ≡ true
-        → answer mac key n cs g ≡ returned mm t room (keeps closed-now (Mach.shut (with-bundle t ws) (decision-at (t .stage) (t .decision) (with-bundle t ws .held)))) → Moved
+        → answer mac key n cs g ≡ returned mm t room (keeps closed-now (Mach.shut (with-bundle t ws) (lasting-at (t .stage) (t .lasting) (with-bundle t ws .held)))) → Moved
     unfolding Rattle.station.specs.Calls.returned Rattle.station.specs.Words.as-station Rattle.station.specs.Words.state-of
     shut-so A size c e =
-        ends size (shut c (ap (λ (r : Returned). r .station .closed) e) (ap (λ (r : Returned). r .station .identity .question) e ∙ waits .asked) (ap (λ (r : Returned). r .station .decision) e))
+        ends size (shut c (ap (λ (r : Returned). r .station .closed) e) (ap (λ (r : Returned). r .station .identity .question) e ∙ waits .asked) (ap (λ (r : Returned). r .station .lasting .decision) e))
         (voted A size (ap (λ (r : Returned). took-given (r .number)) e))
 
     abbrev f : Next
     f = follows n (t .stage) (with-bundle t ws) coin
 
     abbrev u : State
-    u = began n (t .identity .question) (t .jump) (f .stage) (decision-at (t .stage) (t .decision) (with-bundle t ws .held)) (sent-statement present-form mac mm t ws coin room) (f .first ++ f .second)
+    u = began n (t .identity .question) (lasting-at (t .stage) (t .lasting) (with-bundle t ws .held)) (f .stage) (sent-statement present-form mac mm t ws coin room) (f .first ++ f .second)
 
     sent-so : (j : ℕ) → took-given j ≡ true → (A : Accepted present-form mac mm t ws coin room) (size : length (with-bundle t ws .held) ≡ quorum n) (more : closes last-round (t .stage) ≡ false)
         → answer mac key n cs g ≡ returned mm t room (sends j (sent-statement present-form mac mm t ws coin room) (f .first ++ f .second) u) → Moved
@@ -183,7 +183,7 @@ module _ (G : Ground present-form) (q : ℕ) where
     sent-so j taken A size more e =
         ends size
         (went more (waits-then (subst Onto (sym e) (refl, (waits .asked, waits .asked))))
-        (subst (λ (z : ℕ). state-of then ≡ began n z (t .jump) (f .stage) (decision-at (t .stage) (t .decision) (with-bundle t ws .held))
+        (subst (λ (z : ℕ). state-of then ≡ began n z (lasting-at (t .stage) (t .lasting) (with-bundle t ws .held)) (f .stage)
         (own (statement-code (mac key)) x z (f .kind) (f .value) (f .flag) (f .round)) (f .first ++ f .second)) (waits .asked)
         (ap (λ (r : Returned). state-of (r .station)) e ∙ state-back present-form n x u top (range-x .0) (range-x .1) (sent-sane present-form mac eight mm t ws coin room len A size more))))
         (voted A size (ap (λ (r : Returned). took-given (r .number)) e ∙ taken))
@@ -204,8 +204,8 @@ module _ (G : Ground present-form) (q : ℕ) where
     pub record JumpedThere : Type 0 where
       pub waits-on : Waits mac key n (g ∷ cs) q x k then
       pub in-step : stage-step (then .stage) ≡ σ
-      pub setting : then .jump ≡ t .jump
-      pub decision : then .decision ≡ t .decision
+      pub setting : then .lasting .jump ≡ t .lasting .jump
+      pub decision : then .lasting .decision ≡ t .lasting .decision
       -- the statement that it wrote is all that is held
       pub says : Statement
       pub held : state-of then .held ≡ says ∷ []
@@ -216,18 +216,18 @@ module _ (G : Ground present-form) (q : ℕ) where
     jumped-there later = go (giving-outcome mac mm t ws coin room) refl (gives-view present-form mac mm t ws coin room len)
       where
         jumped-so : (J : Jumping present-form mac mm t ws coin room) → answer mac key n cs g ≡ returned mm t room (sends jumped (jump-statement present-form mac mm t ws coin room) (certificate-of ws)
-            (began n (t .identity .question) (t .jump) (stage-of (main-of ws)) (t .decision) (jump-statement present-form mac mm t ws coin room) (certificate-of ws))) → JumpedThere
+            (began n (t .identity .question) (t .lasting) (stage-of (main-of ws)) (jump-statement present-form mac mm t ws coin room) (certificate-of ws))) → JumpedThere
         jumped-so J e =
             record {
               waits-on = waits-then (subst Onto (sym e) (refl, (waits .asked, waits .asked)));
               in-step = ap (λ (r : Returned). stage-step (r .station .stage)) e ∙ sym (J .fitting .in-step) ∙ sp .in-step;
-              setting = ap (λ (r : Returned). r .station .jump) e;
-              decision = ap (λ (r : Returned). r .station .decision) e;
+              setting = ap (λ (r : Returned). r .station .lasting .jump) e;
+              decision = ap (λ (r : Returned). r .station .lasting .decision) e;
               says = jump-statement present-form mac mm t ws coin room;
               held = ap (λ (r : Returned). state-of (r .station) .held) e
                   ∙ ap (λ (z : State). z .held)
                   (state-back present-form n x
-                  (began n (t .identity .question) (t .jump) (stage-of (main-of ws)) (t .decision) (jump-statement present-form mac mm t ws coin room) (certificate-of ws)) top (range-x .0) (range-x .1)
+                  (began n (t .identity .question) (t .lasting) (stage-of (main-of ws)) (jump-statement present-form mac mm t ws coin room) (certificate-of ws)) top (range-x .0) (range-x .1)
                   (jump-sane present-form mac eight mm t ws coin room J len));
               value = refl;
             }

@@ -75,7 +75,7 @@ module _ (G : Ground present-form) (q : ℕ) (team : ℕ → Bool) (floor : ℕ)
 
   -- all end the step, each arriving at what its end shows
   module _ (σ coin : ℕ) (fl : floor ≤ σ) (bit : coin < 2) (ok : Statement → Bool) (Then : List Call → ℕ → Type 0) (then-on : Stable G q team floor Then)
-      (arrives : (cs : List Call) (x k : ℕ) (t : Station) (A : Advanced G q team floor cs x k (t .stage) (t .decision) (t .jump) coin ok) → t .identity .question ≡ q
+      (arrives : (cs : List Call) (x k : ℕ) (t : Station) (A : Advanced G q team floor cs x k (t .stage) (t .lasting .decision) (t .lasting .jump) coin ok) → t .identity .question ≡ q
       → stage-step (t .stage) ≡ σ → Then (A .step .list) x) where
     abbrev High : List Call → ℕ → Type 0
     High cs y = Then cs y × Said G cs y q σ ok

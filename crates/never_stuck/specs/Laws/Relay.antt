@@ -53,7 +53,7 @@ module _ (G : Ground present-form) (q : ℕ) (team : ℕ → Bool) (enough : Quo
     pub opening : ℕ
     pub station : Station
     pub waits : Waits mac key n cs q y opening station
-    pub named : station .decision < none
+    pub named : station .lasting .decision < none
 
   -- ---- the moves
   climbs : (x σ m : ℕ) → σ < m → 3 ≤ m → m ≤ 2 * last-round + 1 → Move G q team enough x σ (after-step σ) 0 any any 0 0

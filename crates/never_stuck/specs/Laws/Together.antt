@@ -114,15 +114,15 @@ module _ (G : Ground present-form) (q : ℕ) (team : ℕ → Bool) (floor : ℕ)
 
   -- ---- all go on together, from step σ to step m
   module _ (m : ℕ) (last : m ≤ 2 * last-round + 1) (three : 3 ≤ m) where
-    arrives : (σ : ℕ) → σ < m → (cs : List Call) (x k : ℕ) (t : Station) (A : Advanced G q team floor cs x k (t .stage) (t .decision) (t .jump) 0 any) → t .identity .question ≡ q
+    arrives : (σ : ℕ) → σ < m → (cs : List Call) (x k : ℕ) (t : Station) (A : Advanced G q team floor cs x k (t .stage) (t .lasting .decision) (t .lasting .jump) 0 any) → t .identity .question ≡ q
         → stage-step (t .stage) ≡ σ → At G q team floor enough (A .step .list) x (after-step σ) any
     arrives σ less cs x k t A asked e =
-        gone-on G q team floor enough (A .step .list) x k (t .stage) (t .decision) (A .state) 0 (A .station) (after-step σ) any (A .ended) open-still (there (A .ended)) refl
+        gone-on G q team floor enough (A .step .list) x k (t .stage) (t .lasting .decision) (A .state) 0 (A .station) (after-step σ) any (A .ended) open-still (there (A .ended)) refl
       where
         open-still : closes last-round (t .stage) ≡ false
         open-still = before-last (t .stage) (omega arith)
 
-        there : Ended G q (A .step .list) x k (t .stage) (t .decision) (A .state) 0 (A .station) → stage-step (follows n (t .stage) (A .state) 0 .stage) ≡ after-step σ
+        there : Ended G q (A .step .list) x k (t .stage) (t .lasting .decision) (A .state) 0 (A .station) → stage-step (follows n (t .stage) (A .state) 0 .stage) ≡ after-step σ
         there (shut c closed on de) = never (closes last-round (t .stage)) open-still c
         there (went c w se) =
             let S = sane-of G (A .step .list) (A .step .premises) q x k (A .station) w in

@@ -48,30 +48,30 @@ module _ (G : Ground present-form) (q : ℕ) (team : ℕ → Bool) (floor : ℕ)
 
   module _ (r v : ℕ) (fl : floor ≤ 2 * r + 1) (from : 1 ≤ r) (last : r + 1 ≤ last-round) (bit : v < 2) where
     -- votes of round r for v or for none, and the coin v: all propose v
-    tossed : (cs : List Call) (x k : ℕ) (t : Station) (A : Advanced G q team floor cs x k (t .stage) (t .decision) (t .jump) v (calm v)) → t .identity .question ≡ q
+    tossed : (cs : List Call) (x k : ℕ) (t : Station) (A : Advanced G q team floor cs x k (t .stage) (t .lasting .decision) (t .lasting .jump) v (calm v)) → t .identity .question ≡ q
         → stage-step (t .stage) ≡ 2 * r + 1 → At G q team floor enough (A .step .list) x (2 * (r + 1)) (has-value v)
     tossed cs x k t A asked e =
         let g = votes-go n r v v (t .stage) (A .state) refl e (A .all-ok) in
-        gone-on G q team floor enough (A .step .list) x k (t .stage) (t .decision) (A .state) v (A .station) (2 * (r + 1)) (has-value v) (A .ended)
+        gone-on G q team floor enough (A .step .list) x k (t .stage) (t .lasting .decision) (A .state) v (A .station) (2 * (r + 1)) (has-value v) (A .ended)
         (before-last (t .stage) (omega arith)) (g .0) (eq-eqb (follows n (t .stage) (A .state) v .value) v (g .1))
 
     -- equal proposals: all vote v
-    voted : (cs : List Call) (x k : ℕ) (t : Station) (A : Advanced G q team floor cs x k (t .stage) (t .decision) (t .jump) v (has-value v)) → t .identity .question ≡ q
+    voted : (cs : List Call) (x k : ℕ) (t : Station) (A : Advanced G q team floor cs x k (t .stage) (t .lasting .decision) (t .lasting .jump) v (has-value v)) → t .identity .question ≡ q
         → stage-step (t .stage) ≡ 2 * (r + 1) → At G q team floor enough (A .step .list) x (2 * (r + 1) + 1) (has-value v)
     voted cs x k t A asked e =
         let g = proposals-go n (r + 1) v v (t .stage) (A .state) bit (omega arith) e (omega (arith, A .full)) (A .all-ok) in
-        gone-on G q team floor enough (A .step .list) x k (t .stage) (t .decision) (A .state) v (A .station) (2 * (r + 1) + 1) (has-value v) (A .ended)
+        gone-on G q team floor enough (A .step .list) x k (t .stage) (t .lasting .decision) (A .state) v (A .station) (2 * (r + 1) + 1) (has-value v) (A .ended)
         (before-last (t .stage) (omega arith)) (g .0) (eq-eqb (follows n (t .stage) (A .state) v .value) v (g .1))
 
     -- equal votes: all have decided, and go on or are closed
-    decided : (cs : List Call) (x k : ℕ) (t : Station) (A : Advanced G q team floor cs x k (t .stage) (t .decision) (t .jump) v (has-value v)) → t .identity .question ≡ q
+    decided : (cs : List Call) (x k : ℕ) (t : Station) (A : Advanced G q team floor cs x k (t .stage) (t .lasting .decision) (t .lasting .jump) v (has-value v)) → t .identity .question ≡ q
         → stage-step (t .stage) ≡ 2 * (r + 1) + 1 → Done (A .step .list) (r + 1) v x
     decided cs x k t A asked e = go (A .ended)
       where
         voted-v : quorum n ≤ count (votes (A .presents .line .took) q (r + 1) v) n
         voted-v = A .voted (r + 1) v e (A .all-ok)
 
-        go : Ended G q (A .step .list) x k (t .stage) (t .decision) (A .state) v (A .station) → Done (A .step .list) (r + 1) v x
+        go : Ended G q (A .step .list) x k (t .stage) (t .lasting .decision) (A .state) v (A .station) → Done (A .step .list) (r + 1) v x
         go (went more w se) =
             let g = votes-go n (r + 1) v v (t .stage) (A .state) refl e (calm-of v (A .state .held) (A .all-ok)) in
             record {

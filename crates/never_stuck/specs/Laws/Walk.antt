@@ -56,7 +56,7 @@ module _ (G : Ground present-form) where
 
   pub record Up (cs : List Call) (i : ℕ) (t : Station) : Type 0 where
     pub reached : Reached mac key n i t
-    pub told : t .closed ≡ false → t .jump ≡ false → (s : ℕ) → s ≤ stage-step (t .stage) → (s ≡ 1 → ⊥) → Said G cs i (t .identity .question) s any
+    pub told : t .closed ≡ false → t .lasting .jump ≡ false → (s : ℕ) → s ≤ stage-step (t .stage) → (s ≡ 1 → ⊥) → Said G cs i (t .identity .question) s any
     pub latest : t .closed ≡ false → Latest cs i t
     pub has-coded : last-for (modules mac key n cs i) (t .identity .question) .coded ≡ true
     pub behind : t .identity .question ≤ last-for (modules mac key n cs i) (t .identity .question) .question

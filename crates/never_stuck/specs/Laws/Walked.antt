@@ -31,7 +31,7 @@ use Rattle.station.specs.declared.Stage.{Stage}
 use Rattle.station.specs.declared.Stage.the-variants.{Gathering}
 use Rattle.station.specs.declared.Station.{Station}
 use Rattle.station.specs.Machine as Mach
-use Rattle.station.specs.Machine.{State, Next, Outcome, keeps, sends, began, shut, stage-of, follows, closes, stage-step}
+use Rattle.station.specs.Machine.{State, Next, Outcome, keeps, sends, began, shut, stage-of, follows, closes, stage-step, undecided}
 use Rattle.station.specs.Present as W
 use Rattle.station.specs.Calls.{Returned}
 use Rattle.station.specs.Returns.{unrefused, wrote, wrote-unrefused, sent-wrote}
@@ -42,8 +42,9 @@ use Rattle.station.specs.Laws.Sane.{Sane, state-back}
 use Rattle.station.specs.Laws.Keep.{steps-0}
 use Rattle.station.specs.Laws.Bundles.{backed-few}
 use Rattle.station.specs.Laws.Fits.{own-proper, init-sane, next-ready, sent-proper, sent-sane, kept-sane, jump-proper, jump-fitting, jump-sane}
-use Rattle.station.specs.Laws.Views.{InRange, init-statement, Opens, no-opening, begins, opens-view, Accepted, Jumping, after, decision-then, sent-statement, jump-statement, Gives, refuses, holds-on, shuts, goes-on, enters, gives-view}
+use Rattle.station.specs.Laws.Views.{InRange, init-statement, Opens, no-opening, begins, opens-view, Accepted, Jumping, after, lasting-then, sent-statement, jump-statement, Gives, refuses, holds-on, shuts, goes-on, enters, gives-view}
 use Rattle.station.specs.Present.{state-of, returned, opening, giving, opening-outcome, giving-outcome, no-station, Lengths, Reached}
+use Rattle.station.specs.declared.Lasting.{Lasting}
 use Rattle.agreement.specs.Maths.Just.{Coded}
 use Rattle.agreement.specs.Laws.Ground.{Ground}
 use Rattle.agreement.specs.Laws.Line.{Line, reads}
@@ -100,7 +101,7 @@ module _ (G : Ground present-form) where
         S = init-statement present-form mac mm q v out
 
         abbrev U : State
-        U = began n q (eqb setting 1) Gathering none S []
+        U = began n q (undecided (eqb setting 1)) Gathering S []
 
         abbrev T : Station
         T = W.as-station n i U
@@ -255,7 +256,7 @@ module _ (G : Ground present-form) where
 
         -- nothing was written: the module is as it was
         quiet-walk : (u : State) → answer mac key n cs g .station ≡ W.as-station n i u → answer mac key n cs g .after ≡ mm → u .question ≡ Q → u .stage ≡ t .stage
-            → (u .closed ≡ false → (t .closed ≡ false) × ((u .jump ≡ t .jump) × ((ok : Statement → Bool) → every ok (state-of (W.as-station n i u) .held) ≡ true → every ok (state-of t .held) ≡ true)))
+            → (u .closed ≡ false → (t .closed ≡ false) × ((u .lasting .jump ≡ t .lasting .jump) × ((ok : Statement → Bool) → every ok (state-of (W.as-station n i u) .held) ≡ true → every ok (state-of t .held) ≡ true)))
             → Walk G (g ∷ cs) i
         unfolding Rattle.station.specs.Words.as-station
         quiet-walk u is m asked stage op =
@@ -282,12 +283,12 @@ module _ (G : Ground present-form) where
         known = subst (λ (z : Station). Line present-form n (reads present-form (log mac key n cs)) i z (p .line .took)) (p .now) (I .lines i o (p .line) lo hi h (p .is))
 
         -- a bundle of a later step was written, and the station is in that step: its step has ended, or it has jumped
-        module _ (k : ℕ) (S2 : Statement) (C : List Statement) (G2 : Stage) (d : ℕ) (mine-2 : S2 .station ≡ i) (on-2 : S2 .question ≡ Q) (step-2 : step S2 ≡ stage-step G2)
+        module _ (k : ℕ) (S2 : Statement) (C : List Statement) (G2 : Stage) (l : Lasting) (mine-2 : S2 .station ≡ i) (on-2 : S2 .question ≡ Q) (step-2 : step S2 ≡ stage-step G2)
             (ab : above (last-for mm Q) Q (step S2) ≡ true) (wk : wrote k ≡ true) (proper-2 : Proper present-form n S2) (proper-c : All (Proper present-form n) C) (few-c : length C ≤ most-statements)
-            (coded-c : All (Coded n (reads present-form (log mac key n cs))) C) (sane-2 : Sane present-form n i (began n Q (t .jump) G2 d S2 C)) (still-open : t .closed ≡ false)
-            (from : t .jump ≡ false → (s : ℕ) → s ≤ stage-step G2 → (s ≡ 1 → ⊥) → (s ≤ stage-step (t .stage)) ⊎ (s ≡ stage-step G2)) where
+            (coded-c : All (Coded n (reads present-form (log mac key n cs))) C) (sane-2 : Sane present-form n i (began n Q l G2 S2 C)) (still-open : t .closed ≡ false) (same : l .jump ≡ t .lasting .jump)
+            (from : t .lasting .jump ≡ false → (s : ℕ) → s ≤ stage-step G2 → (s ≡ 1 → ⊥) → (s ≤ stage-step (t .stage)) ⊎ (s ≡ stage-step G2)) where
           abbrev U2 : State
-          U2 = began n Q (t .jump) G2 d S2 C
+          U2 = began n Q l G2 S2 C
 
           abbrev T2 : Station
           T2 = W.as-station n i U2
@@ -336,7 +337,7 @@ module _ (G : Ground present-form) where
             up-2 =
                 record {
                   reached = subst (λ (z : Station). Reached mac key n i z) station-2 reached-then;
-                  told = λ c off s a b. tell off s (from off s a b) b;
+                  told = λ c off s a b. let was = sym same ∙ off in tell was s (from was s a b) b;
                   latest = λ a. record {
                     words = message (answer mac key n cs g);
                     spoke = spoke-2;
@@ -348,7 +349,7 @@ module _ (G : Ground present-form) where
                   in-time = λ a b. last-2;
                 }
               where
-                tell : t .jump ≡ false → (s : ℕ) → (s ≤ stage-step (t .stage)) ⊎ (s ≡ stage-step G2) → (s ≡ 1 → ⊥) → Said G (g ∷ cs) i Q s any
+                tell : t .lasting .jump ≡ false → (s : ℕ) → (s ≤ stage-step (t .stage)) ⊎ (s ≡ stage-step G2) → (s ≡ 1 → ⊥) → Said G (g ∷ cs) i Q s any
                 tell off s (inl a) b = said-later G g cs i Q s any (up-t .told still-open off s a b)
                 tell off s (inr a) b =
                     record { words = message (answer mac key n cs g); spoke = subst (λ (z : ℕ). Spoke G (g ∷ cs) i Q z (message (answer mac key n cs g))) (sym a) spoke-2; passes = refl }
@@ -379,26 +380,26 @@ module _ (G : Ground present-form) where
         proper-1 = let R = next-ready present-form mac eight mm t ws coin out len A size more in all-append (Proper present-form n) (X .first) (X .second) (R .proper) (R .more-proper)
 
         ended-walk : (ung : unrefused (answer mac key n cs g .number) ≡ true)
-            → answer mac key n cs g ≡ returned mm t out (sends k S1 (X .first ++ X .second) (began n Q (t .jump) (X .stage) (decision-then present-form mac mm t ws coin out) S1 (X .first ++ X .second)))
+            → answer mac key n cs g ≡ returned mm t out (sends k S1 (X .first ++ X .second) (began n Q (lasting-then present-form mac mm t ws coin out) (X .stage) S1 (X .first ++ X .second)))
             → Walk G (g ∷ cs) i
         ended-walk ung e =
             let R = reached-good present-form mac key n eight i t (up-t ung .reached) .certain (A .still-open) in
             let few = backed-few present-form n S1 (X .first ++ X .second) top (sent-backed present-form mac mm t ws coin out A eight len R size more) in
             let c = parts-coded present-form mac eight mm t ws coin out (log mac key n cs) (p ung .line .took) (known ung) A came in
-            sent-walk ung k S1 (X .first ++ X .second) (X .stage) (decision-then present-form mac mm t ws coin out) refl refl step-1 ab wk (sent-proper present-form mac eight mm t ws coin out len A size more) proper-1 few
-            (all-append (Coded n (reads present-form (log mac key n cs))) (X .first) (X .second) (c .0) (c .1)) (sent-sane present-form mac eight mm t ws coin out len A size more) (A .still-open)
+            sent-walk ung k S1 (X .first ++ X .second) (X .stage) (lasting-then present-form mac mm t ws coin out) refl refl step-1 ab wk (sent-proper present-form mac eight mm t ws coin out len A size more) proper-1 few
+            (all-append (Coded n (reads present-form (log mac key n cs))) (X .first) (X .second) (c .0) (c .1)) (sent-sane present-form mac eight mm t ws coin out len A size more) (A .still-open) refl
             (λ off s a b. up-to (next-is n (t .stage) (after present-form mac mm t ws coin out) coin) s a b) e
 
       -- the station has jumped
       jumped-walk : (K : Jumping present-form mac mm t ws coin out) → above (last-for mm Q) Q (step (jump-statement present-form mac mm t ws coin out)) ≡ true
           → answer mac key n cs g ≡ returned mm t out (sends jumped (jump-statement present-form mac mm t ws coin out) (certificate-of ws)
-          (began n Q (t .jump) (stage-of (main-of ws)) (t .decision) (jump-statement present-form mac mm t ws coin out) (certificate-of ws))) → Walk G (g ∷ cs) i
+          (began n Q (t .lasting) (stage-of (main-of ws)) (jump-statement present-form mac mm t ws coin out) (certificate-of ws))) → Walk G (g ∷ cs) i
       unfolding Rattle.station.specs.Calls.returned
       jumped-walk K ab e =
           let ung : unrefused (answer mac key n cs g .number) ≡ true = ap (λ (r : Returned). unrefused (r .number)) e in
-          sent-walk ung jumped (jump-statement present-form mac mm t ws coin out) (certificate-of ws) (stage-of (main-of ws)) (t .decision) refl refl (jump-fitting present-form mac eight mm t ws coin out K .in-step) ab refl
+          sent-walk ung jumped (jump-statement present-form mac mm t ws coin out) (certificate-of ws) (stage-of (main-of ws)) (t .lasting) refl refl (jump-fitting present-form mac eight mm t ws coin out K .in-step) ab refl
           (jump-proper present-form mac eight mm t ws coin out K) (K .fitting .certificate) (jump-few present-form mac eight mm t ws coin out K) (given-coded present-form mac eight mm t ws coin out (log mac key n cs) (p ung .line .took) (known ung) K came)
-          (jump-sane present-form mac eight mm t ws coin out K len) (K .still-open) (λ off s a b. never (t .jump) off (K .on)) e
+          (jump-sane present-form mac eight mm t ws coin out K len) (K .still-open) refl (λ off s a b. never (t .lasting .jump) off (K .on)) e
 
       kept-walk : (A : Accepted present-form mac mm t ws coin out) → length (after present-form mac mm t ws coin out .held) < quorum n → answer mac key n cs g ≡ returned mm t out (keeps kept (after present-form mac mm t ws coin out))
           → Walk G (g ∷ cs) i
@@ -414,10 +415,10 @@ module _ (G : Ground present-form) where
             ),
           ))
 
-      shut-walk : (A : Accepted present-form mac mm t ws coin out) (d : ℕ) → answer mac key n cs g ≡ returned mm t out (keeps closed-now (shut (after present-form mac mm t ws coin out) d)) → Walk G (g ∷ cs) i
+      shut-walk : (A : Accepted present-form mac mm t ws coin out) (l : Lasting) → answer mac key n cs g ≡ returned mm t out (keeps closed-now (shut (after present-form mac mm t ws coin out) l)) → Walk G (g ∷ cs) i
       unfolding Rattle.station.specs.Calls.returned Rattle.station.specs.Words.state-of
-      shut-walk A d e =
-          quiet-walk (ap (λ (r : Returned). unrefused (r .number)) e) (shut (after present-form mac mm t ws coin out) d) (ap (λ (r : Returned). r .station) e) (ap (λ (r : Returned). r .after) e) refl refl (λ a. never true a refl)
+      shut-walk A l e =
+          quiet-walk (ap (λ (r : Returned). unrefused (r .number)) e) (shut (after present-form mac mm t ws coin out) l) (ap (λ (r : Returned). r .station) e) (ap (λ (r : Returned). r .after) e) refl refl (λ a. never true a refl)
 
       pub give-walk : Walk G (g ∷ cs) i
       unfolding Rattle.station.specs.Calls.returned
@@ -426,9 +427,9 @@ module _ (G : Ground present-form) where
           go : (x : Outcome) → giving-outcome mac mm t ws coin out ≡ x → Gives present-form mac mm t ws coin out x → Walk G (g ∷ cs) i
           go _ e (refuses {k} z) = refused-walk (gives o t ws coin out) t out k z (b-is ∙ ap (returned mm t out) e)
           go _ e (holds-on A few) = kept-walk A few (b-is ∙ ap (returned mm t out) e)
-          go _ e (shuts A size c) = shut-walk A (decision-then present-form mac mm t ws coin out) (b-is ∙ ap (returned mm t out) e)
+          go _ e (shuts A size c) = shut-walk A (lasting-then present-form mac mm t ws coin out) (b-is ∙ ap (returned mm t out) e)
           go _ e (goes-on {k} A size c a z) =
-              let wk : wrote k ≡ true = ap wrote z ∙ sent-wrote (ltb (t .decision) none || eqb (decision-then present-form mac mm t ws coin out) none) in
+              let wk : wrote k ≡ true = ap wrote z ∙ sent-wrote (ltb (t .lasting .decision) none || eqb (lasting-then present-form mac mm t ws coin out .decision) none) in
               ended-walk k A size c a wk (ap (λ (r : Returned). unrefused (r .number)) (b-is ∙ ap (returned mm t out) e) ∙ wrote-unrefused k wk) (b-is ∙ ap (returned mm t out) e)
           go _ e (enters K a) = jumped-walk K a (b-is ∙ ap (returned mm t out) e)
 

@@ -21,6 +21,9 @@ returns c =
 init-requires : tie.Need-init-requires
 init-requires c κs = search needs
 
+undecided-requires : tie.Need-undecided-requires
+undecided-requires c κs = search needs
+
 send-requires : tie.Need-send-requires
 send-requires c κs = search needs
 
@@ -30,12 +33,12 @@ same-length c = search needs
 returns-2 : tie.Need-returns-2
 returns-2 c =
     let s = c .before .before .before .before .send in
-    let a = c .before .before .before .before .before .before .before .before .before .before .before .before .args in
-    let left = c .before .before .before .before .before .before .before .before .before .if1 .left in
-    let zero-found : c .before .before .before .before .before .before .before .before .before .before .refusal .result ≡ 0 = search needs in
+    let a = c .before .before .before .before .before .before .before .before .before .before .before .before .before .args in
+    let left = c .before .before .before .before .before .before .before .before .before .before .if1 .left in
+    let zero-found : c .before .before .before .before .before .before .before .before .before .before .before .refusal .result ≡ 0 = search needs in
     opens-answers (a .m) (a .question) (a .proposal) (a .jump) (a .out .now) _ _ _ _ _ _ _ _
-    (c .before .before .before .before .before .before .before .before .before .before .refusal .ensures) zero-found
-    (c .before .before .before .before .before .before .before .before .init .ensures) (s .ensures) (λ i. c .before .before .slice-known2 .given i .fits)
+    (c .before .before .before .before .before .before .before .before .before .before .before .refusal .ensures) zero-found
+    (c .before .before .before .before .before .before .before .before .before .init .ensures) (rw (c .before .before .before .before .before .before .before .before .undecided .ensures) at (s .ensures)) (λ i. c .before .before .slice-known2 .given i .fits)
 
 pub open-spec : {M : Type 1} → statement M
 open-spec =
@@ -45,6 +48,7 @@ open-spec =
     none-requires
     returns
     init-requires
+    undecided-requires
     send-requires
     same-length
     returns-2)

@@ -23,6 +23,7 @@ use Rattle.format.specs.Laws.ReadBack.{Proper}
 use Rattle.format.specs.Present.{output-words, most-stations}
 use Rattle.station.specs.Decision.{opens}
 use Rattle.station.specs.Answers.{Answers}
+use Rattle.station.specs.Machine.{undecided}
 use Rattle.station.specs.Present.{opening}
 use Rattle.writer.specs.Laws.Bundle.{Certificate}
 use Rattle.laws.specs.Below.{Below}
@@ -39,7 +40,7 @@ no-certificate n slots group top =
 module _ (m : Module) (question proposal jump : ℕ) (out slots group : List ℕ) where
   pub opens-answers : (k count : ℕ) (t : Station) (after : Module) (xs : List ℕ) (f : Fields) → k ≡ open-refusal m question proposal jump (length out) → k ≡ 0
       → f ≡ own-fields m kind-INIT proposal D-GET 0
-      → (count ≡ sent-count 0 0 out) × (t ≡ sent-station m question (eqb jump 1) Gathering 2 (sent-bundle m question f slots 0 group 0 out)) × (after ≡ sent-after m question f slots 0 group 0 out)
+      → (count ≡ sent-count 0 0 out) × (t ≡ sent-station m question (undecided (eqb jump 1)) Gathering (sent-bundle m question f slots 0 group 0 out)) × (after ≡ sent-after m question f slots 0 group 0 out)
       × (xs ≡ sent-lent m question f slots 0 group 0 out)
       → Below xs → Answers (opening hmac-code m question proposal jump out) sent count t after xs
   unfolding Rattle.station.specs.Words.set-of step step-of Rattle.laws.specs.Pick.pick
@@ -53,10 +54,10 @@ module _ (m : Module) (question proposal jump : ℕ) (out slots group : List ℕ
       let lo : Below (sent-lent m question (own-fields m kind-INIT proposal D-GET 0) slots 0 group 0 out) = rw (← x) low in
       record {
         number-is = ap (λ (y : Returned). y .number) (sym r);
-        count-is = s .0 ∙ count-is m question kind-INIT proposal D-GET 0 (eqb jump 1) Gathering none [] [] slots group C [] refl out (P .room) p (P .fit) (P .later) ∙ ap (λ (y : Returned). y .count) (sym r);
+        count-is = s .0 ∙ count-is m question kind-INIT proposal D-GET 0 (undecided (eqb jump 1)) Gathering [] [] slots group C [] refl out (P .room) p (P .fit) (P .later) ∙ ap (λ (y : Returned). y .count) (sym r);
         station-is = rw (← ef) (s .1)
-            ∙ station-is m question kind-INIT proposal D-GET 0 (eqb jump 1) Gathering none [] [] slots group C [] refl out (P .room) p (P .fit) (P .later) lo
+            ∙ station-is m question kind-INIT proposal D-GET 0 (undecided (eqb jump 1)) Gathering [] [] slots group C [] refl out (P .room) p (P .fit) (P .later) lo
             ∙ ap (λ (y : Returned). y .station) (sym r);
-        after-is = rw (← ef) (s .2) ∙ after-is m question kind-INIT proposal D-GET 0 (eqb jump 1) Gathering none [] [] slots group C [] refl out (P .room) p (P .fit) (P .later) ∙ ap (λ (y : Returned). y .after) (sym r);
-        lent-is = x ∙ lent-is m question kind-INIT proposal D-GET 0 (eqb jump 1) Gathering none [] [] slots group C [] refl out (P .room) p (P .fit) (P .later) ∙ ap (λ (y : Returned). y .lent) (sym r);
+        after-is = rw (← ef) (s .2) ∙ after-is m question kind-INIT proposal D-GET 0 (undecided (eqb jump 1)) Gathering [] [] slots group C [] refl out (P .room) p (P .fit) (P .later) ∙ ap (λ (y : Returned). y .after) (sym r);
+        lent-is = x ∙ lent-is m question kind-INIT proposal D-GET 0 (undecided (eqb jump 1)) Gathering [] [] slots group C [] refl out (P .room) p (P .fit) (P .later) ∙ ap (λ (y : Returned). y .lent) (sym r);
       }

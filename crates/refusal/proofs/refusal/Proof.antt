@@ -39,34 +39,34 @@ returns-4 c =
 
 shared-slice-read-read-fields : tie.Need-shared-slice-read-read-fields
 shared-slice-read-read-fields c =
-    let j = c .before .before .before .before .before in
+    let j = c .before .before .before .before .before .before in
     let e = j .before .before .before in
     let f = e .before .before in
     let a = f .before .before .before .args in
     two-words (a .m) (a .t) (a .ws .now) (a .coin) (a .room) (f .before .if1 .left) (f .fits-module .result) (f .fits-module .ensures) (e .before .if2 .left) (e .if3 .left)
-    (j .judge .result) (j .judge .ensures) (c .before .before .before .before .if4 .left)
+    (j .judge .result) (j .judge .ensures) (c .before .before .before .before .before .if4 .left)
 
 read-fields-requires : tie.Need-read-fields-requires
 read-fields-requires c κs = search needs
 
 step-refusal-requires : tie.Need-step-refusal-requires
 step-refusal-requires c κs =
-    let j = c .before .before .before .before .before .before in
-    let e = j .before .before .before in
-    let f = e .before .before in
-    let a = f .before .before .before .args in
-    station-low (a .m) (a .t) (a .ws .now) (a .coin) (a .room) (f .before .if1 .left) (f .fits-module .result) (f .fits-module .ensures) (e .before .if2 .left) (e .if3 .left)
-    (j .judge .result) (j .judge .ensures) (c .before .before .before .before .before .if4 .left)
-    (c .read-fields .result) (c .read-fields .ensures)
-
-returns-5 : tie.Need-returns-5
-returns-5 c =
     let j = c .before .before .before .before .before .before .before in
     let e = j .before .before .before in
     let f = e .before .before in
     let a = f .before .before .before .args in
-    answer-step (a .m) (a .t) (a .ws .now) (a .coin) (a .room) (f .before .if1 .left) (f .fits-module .result) (f .fits-module .ensures) (e .before .if2 .left) (e .if3 .left)
+    station-low (a .m) (a .t) (a .ws .now) (a .coin) (a .room) (f .before .if1 .left) (f .fits-module .result) (f .fits-module .ensures) (e .before .if2 .left) (e .if3 .left)
     (j .judge .result) (j .judge .ensures) (c .before .before .before .before .before .before .if4 .left)
+    (c .read-fields .result) (c .read-fields .ensures)
+
+returns-5 : tie.Need-returns-5
+returns-5 c =
+    let j = c .before .before .before .before .before .before .before .before in
+    let e = j .before .before .before in
+    let f = e .before .before in
+    let a = f .before .before .before .args in
+    answer-step (a .m) (a .t) (a .ws .now) (a .coin) (a .room) (f .before .if1 .left) (f .fits-module .result) (f .fits-module .ensures) (e .before .if2 .left) (e .if3 .left)
+    (j .judge .result) (j .judge .ensures) (c .before .before .before .before .before .before .before .if4 .left)
     (c .before .read-fields .result) (c .before .read-fields .ensures) (c .step-refusal .result) (c .step-refusal .ensures)
 
 pub refusal-spec : {M : Type 1} → statement M

@@ -158,5 +158,5 @@ module _ (m : Module) (t : Station) (ws : List ℕ) (coin room : ℕ) where
                 (bit-is-held (m .n) (t .identity .question) (stage-step (t .stage)) (t .held .heard) (t .held .slots) (station-of (getD ws 1 0)) slots-right
                 (main-station .0) hi)
 
-            pub answer-step : (k : ℕ) → k ≡ step-refused (t .stage) (t .jump) (t .held .heard) (held-by t) f → k ≡ first-refusal m t ws coin room
+            pub answer-step : (k : ℕ) → k ≡ step-refused (t .stage) (t .lasting .jump) (t .held .heard) (held-by t) f → k ≡ first-refusal m t ws coin room
             answer-step k e = e ∙ step-refused-is t ws f r known ∙ chain-passed a3 a4 a5 a6 _ clear ∙ sym refused-is

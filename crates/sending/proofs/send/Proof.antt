@@ -33,7 +33,7 @@ same-length c = search needs
 returns : tie.Need-returns
 returns c =
     let a = c .before .before .before .before .before .before .before .before .before .before .before .before .before .args in
-    sent-all (a .m) (a .question) (a .f) (a .jump) (a .stage) (a .decision) (a .slots .now) (a .set) (a .group .now) (a .k) (a .out .now) _ _ _ _ _ _
+    sent-all (a .m) (a .question) (a .f) (a .lasting) (a .stage) (a .slots .now) (a .set) (a .group .now) (a .k) (a .out .now) _ _ _ _ _ _
     (c .before .before .before .before .before .before .before .before .before .before .before .write-fields .ensures) (c .before .before .before .before .before .before .before .before .write-bundle .ensures) (c .before .before .before .before .code-main .ensures) (c .begin .ensures)
 
 pub send-spec : {M : Type 1} → statement M

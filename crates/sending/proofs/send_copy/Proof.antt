@@ -33,7 +33,7 @@ same-length c = search needs
 returns : tie.Need-returns
 returns c =
     let a = c .before .before .before .before .before .before .before .before .before .before .before .before .before .args in
-    copied-all (a .m) (a .question) (a .f) (a .jump) (a .stage) (a .decision) (a .ws .now) (a .out .now) _ _ _ _ _ _
+    copied-all (a .m) (a .question) (a .f) (a .lasting) (a .stage) (a .ws .now) (a .out .now) _ _ _ _ _ _
     (c .before .before .before .before .before .before .before .before .before .before .write-fields .ensures) (c .before .before .before .before .before .before .before .before .copy-bundle .ensures) (c .before .before .before .before .code-main .ensures) (c .begin .ensures)
 
 pub send-copy-spec : {M : Type 1} → statement M

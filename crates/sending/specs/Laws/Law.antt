@@ -19,6 +19,7 @@ use Rattle.modules.specs.declared.Module.{Module}
 use Rattle.sealed.specs.Sealed.{Coded, by-coin}
 use Rattle.sealed.specs.Answers.{Answered}
 use Rattle.sealed.specs.Present.{coding-plain, coding-coin}
+use Rattle.station.specs.declared.Lasting.{Lasting}
 use Rattle.station.specs.declared.Stage.{Stage}
 use Rattle.station.specs.declared.Station.{Station}
 use Rattle.writer.specs.Written.{writable, lent-after, count-after, copyable, copy-after, copy-count}
@@ -44,14 +45,14 @@ main-fits lent set k h = go (writable lent set (ones set) k) refl h
     go false e h = absurd (h refl)
 
 -- what the calls of `send` answer, put together
-pub sent-all : (m : Module) (q : ℕ) (f : Fields) (j : Bool) (g : Stage) (d : ℕ) (slots : List ℕ) (set : ℕ) (group : List ℕ) (k : ℕ) (out : List ℕ) (w0 : ℕ) (count : ℕ)
+pub sent-all : (m : Module) (q : ℕ) (f : Fields) (l : Lasting) (g : Stage) (slots : List ℕ) (set : ℕ) (group : List ℕ) (k : ℕ) (out : List ℕ) (w0 : ℕ) (count : ℕ)
     (t : Station) (after : Module) (xs ys : List ℕ)
     → w0 ≡ word-of f → (count ≡ count-after (length out) set k) × (xs ≡ lent-after w0 q (replicate code-words 0) slots set group k out)
-    → (after ≡ coded-after m f count xs) × (ys ≡ coded-lent m f count xs) → t ≡ sent-station m q j g d (take count ys)
-    → (count ≡ sent-count set k out) × (t ≡ sent-station m q j g d (sent-bundle m q f slots set group k out)) × (after ≡ sent-after m q f slots set group k out)
+    → (after ≡ coded-after m f count xs) × (ys ≡ coded-lent m f count xs) → t ≡ sent-station m q l g (take count ys)
+    → (count ≡ sent-count set k out) × (t ≡ sent-station m q l g (sent-bundle m q f slots set group k out)) × (after ≡ sent-after m q f slots set group k out)
     × (ys ≡ sent-lent m q f slots set group k out)
 unfolding sent-count sent-bundle sent-after sent-lent drafted
-sent-all m q f j g d slots set group k out w0 count t after xs ys ew ecx eay et =
+sent-all m q f l g slots set group k out w0 count t after xs ys ew ecx eay et =
     let x : xs ≡ lent-after (word-of f) q (replicate 8 0) slots set group k out = rw (← ew) (ecx .1) in
     let y : ys ≡ coded-lent m f (count-after (length out) set k) (lent-after (word-of f) q (replicate 8 0) slots set group k out) = rw (← x, ← ecx .0) (eay .1) in
     (ecx .0, rw (← y, ← ecx .0) et, rw (← x, ← ecx .0) (eay .0), y)
@@ -73,12 +74,12 @@ copy-main-fits have lent h = go (leb 11 have && leb have lent) refl h
     go true e h = let a = both (leb 11 have) _ e in omega (arith, leb-true 11 have (a .0), leb-true have lent (a .1))
     go false e h = absurd (h refl)
 
-pub copied-all : (m : Module) (q : ℕ) (f : Fields) (j : Bool) (g : Stage) (d : ℕ) (ws out : List ℕ) (w0 : ℕ) (count : ℕ) (t : Station) (after : Module) (xs ys : List ℕ)
+pub copied-all : (m : Module) (q : ℕ) (f : Fields) (l : Lasting) (g : Stage) (ws out : List ℕ) (w0 : ℕ) (count : ℕ) (t : Station) (after : Module) (xs ys : List ℕ)
     → w0 ≡ word-of f → (count ≡ copy-count (length ws) (length out)) × (xs ≡ copy-after w0 ws out)
-    → (after ≡ coded-after m f count xs) × (ys ≡ coded-lent m f count xs) → t ≡ sent-station m q j g d (take count ys)
-    → (count ≡ copy-count (length ws) (length out)) × (t ≡ sent-station m q j g d (copy-bundle m f ws out)) × (after ≡ copy-module m f ws out) × (ys ≡ copy-lent m f ws out)
+    → (after ≡ coded-after m f count xs) × (ys ≡ coded-lent m f count xs) → t ≡ sent-station m q l g (take count ys)
+    → (count ≡ copy-count (length ws) (length out)) × (t ≡ sent-station m q l g (copy-bundle m f ws out)) × (after ≡ copy-module m f ws out) × (ys ≡ copy-lent m f ws out)
 unfolding copy-bundle copy-module copy-lent
-copied-all m q f j g d ws out w0 count t after xs ys ew ecx eay et =
+copied-all m q f l g ws out w0 count t after xs ys ew ecx eay et =
     let x : xs ≡ copy-after (word-of f) ws out = rw (← ew) (ecx .1) in
     let y : ys ≡ coded-lent m f (copy-count (length ws) (length out)) (copy-after (word-of f) ws out) = rw (← x, ← ecx .0) (eay .1) in
     (ecx .0, rw (← y, ← ecx .0) et, rw (← x, ← ecx .0) (eay .0), y)

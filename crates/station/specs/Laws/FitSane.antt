@@ -177,9 +177,9 @@ module _ (form : Form) where
         let c = both (ltb (t .held .heard) (2 ^ sites form) && ltb (ones (t .held .heard)) (quorum n) && bit (t .held .heard) (number - 1)) _ (b .0) in
         let d = both (ltb (t .held .heard) (2 ^ sites form) && ltb (ones (t .held .heard)) (quorum n)) _ (c .0) in
         let e = both (ltb (t .held .heard) (2 ^ sites form)) _ (d .0) in
-        let u = both (stage-fits form (t .stage) (getD (t .held .slots) ((number - 1) * statement-words form) 0) && leb (t .decision) none
+        let u = both (stage-fits form (t .stage) (getD (t .held .slots) ((number - 1) * statement-words form) 0) && leb (t .lasting .decision) none
         && group-fits form n (t .identity .question) (kept-for-value n (t .stage) (held-by form t)) (t .groups .value)) _ (b .1) in
-        let v = both (stage-fits form (t .stage) (getD (t .held .slots) ((number - 1) * statement-words form) 0) && leb (t .decision) none) _ (u .0) in
+        let v = both (stage-fits form (t .stage) (getD (t .held .slots) ((number - 1) * statement-words form) 0) && leb (t .lasting .decision) none) _ (u .0) in
         let w = both (stage-fits form (t .stage) (getD (t .held .slots) ((number - 1) * statement-words form) 0)) _ (v .0) in
         let room : (0 + sites form) * statement-words form ≤ length (t .held .slots) = omega (arith, L .slots) in
         let R = read-slots n (t .identity .question) (stage-step (t .stage)) (t .held .heard) (t .held .slots) (sites form) 0 room (c .1) in

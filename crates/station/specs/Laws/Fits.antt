@@ -25,7 +25,7 @@ use Rattle.modules.specs.Counter.{last-for}
 use Rattle.station.specs.declared.Stage.{Stage}
 use Rattle.station.specs.declared.Stage.the-variants.{Gathering, Proposing, Voting}
 use Rattle.station.specs.declared.Station.{Station}
-use Rattle.station.specs.Machine.{State, Outcome, own, began, shut, round-in, stage-step, stage-of, copied-value, supplies-for-value, supplies-for-none, closes, decision-at, decided, vote-value, follows, after-votes, carried, has-value, kept-for-value, kept-for-none, value-group, leading, no-group}
+use Rattle.station.specs.Machine.{State, Outcome, own, began, shut, round-in, stage-step, stage-of, copied-value, supplies-for-value, supplies-for-none, closes, decision-at, decided, vote-value, follows, after-votes, carried, has-value, kept-for-value, kept-for-none, value-group, leading, no-group, undecided}
 use Rattle.station.specs.Words as W
 use Rattle.station.specs.Words.{state-of, Lengths}
 use Rattle.station.specs.Fit.{fits}
@@ -35,8 +35,9 @@ use Rattle.station.specs.Laws.Sane.{Kept, InRounds, FlagOf, Sane, sane-f
 use Rattle.station.specs.Laws.FitSane.{fits-sane}
 use Rattle.station.specs.Laws.Keep.{Fitting, keep-sane, all-take, taken-for-value, taken-for-none, stage-of-rounds, stage-of-flag}
 use Rattle.station.specs.Laws.End.{Full, Given, Ready, inits-ready, inits-backed, votes-ready, votes-backed, proposals-ready, proposals-backed}
-use Rattle.station.specs.Laws.Views.{InRange, Accepted, Jumping, jump-statement, after, decision-then, sent-statement, Gives, refuses, holds-on, shuts, goes-on, enters, gives-view, sane-before, full-after, init-statement, Opens, no-opening, begins, opens-view}
+use Rattle.station.specs.Laws.Views.{InRange, Accepted, Jumping, jump-statement, after, lasting-then, sent-statement, Gives, refuses, holds-on, shuts, goes-on, enters, gives-view, sane-before, full-after, init-statement, Opens, no-opening, begins, opens-view}
 use Rattle.station.specs.Returns.{unrefused}
+use Rattle.station.specs.declared.Lasting.{Lasting}
 
 -- ---- decisions are 0, 1 or none
 vote-low : (h : List Statement) → vote-value h ≤ none
@@ -60,8 +61,8 @@ decision-low (Voting r) old h e = go (ltb old none)
 
 module _ (form : Form) where
   -- ---- a station that has just sent
-  module _ (n number question d : ℕ) (jump : Bool) (g : Stage) (s : Statement) (c : List Statement) (big : least-stations ≤ n) (p : Proper form n s) (mine : s .station ≡ number)
-      (low : 1 ≤ s .station) (asked : s .question ≡ question) (steps : step s ≡ stage-step g) (r : InRounds form g) (f : FlagOf g s) (e : d ≤ none)
+  module _ (n number question : ℕ) (l : Lasting) (g : Stage) (s : Statement) (c : List Statement) (big : least-stations ≤ n) (p : Proper form n s) (mine : s .station ≡ number)
+      (low : 1 ≤ s .station) (asked : s .question ≡ question) (steps : step s ≡ stage-step g) (r : InRounds form g) (f : FlagOf g s) (e : l .decision ≤ none)
       (cp : All (Proper form n) c) (ca : All (λ s. s .question ≡ question) c)
       (one : supplies-for-value g s ≡ true → Holds (value-group n g (s .value)) (take (quorum n) c))
       (two : supplies-for-none g s ≡ true → Holds (none-votes n (round-in g - 1)) (take (quorum n) c)) where
@@ -87,7 +88,7 @@ module _ (form : Form) where
         go true x = kept-front (none-votes n (round-in g - 1)) (two x)
         go false x = nothing
 
-    pub began-sane : Sane form n number (began n question jump g d s c)
+    pub began-sane : Sane form n number (began n question l g s c)
     unfolding some
     began-sane =
         record {
@@ -104,7 +105,7 @@ module _ (form : Form) where
           for-none = for-none-kept;
         }
 
-  decision-before : (n number : ℕ) (t : Station) → Sane form n number (state-of form t) → t .decision ≤ none
+  decision-before : (n number : ℕ) (t : Station) → Sane form n number (state-of form t) → t .lasting .decision ≤ none
   unfolding state-of
   decision-before n number t S = S .decision
 
@@ -149,10 +150,10 @@ module _ (form : Form) where
         }
 
     pub init-sane : (m : Module) (question proposal : ℕ) (jump : Bool) → InRange form m → proposal < 2
-        → Sane form (m .n) (m .station) (began (m .n) question jump Gathering none (init-statement form mac m question proposal []) [])
+        → Sane form (m .n) (m .station) (began (m .n) question (undecided jump) Gathering (init-statement form mac m question proposal []) [])
     unfolding step
     init-sane m question p jump r v =
-        began-sane (m .n) (m .station) question none jump Gathering (init-statement form mac m question p []) [] (r .at-least)
+        began-sane (m .n) (m .station) question (undecided jump) Gathering (init-statement form mac m question p []) [] (r .at-least)
         (own-proper m question kind-INIT p D-GET 0 r (init refl refl v refl)) refl (r .low) refl refl tt tt (omega arith) tt tt
         (λ e. never false refl e) (λ e. never false refl e)
 
@@ -180,16 +181,16 @@ module _ (form : Form) where
           (next-ready size c .shape (sent-statement form mac m t ws coin out) refl refl refl refl)
 
       pub sent-sane : length (k .held) ≡ quorum (m .n) → closes (last-round form) (t .stage) ≡ false
-          → Sane form (m .n) (m .station) (began (m .n) (t .identity .question) (t .jump) (follows (m .n) (t .stage) k coin .stage) (decision-then form mac m t ws coin out)
+          → Sane form (m .n) (m .station) (began (m .n) (t .identity .question) (lasting-then form mac m t ws coin out) (follows (m .n) (t .stage) k coin .stage)
           (sent-statement form mac m t ws coin out) (follows (m .n) (t .stage) k coin .first ++ follows (m .n) (t .stage) k coin .second))
       unfolding step
       sent-sane size c-on =
           let x = follows (m .n) (t .stage) k coin in
           let R = next-ready size c-on in
           let c = x .first ++ x .second in
-          began-sane (m .n) (m .station) (t .identity .question) (decision-then form mac m t ws coin out) (t .jump) (x .stage) (sent-statement form mac m t ws coin out) c
+          began-sane (m .n) (m .station) (t .identity .question) (lasting-then form mac m t ws coin out) (x .stage) (sent-statement form mac m t ws coin out) c
           (A .range .at-least) (sent-proper size c-on) refl (A .range .low) refl (λ i. step-of (R .kind i) (R .round i)) (R .rounds) (R .flag (sent-statement form mac m t ws coin out) refl)
-          (decision-low (t .stage) (t .decision) (k .held) (decision-before (m .n) (m .station) t (sane-before form mac m t ws coin out L A)))
+          (decision-low (t .stage) (t .lasting .decision) (k .held) (decision-before (m .n) (m .station) t (sane-before form mac m t ws coin out L A)))
           (all-append (Proper form (m .n)) (x .first) (x .second) (R .proper) (R .more-proper))
           (all-append (λ s. s .question ≡ t .identity .question) (x .first) (x .second) (R .alike) (R .more-alike))
           (λ e. subst (λ (l : List Statement). Holds (value-group (m .n) (x .stage) (x .value)) l) (sym (R .front)) (R .for-value (sent-statement form mac m t ws coin out) refl refl e))
@@ -250,10 +251,10 @@ module _ (form : Form) where
       pub jump-rounds : InRounds form (stage-of (main-of form ws))
       jump-rounds = stage-of-rounds form (main-of form ws) given-shape up
 
-      pub jump-sane : Lengths form t → Sane form (m .n) (m .station) (began (m .n) (t .identity .question) (t .jump) (stage-of (main-of form ws)) (t .decision) u (certificate-of form ws))
+      pub jump-sane : Lengths form t → Sane form (m .n) (m .station) (began (m .n) (t .identity .question) (t .lasting) (stage-of (main-of form ws)) u (certificate-of form ws))
       unfolding state-of
       jump-sane L =
-          began-sane (m .n) (m .station) (t .identity .question) (t .decision) (t .jump) (stage-of (main-of form ws)) u (certificate-of form ws) (J .range .at-least) jump-proper refl (J .range .low) refl
+          began-sane (m .n) (m .station) (t .identity .question) (t .lasting) (stage-of (main-of form ws)) u (certificate-of form ws) (J .range .at-least) jump-proper refl (J .range .low) refl
           (jump-fitting .in-step) jump-rounds (stage-of-flag (main-of form ws) u refl)
           (decision-before (m .n) (m .station) t (fits-sane form (m .n) (m .station) t (J .range .at-most) (J .range .low) (J .range .high) L (J .fit) (J .still-open)))
           (J .fitting .certificate) (J .fitting .alike)
@@ -275,7 +276,7 @@ module _ (form : Form) where
         go _ (holds-on A few) u =
             sane-fits form (m .n) (m .station) (after form mac m t ws coin out) (A .range .at-most) (A .range .low) (A .range .high) (kept-sane m t ws coin out L A few)
         go _ (shuts A size c) u =
-            shut-fits (m .n) (m .station) (shut (after form mac m t ws coin out) (decision-then form mac m t ws coin out)) refl
+            shut-fits (m .n) (m .station) (shut (after form mac m t ws coin out) (lasting-then form mac m t ws coin out)) refl
         go _ (goes-on A size c above k) u = sane-fits form (m .n) (m .station) _ (A .range .at-most) (A .range .low) (A .range .high) (sent-sane m t ws coin out L A size c)
         go _ (enters J above) u = sane-fits form (m .n) (m .station) _ (J .range .at-most) (J .range .low) (J .range .high) (jump-sane m t ws coin out J L)
 
@@ -288,5 +289,5 @@ module _ (form : Form) where
             → fits form (m .n) (m .station) (returned form m (no-station form) out o .station) ≡ true
         go _ (no-opening e) u = never _ e u
         go _ (begins room r p a) u =
-            sane-fits form (m .n) (m .station) (began (m .n) question (eqb jump 1) Gathering none (init-statement form mac m question v out) []) (r .at-most) (r .low) (r .high)
+            sane-fits form (m .n) (m .station) (began (m .n) question (undecided (eqb jump 1)) Gathering (init-statement form mac m question v out) []) (r .at-most) (r .low) (r .high)
             (init-sane m question v (eqb jump 1) r p)

@@ -104,7 +104,7 @@ module _ (form : Form) where
     pub mine : held-of number (t .held) ≡ true
     pub rounds : InRounds (t .stage)
     pub flag : All (λ s. s .station ≡ number → FlagOf (t .stage) s) (t .held)
-    pub decision : t .decision ≤ none
+    pub decision : t .lasting .decision ≤ none
     pub for-value : Kept n (t .question) (kept-for-value n (t .stage) (t .held)) (t .for-value)
     pub for-none : Kept n (t .question) (kept-for-none n (t .stage) (t .held)) (t .for-none)
 
@@ -263,9 +263,9 @@ module _ (form : Form) where
         (join (ltb (set-of h) (2 ^ sites form) && ltb (ones (set-of h)) (quorum n) && bit (set-of h) (number - 1)) _
         (join (ltb (set-of h) (2 ^ sites form) && ltb (ones (set-of h)) (quorum n)) _ (join (ltb (set-of h) (2 ^ sites form)) _ (lt-ltb _ _ small) (lt-ltb _ _ count)) own-bit) slots)
         (rw held-read
-        (join (stage-fits form (t .stage) (getD (slots-of form h 1 (sites form)) ((number - 1) * statement-words form) 0) && leb (t .decision) none
+        (join (stage-fits form (t .stage) (getD (slots-of form h 1 (sites form)) ((number - 1) * statement-words form) 0) && leb (t .lasting .decision) none
         && group-fits form n (t .question) (kept-for-value n (t .stage) h) (group-words form (t .for-value))) _
-        (join (stage-fits form (t .stage) (getD (slots-of form h 1 (sites form)) ((number - 1) * statement-words form) 0) && leb (t .decision) none) _
+        (join (stage-fits form (t .stage) (getD (slots-of form h 1 (sites form)) ((number - 1) * statement-words form) 0) && leb (t .lasting .decision) none) _
         (join (stage-fits form (t .stage) (getD (slots-of form h 1 (sites form)) ((number - 1) * statement-words form) 0)) _ stage-ok (le-leb _ _ (S .decision))) one) two))))
 
     pub state-back : state-of form (W.as-station form n number t) ≡ t
@@ -276,4 +276,4 @@ module _ (form : Form) where
         = ap (statements form (group-words form (t .for-value)) 0) (sym (S .for-value .as-asked .size)) ∙ statements-back form n (t .for-value) (replicate (kept-words form - length (t .for-value) * statement-words form) 0) top (S .for-value .proper) in
         let two : statements form (group-words form (t .for-none)) 0 (kept-for-none n (t .stage) (t .held) .size) ≡ t .for-none
         = ap (statements form (group-words form (t .for-none)) 0) (sym (S .for-none .as-asked .size)) ∙ statements-back form n (t .for-none) (replicate (kept-words form - length (t .for-none) * statement-words form) 0) top (S .for-none .proper) in
-        rw h (λ i. record { question = t .question; stage = t .stage; closed = t .closed; jump = t .jump; decision = t .decision; held = t .held; for-value = one i; for-none = two i })
+        rw h (λ i. record { question = t .question; stage = t .stage; closed = t .closed; lasting = t .lasting; held = t .held; for-value = one i; for-none = two i })

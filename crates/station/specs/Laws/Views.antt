@@ -28,8 +28,9 @@ use Rattle.modules.specs.declared.Module.{Module}
 use Rattle.modules.specs.Counter.{above, module-fits, last-for}
 use Rattle.station.specs.declared.Stage.{Stage}
 use Rattle.station.specs.declared.Stage.the-variants.{Gathering}
+use Rattle.station.specs.declared.Lasting.{Lasting}
 use Rattle.station.specs.declared.Station.{Station}
-use Rattle.station.specs.Machine.{State, Outcome, refused, keeps, sends, Next, own, began, opened, stage-of, jumps, copied-value, entered, answered, keeping, closes, decision-at, shut, follows, moved, ended, taken, held-of, conflict, place-tests, stage-step}
+use Rattle.station.specs.Machine.{State, Outcome, refused, keeps, sends, Next, own, began, opened, stage-of, jumps, copied-value, entered, answered, keeping, closes, lasting-at, undecided, shut, follows, moved, ended, taken, held-of, conflict, place-tests, stage-step}
 use Rattle.station.specs.Words.{state-of, Lengths}
 use Rattle.station.specs.Fit.{fits}
 use Rattle.station.specs.Returns.{unrefused}
@@ -82,7 +83,7 @@ module _ (form : Form) where
         pub bundle : IsBundle form (m .n) ws
         pub codes : All (λ s. verifies form (mac (m .key)) s ≡ true) (statements form ws 1 (suc (count-in ws)))
         pub fitting : Fitting form (m .n) (state-of form t .question) (stage-of (main-of form ws)) (main-of form ws) (certificate-of form ws)
-        pub on : t .jump ≡ true
+        pub on : t .lasting .jump ≡ true
         pub ahead : stage-step (t .stage) < step (main-of form ws)
 
       -- the statement that a jump writes
@@ -93,8 +94,8 @@ module _ (form : Form) where
       abbrev pub after : State
       after = keeping (m .n) (state-of form t) (main-of form ws) (certificate-of form ws)
 
-      abbrev pub decision-then : ℕ
-      decision-then = decision-at (t .stage) (t .decision) (after .held)
+      abbrev pub lasting-then : Lasting
+      lasting-then = lasting-at (t .stage) (t .lasting) (after .held)
 
       -- the statement that is sent
       abbrev pub sent-statement : Statement
@@ -106,16 +107,16 @@ module _ (form : Form) where
         refuses : {k : ℕ} → unrefused k ≡ false → Gives (refused k)
         holds-on : Accepted → length (after .held) < quorum (m .n) → Gives (keeps kept after)
         shuts : Accepted → length (after .held) ≡ quorum (m .n) → closes (last-round form) (t .stage) ≡ true
-            → Gives (keeps closed-now (shut after decision-then))
+            → Gives (keeps closed-now (shut after lasting-then))
         goes-on : {k : ℕ} → Accepted → length (after .held) ≡ quorum (m .n) → closes (last-round form) (t .stage) ≡ false
             → above (last-for m (t .identity .question)) (t .identity .question) (step sent-statement) ≡ true
-            → k ≡ pick (ltb (t .decision) none || eqb decision-then none) sent sent-decided
+            → k ≡ pick (ltb (t .lasting .decision) none || eqb (lasting-then .decision) none) sent sent-decided
             → Gives (sends k sent-statement (follows (m .n) (t .stage) after coin .first ++ follows (m .n) (t .stage) after coin .second)
-            (began (m .n) (t .identity .question) (t .jump) (follows (m .n) (t .stage) after coin .stage) decision-then sent-statement
+            (began (m .n) (t .identity .question) lasting-then (follows (m .n) (t .stage) after coin .stage) sent-statement
             (follows (m .n) (t .stage) after coin .first ++ follows (m .n) (t .stage) after coin .second)))
         enters : Jumping → above (last-for m (t .identity .question)) (t .identity .question) (step jump-statement) ≡ true
             → Gives (sends jumped jump-statement (certificate-of form ws)
-            (began (m .n) (t .identity .question) (t .jump) (stage-of (main-of form ws)) (t .decision) jump-statement (certificate-of form ws)))
+            (began (m .n) (t .identity .question) (t .lasting) (stage-of (main-of form ws)) jump-statement (certificate-of form ws)))
 
       module _ (L : Lengths form t) where
         state-question : state-of form t .question ≡ t .identity .question
@@ -208,14 +209,14 @@ module _ (form : Form) where
               calm = not-true _ (second-of (jumps (state-of form t) (main-of form ws)) _ stays (c .1 .0));
             }
 
-        jumping-by : (t .jump && ltb (stage-step (t .stage)) (step (main-of form ws))) ≡ true → All (λ x. x .ok ≡ true) (give-tests form mac m t ws coin out) → Jumping
+        jumping-by : (t .lasting .jump && ltb (stage-step (t .stage)) (step (main-of form ws))) ≡ true → All (λ x. x .ok ≡ true) (give-tests form mac m t ws coin out) → Jumping
         unfolding statements
         jumping-by both-so p =
             let a = both (module-fits form m && ltb coin 2) _ (p .1 .0) in
             let b = both (module-fits form m) _ (a .0) in
             let B = bundle-out form (m .n) ws (p .1 .1 .1 .0) in
             let q = both (one-question (main-of form ws) (certificate-of form ws)) _ (p .1 .1 .1 .1 .0) in
-            let j = both (t .jump) _ both-so in
+            let j = both (t .lasting .jump) _ both-so in
             let up : stage-step (t .stage) < step (main-of form ws) = ltb-true _ _ (j .1) in
             record {
               room = leb-true (output-words form) (length out) (p .0);
@@ -254,17 +255,17 @@ module _ (form : Form) where
           where
             sent-on : closes (last-round form) (t .stage) ≡ false → (a : Bool) → above (last-for m (t .identity .question)) (t .identity .question) (step sent-statement) ≡ a
                 → Gives (pick a
-                (sends (pick (ltb (t .decision) none || eqb decision-then none) sent sent-decided) sent-statement
+                (sends (pick (ltb (t .lasting .decision) none || eqb (lasting-then .decision) none) sent sent-decided) sent-statement
                 (follows (m .n) (t .stage) after coin .first ++ follows (m .n) (t .stage) after coin .second)
-                (began (m .n) (t .identity .question) (t .jump) (follows (m .n) (t .stage) after coin .stage) decision-then sent-statement
+                (began (m .n) (t .identity .question) lasting-then (follows (m .n) (t .stage) after coin .stage) sent-statement
                 (follows (m .n) (t .stage) after coin .first ++ follows (m .n) (t .stage) after coin .second)))
                 (refused not-above))
             sent-on c true e = goes-on A size c e refl
             sent-on c false e = refuses refl
 
             go : (b : Bool) → closes (last-round form) (t .stage) ≡ b
-                → Gives (pick b (keeps closed-now (shut after decision-then))
-                (moved (statement-code form (mac (m .key))) (last-round form) (m .n) (m .station) (last-for m (t .identity .question)) after (follows (m .n) (t .stage) after coin) decision-then))
+                → Gives (pick b (keeps closed-now (shut after lasting-then))
+                (moved (statement-code form (mac (m .key))) (last-round form) (m .n) (m .station) (last-for m (t .identity .question)) after (follows (m .n) (t .stage) after coin) lasting-then))
             go true c = shuts A size c
             go false c = sent-on c (above (last-for m (t .identity .question)) (t .identity .question) (step sent-statement)) refl
 
@@ -285,7 +286,7 @@ module _ (form : Form) where
           where
             go : (a : Bool) → above (last-for m (t .identity .question)) (t .identity .question) (step jump-statement) ≡ a
                 → Gives (pick a (sends jumped jump-statement (certificate-of form ws)
-                (began (m .n) (t .identity .question) (t .jump) (stage-of (main-of form ws)) (t .decision) jump-statement (certificate-of form ws))) (refused not-above))
+                (began (m .n) (t .identity .question) (t .lasting) (stage-of (main-of form ws)) jump-statement (certificate-of form ws))) (refused not-above))
             go true e = enters J e
             go false e = refuses refl
 
@@ -325,14 +326,14 @@ module _ (form : Form) where
       pub data Opens : Outcome → Type 0 where
         no-opening : {k : ℕ} → unrefused k ≡ false → Opens (refused k)
         begins : output-words form ≤ length out → InRange m → proposal < 2 → above (last-for m question) question (step s) ≡ true
-            → Opens (sends sent s [] (began (m .n) question (eqb jump 1) Gathering none s []))
+            → Opens (sends sent s [] (began (m .n) question (undecided (eqb jump 1)) Gathering s []))
 
       pub opens-view : Opens (opening-outcome form mac m question proposal jump out)
       unfolding pick
       opens-view = go (eqb (first-failed (open-tests form mac m proposal jump out)) 0) refl
         where
           begun : (a : Bool) → above (last-for m question) question (step s) ≡ a → output-words form ≤ length out → InRange m → proposal < 2
-              → Opens (pick a (sends sent s [] (began (m .n) question (eqb jump 1) Gathering none s [])) (refused not-above))
+              → Opens (pick a (sends sent s [] (began (m .n) question (undecided (eqb jump 1)) Gathering s [])) (refused not-above))
           begun true e x y z = begins x y z e
           begun false e x y z = no-opening refl
 
@@ -358,19 +359,19 @@ module _ (form : Form) where
       s : Statement
       s = own (statement-code form (mac (m .key))) (m .station) (state-of form t .question) (x .kind) (x .value) (x .flag) (x .round)
 
-      d : ℕ
-      d = decision-at (state-of form t .stage) (state-of form t .decision) (after mac m t ws coin out .held)
+      l : Lasting
+      l = lasting-at (state-of form t .stage) (state-of form t .lasting) (after mac m t ws coin out .held)
 
       sent-by : (a b : Bool) → P (returned form m t out (pick a (sends (pick b sent sent-decided) s (x .first ++ x .second)
-          (began (m .n) (state-of form t .question) (state-of form t .jump) (x .stage) d s (x .first ++ x .second))) (refused not-above)) .number)
+          (began (m .n) (state-of form t .question) l (x .stage) s (x .first ++ x .second))) (refused not-above)) .number)
       sent-by true true = p20
       sent-by true false = p21
       sent-by false b = p12
 
-      ended-by : (c : Bool) → P (returned form m t out (pick c (keeps closed-now (shut (after mac m t ws coin out) d))
-          (moved (statement-code form (mac (m .key))) (last-round form) (m .n) (m .station) (last-for m (t .identity .question)) (after mac m t ws coin out) x d)) .number)
+      ended-by : (c : Bool) → P (returned form m t out (pick c (keeps closed-now (shut (after mac m t ws coin out) l))
+          (moved (statement-code form (mac (m .key))) (last-round form) (m .n) (m .station) (last-for m (t .identity .question)) (after mac m t ws coin out) x l)) .number)
       ended-by true = p22
-      ended-by false = sent-by (above (last-for m (t .identity .question)) (s .question) (step s)) (ltb (state-of form t .decision) none || eqb d none)
+      ended-by false = sent-by (above (last-for m (t .identity .question)) (s .question) (step s)) (ltb (state-of form t .lasting .decision) none || eqb (l .decision) none)
 
       by : (b : Bool) → P (returned form m t out (pick b (keeps kept (after mac m t ws coin out)) (ended (statement-code form (mac (m .key))) (last-round form) (m .n) (m .station) (last-for m (t .identity .question)) (after mac m t ws coin out) coin)) .number)
       by true = p0
@@ -380,7 +381,7 @@ module _ (form : Form) where
       u = own (statement-code form (mac (m .key))) (m .station) (state-of form t .question) (main-of form ws .kind) (copied-value (main-of form ws) coin) (main-of form ws .flag) (main-of form ws .round)
 
       entered-by : (a : Bool) → P (returned form m t out (pick a (sends jumped u (certificate-of form ws)
-          (began (m .n) (state-of form t .question) (state-of form t .jump) (stage-of (main-of form ws)) (state-of form t .decision) u (certificate-of form ws))) (refused not-above)) .number)
+          (began (m .n) (state-of form t .question) (state-of form t .lasting) (stage-of (main-of form ws)) u (certificate-of form ws))) (refused not-above)) .number)
       entered-by true = p23
       entered-by false = p12
 

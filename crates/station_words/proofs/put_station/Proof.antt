@@ -38,7 +38,7 @@ returns : tie.Need-returns
 returns c =
     let d = c .before .before in
     let j = d .before .before .before .before .before .before .before in
-    let h = j .before .before .before .before .before .before in
+    let h = j .before .before .before .before .before .before .before in
     let a = h .before .before .args in
     words-put (a .t) (a .out .now) (h .head .result) _ _ (h .head .ensures) (ap (λ (x : ℕ). x ∷ []) (j .truth-word .ensures)) (d .put-parts .ensures)
 

@@ -4,11 +4,17 @@ use borrow.Author.Needs.{needs}
 use Rattle.station_words.proofs.station_in.Statement.{statement}
 use Rattle.station_words.proofs.station_in.Tie as tie
 
+shared-slice-read-t7 : tie.Need-shared-slice-read-t7
+shared-slice-read-t7 c = search needs
+
 shared-slice-read-stage-in : tie.Need-shared-slice-read-stage-in
 shared-slice-read-stage-in c = search needs
 
 shared-slice-read-stage-in-2 : tie.Need-shared-slice-read-stage-in-2
 shared-slice-read-stage-in-2 c = search needs
+
+shared-slice-read-t7-2 : tie.Need-shared-slice-read-t7-2
+shared-slice-read-t7-2 c = search needs
 
 shared-slice-read-stage-in-3 : tie.Need-shared-slice-read-stage-in-3
 shared-slice-read-stage-in-3 c = search needs
@@ -49,19 +55,13 @@ shared-slice-read-stage-in-7 c = search needs
 stage-in-requires : tie.Need-stage-in-requires
 stage-in-requires c κs = search needs
 
-shared-slice-read-t24 : tie.Need-shared-slice-read-t24
-shared-slice-read-t24 c = search needs
-
-shared-slice-read-t27 : tie.Need-shared-slice-read-t27
-shared-slice-read-t27 c = search needs
-
-shared-slice-read-t30 : tie.Need-shared-slice-read-t30
-shared-slice-read-t30 c = search needs
+shared-slice-read-t28 : tie.Need-shared-slice-read-t28
+shared-slice-read-t28 c = search needs
 
 returns : tie.Need-returns
 unfolding station-in
 returns c =
-    let s = c .before .before .before in
+    let s = c .before in
     let g = s .before .before .before .before in
     rw (s .stage-in .ensures, g .before .before .slots-in .ensures, g .before .group-in .ensures, g .group-in2 .ensures)
 
@@ -69,8 +69,10 @@ pub station-in-spec : {M : Type 1} → statement M
 station-in-spec =
     tie.close
     (tie.spec
+    shared-slice-read-t7
     shared-slice-read-stage-in
     shared-slice-read-stage-in-2
+    shared-slice-read-t7-2
     shared-slice-read-stage-in-3
     shared-slice-read-stage-in-4
     slots-in-requires
@@ -84,7 +86,5 @@ station-in-spec =
     mul-stage-in-2
     shared-slice-read-stage-in-7
     stage-in-requires
-    shared-slice-read-t24
-    shared-slice-read-t27
-    shared-slice-read-t30
+    shared-slice-read-t28
     returns)

@@ -71,14 +71,14 @@ part-behind p q r at count lp lq = ap (take count) (drop-at p (q ++ r) at lp) �
 -- ---- a station's words, read
 module _ (t : Station) (L : Lengths t) (fit : flag-fits (t .stage) ≡ true) where
   abbrev front : List ℕ
-  front = head (t .identity .n) (t .identity .station) (t .identity .question) (t .stage) (t .closed) (t .decision) (t .held .heard)
+  front = head (t .identity .n) (t .identity .station) (t .identity .question) (t .stage) (t .closed) (t .lasting .decision) (t .held .heard)
 
   front-length : length front ≡ slots-at
-  front-length = head-length (t .identity .n) (t .identity .station) (t .identity .question) (t .stage) (t .closed) (t .decision) (t .held .heard)
+  front-length = head-length (t .identity .n) (t .identity .station) (t .identity .question) (t .stage) (t .closed) (t .lasting .decision) (t .held .heard)
 
   -- the last word
   abbrev last : List ℕ
-  last = truth-word (t .jump) ∷ []
+  last = truth-word (t .lasting .jump) ∷ []
 
   -- the same words, cut before each part
   at-slots : words-of t ≡ front ++ (t .held .slots ++ (t .groups .value ++ (t .groups .none ++ last)))
@@ -110,10 +110,10 @@ module _ (t : Station) (L : Lengths t) (fit : flag-fits (t .stage) ≡ true) whe
   pub words-length : length (words-of t) ≡ station-words
   words-length = ap length at-last ∙ length-append (front ++ t .held .slots ++ t .groups .value ++ t .groups .none) last ∙ omega (arith, to-last)
 
-  front-read : Heads (t .identity .n) (t .identity .station) (t .identity .question) (t .stage) (t .closed) (t .decision) (t .held .heard) (words-of t)
+  front-read : Heads (t .identity .n) (t .identity .station) (t .identity .question) (t .stage) (t .closed) (t .lasting .decision) (t .held .heard) (words-of t)
   front-read =
       rw at-slots
-      (heads (t .identity .n) (t .identity .station) (t .identity .question) (t .stage) (t .closed) (t .decision) (t .held .heard)
+      (heads (t .identity .n) (t .identity .station) (t .identity .question) (t .stage) (t .closed) (t .lasting .decision) (t .held .heard)
       (t .held .slots ++ (t .groups .value ++ (t .groups .none ++ last))) fit)
 
   slots-read : part slots-at slots-words (words-of t) ≡ t .held .slots
@@ -125,10 +125,10 @@ module _ (t : Station) (L : Lengths t) (fit : flag-fits (t .stage) ≡ true) whe
   none-read : part none-at kept-words (words-of t) ≡ t .groups .none
   none-read = ap (part none-at kept-words) at-none ∙ part-behind (front ++ t .held .slots ++ t .groups .value) (t .groups .none) last none-at kept-words to-none (L .for-none)
 
-  jump-read : getD (words-of t) jump-at 0 ≡ truth-word (t .jump)
+  jump-read : getD (words-of t) jump-at 0 ≡ truth-word (t .lasting .jump)
   jump-read =
       ap (λ (x : List ℕ). getD x jump-at 0) at-last
-      ∙ getD-at (front ++ t .held .slots ++ t .groups .value ++ t .groups .none) (truth-word (t .jump)) [] 0 jump-at to-last
+      ∙ getD-at (front ++ t .held .slots ++ t .groups .value ++ t .groups .none) (truth-word (t .lasting .jump)) [] 0 jump-at to-last
 
   -- they are a station
   pub written-is : is-station (words-of t) ≡ true
@@ -137,7 +137,7 @@ module _ (t : Station) (L : Lengths t) (fit : flag-fits (t .stage) ≡ true) whe
       join (eqb (length (words-of t)) station-words) _ (eq-eqb (length (words-of t)) station-words words-length)
       (join (is-stage (getD (words-of t) 3 0) (getD (words-of t) 4 0) (getD (words-of t) 5 0) && _) _
       (join (is-stage (getD (words-of t) 3 0) (getD (words-of t) 4 0) (getD (words-of t) 5 0)) _ (front-read .staged) (rw (front-read .at-6) (truth-fits (t .closed) _ (omega arith))))
-      (rw jump-read (truth-fits (t .jump) _ (omega arith))))
+      (rw jump-read (truth-fits (t .lasting .jump) _ (omega arith))))
 
   -- and this one
   pub station-back : station-in (words-of t) ≡ t
@@ -145,13 +145,12 @@ module _ (t : Station) (L : Lengths t) (fit : flag-fits (t .stage) ≡ true) whe
   station-back =
       let h = front-read in
       let c : eqb (getD (words-of t) 6 0) 1 ≡ t .closed = ap (λ (x : ℕ). eqb x 1) (h .at-6) ∙ truth-back (t .closed) in
-      let j : eqb (getD (words-of t) 639 0) 1 ≡ t .jump = ap (λ (x : ℕ). eqb x 1) jump-read ∙ truth-back (t .jump) in
+      let j : eqb (getD (words-of t) 639 0) 1 ≡ t .lasting .jump = ap (λ (x : ℕ). eqb x 1) jump-read ∙ truth-back (t .lasting .jump) in
       λ i. record {
         identity = record { n = h .at-0 i; station = h .at-1 i; question = h .at-2 i };
         stage = h .stage i;
         closed = c i;
-        jump = j i;
-        decision = h .at-7 i;
+        lasting = record { jump = j i; decision = h .at-7 i };
         held = record { heard = h .at-8 i; slots = slots-read i };
         groups = record { value = value-read i; none = none-read i };
       }

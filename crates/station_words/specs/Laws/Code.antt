@@ -67,19 +67,19 @@ three (Proposing r f) c d h = refl
 three (Voting r) c d h = refl
 
 pub head-is : (t : Station) (g : List ℕ) (c : ℕ) → g ≡ stage-words (t .stage) → c ≡ truth-word (t .closed)
-    → t .identity .n ∷ t .identity .station ∷ t .identity .question ∷ getD g 0 0 ∷ getD g 1 0 ∷ getD g 2 0 ∷ c ∷ t .decision ∷ t .held .heard ∷ []
+    → t .identity .n ∷ t .identity .station ∷ t .identity .question ∷ getD g 0 0 ∷ getD g 1 0 ∷ getD g 2 0 ∷ c ∷ t .lasting .decision ∷ t .held .heard ∷ []
     ≡ settings-of t ++ sets-of t
 unfolding settings-of sets-of
 head-is t g c g-is c-is =
     rw (g-is, c-is)
-    (ap (λ (x : List ℕ). t .identity .n ∷ t .identity .station ∷ t .identity .question ∷ x) (three (t .stage) (truth-word (t .closed)) (t .decision) (t .held .heard)))
+    (ap (λ (x : List ℕ). t .identity .n ∷ t .identity .station ∷ t .identity .question ∷ x) (three (t .stage) (truth-word (t .closed)) (t .lasting .decision) (t .held .heard)))
 
 -- ---- the words, part by part
 pub head-words : (t : Station) → length (settings-of t ++ sets-of t) ≡ slots-at
 unfolding settings-of sets-of
-head-words t = head-length (t .identity .n) (t .identity .station) (t .identity .question) (t .stage) (t .closed) (t .decision) (t .held .heard)
+head-words t = head-length (t .identity .n) (t .identity .station) (t .identity .question) (t .stage) (t .closed) (t .lasting .decision) (t .held .heard)
 
-pub words-put : (t : Station) (out words jump xs : List ℕ) → words ≡ settings-of t ++ sets-of t → jump ≡ truth-word (t .jump) ∷ []
+pub words-put : (t : Station) (out words jump xs : List ℕ) → words ≡ settings-of t ++ sets-of t → jump ≡ truth-word (t .lasting .jump) ∷ []
     → xs ≡ over (words ++ t .held .slots ++ t .groups .value ++ t .groups .none ++ jump) out → xs ≡ over (words-of t) out
 unfolding words-of statements-of
 words-put t out words jump xs e je xs-are =
@@ -91,7 +91,7 @@ words-put t out words jump xs e je xs-are =
     = ap (λ (x : List ℕ). x ++ d) (append-assoc a b c) ∙ append-assoc a (b ++ c) d in
     xs-are
     ∙ (λ i. over (e i ++ b ++ c ++ d ++ je i) out)
-    ∙ ap (λ (x : List ℕ). over (x ++ (truth-word (t .jump) ∷ [])) out) w
+    ∙ ap (λ (x : List ℕ). over (x ++ (truth-word (t .lasting .jump) ∷ [])) out) w
 
 -- ---- the calls
 pub read-none : (ws : List ℕ) (b : Bool) (t : Station) → b ≡ is-station ws → not b ≡ true → t ≡ no-station → record { number = malformed; station = t } ≡ reading ws

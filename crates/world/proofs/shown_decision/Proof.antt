@@ -15,8 +15,8 @@ station-at-requires : tie.Need-station-at-requires
 station-at-requires c κs = search needs
 
 returns-2 : tie.Need-returns-2
-returns-2 c = let a = c .before .before .before .before .args in
-    shows-decision (a .w) (a .s) _ _ (c .before .before .before .is-open .ensures) (c .before .before .if1 .left) (c .station-at .ensures)
+returns-2 c = let a = c .before .before .before .before .before .args in
+    shows-decision (a .w) (a .s) _ _ (c .before .before .before .before .is-open .ensures) (c .before .before .before .if1 .left) (c .before .station-at .ensures)
 
 pub shown-decision-spec : {M : Type 1} → statement M
 shown-decision-spec = tie.close (tie.spec is-open-requires returns station-at-requires returns-2)

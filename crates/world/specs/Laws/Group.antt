@@ -102,6 +102,6 @@ unfolding shown-decision pick
 shows-no-decision w s o o-is h = rw (sym o-is ∙ not-true o h)
 
 pub shows-decision : (w : World) (s : ℕ) (o : Bool) (t : Station) → o ≡ is-open w s → not o ≡ false → t ≡ at-number (w .stations) s no-station
-    → t .decision ≡ shown-decision w s
+    → t .lasting .decision ≡ shown-decision w s
 unfolding shown-decision station-at pick
-shows-decision w s o t o-is h t-is = rw (sym o-is ∙ not-false o h) (ap (λ (x : Station). x .decision) t-is)
+shows-decision w s o t o-is h t-is = rw (sym o-is ∙ not-false o h) (ap (λ (x : Station). x .lasting .decision) t-is)
