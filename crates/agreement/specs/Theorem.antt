@@ -333,7 +333,7 @@ module _ (form : Form) where
           q = state-of form t .question
 
           O : Open form n l i (state-of form t) (p .line .took)
-          O = line-open form n l i t (p .line .took) known-here (N .still-open)
+          O = line-open form n l i t (p .line .took) known-here (N .cleared .still-open)
 
           sane : Sane form n i (state-of form t)
           sane = O .sane
@@ -342,7 +342,7 @@ module _ (form : Form) where
           unfolding statements
           main-coded =
               whole-came form mac (m .key) (m .n) (log form mac key n cs) ws (subst (λ (x : List ℕ). CodesCame form mac x (m .n) (log form mac key n cs) ws) (sym (mine .same-key)) came)
-              (suc (count-in ws)) (omega (arith, N .bundle .size)) (N .bundle .fields) (all-well form (m .n) ws 1 (suc (count-in ws)) (N .bundle .fields)) (N .codes)
+              (suc (count-in ws)) (omega (arith, N .cleared .bundle .size)) (N .cleared .bundle .fields) (all-well form (m .n) ws 1 (suc (count-in ws)) (N .cleared .bundle .fields)) (N .cleared .codes)
 
           main-fact : Fact st q (main-of form ws)
           main-fact =

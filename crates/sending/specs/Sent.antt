@@ -1,6 +1,5 @@
 -- What sending leaves, by the words alone. `Law` ties it to the machine's definition, `sends`.
 use Prim.Native.Nat.{ℕ}
-use mathlib.Core.Bool.{Bool}
 use mathlib.Core.List.{List, _++_}
 use lib.Dec.{eqb}
 use lib.ListN.{length, take, drop, replicate}

@@ -15,7 +15,7 @@ use Rattle.laws.specs.All.{All}
 use Rattle.format.specs.Form.{present-form}
 use Rattle.format.specs.Numbers.{kept, no-certificate, code-words}
 use Rattle.format.specs.Bundle.{count-in}
-use Rattle.format.specs.Present.{output-words, last-round, statements, statement-code, main-of, certificate-of, bundle-fits}
+use Rattle.format.specs.Present.{output-words, statements, statement-code, main-of, certificate-of, bundle-fits}
 use Rattle.rules.specs.declared.Which.the-variants.{Only}
 use Rattle.rules.specs.Rules.{rule}
 use Rattle.certificate.specs.Check.{question-fits}
@@ -29,7 +29,7 @@ use Rattle.station.specs.Marked.{_by_, giving-read}
 use Rattle.station.specs.Laws.Views.{after, Gives, refuses, holds-on, shuts, goes-on, enters, gives-view}
 use Rattle.station.specs.Laws.Sane.{state-back}
 use Rattle.station.specs.Laws.Fits.{kept-sane}
-use Rattle.station.specs.Present.{state-of, fits, returned, station-tests, giving, giving-outcome, Lengths}
+use Rattle.station.specs.Present.{state-of, fits, returned, station-tests, giving, giving-outcome, Lengths, on-bundle}
 
 module _ (mac : List ℕ → List ℕ → List ℕ) (m : Module) (t : Station) (ws : List ℕ) (coin : ℕ) (out : List ℕ) where
   -- where the tests 1, 2, 11, 3, 4 and 5 pass, giving is what the table's rows use
@@ -42,7 +42,7 @@ module _ (mac : List ℕ → List ℕ → List ℕ) (m : Module) (t : Station) (
       ap (λ (k : ℕ). pick (eqb k 0) whole (refused k)) (passed-front front rest passed)
     where
       whole : Outcome
-      whole = answered (statement-code (mac (m .key))) last-round (m .n) (m .station) (last-for m (t .identity .question)) (state-of t) (main-of ws) (certificate-of ws) coin
+      whole = on-bundle mac answered m t ws coin
 
       rest : List Test
       rest = test (rule (m .n) (main-of ws) (certificate-of ws)) no-certificate ∷ step-tests (state-of t) (main-of ws)
@@ -81,7 +81,7 @@ kept-as-read mac eight m t ws coin out L u = go (giving-outcome mac m t ws coin 
     go : (o : Outcome) → Gives present-form mac m t ws coin out o → o ≡ keeps kept u → state-of (returned m t out o .station) ≡ u
     go _ (refuses e) z = absurd (omega (arith, ap kept-number z))
     go _ (holds-on A few) z =
-        state-back present-form (m .n) (m .station) (after present-form mac m t ws coin out) (A .range .at-most) (A .range .low) (A .range .high) (kept-sane present-form mac eight m t ws coin out L A few)
+        state-back present-form (m .n) (m .station) (after present-form mac m t ws coin out) (A .cleared .range .at-most) (A .cleared .range .low) (A .cleared .range .high) (kept-sane present-form mac eight m t ws coin out L A few)
         ∙ ap (state-in u) z
     go _ (shuts A size c) z = absurd (omega (arith, ap kept-number z))
     go _ (goes-on A size c later k) z = absurd (omega (arith, ap kept-number z))

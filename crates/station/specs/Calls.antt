@@ -7,16 +7,17 @@ use lib.ListN.{length}
 use Rattle.laws.specs.Pick.{pick}
 use Rattle.laws.specs.Refusals.{Test, test, first-failed}
 use Rattle.format.specs.Form.{Form, last-round, bundle-words, output-words}
-use Rattle.format.specs.Numbers.{none, short-output, out-of-range, station-closed}
-use Rattle.format.specs.Statement.{step, statement-code}
+use Rattle.format.specs.Numbers.{short-output, out-of-range, station-closed}
+use Rattle.format.specs.Statement.{Statement, step, statement-code}
 use Rattle.format.specs.Bundle.{main-of, certificate-of, bundle-of, over}
 use Rattle.rules.specs.declared.Which.the-variants.{Only}
 use Rattle.certificate.specs.Check.{bundle-tests}
+use Rattle.modules.specs.declared.Last.{Last}
 use Rattle.modules.specs.declared.Module.{Module}
 use Rattle.modules.specs.Counter.{module-fits, last-for, advanced}
 use Rattle.station.specs.declared.Stage.the-variants.{Gathering}
 use Rattle.station.specs.declared.Station.{Station}
-use Rattle.station.specs.Machine.{Outcome, refused, keeps, sends, opened, answered, step-tests, undecided}
+use Rattle.station.specs.Machine.{State, Outcome, refused, keeps, sends, opened, answered, step-tests, undecided}
 use Rattle.station.specs.Words.{empty-station, state-of, as-station}
 use Rattle.station.specs.Fit.{fits}
 
@@ -59,6 +60,14 @@ module _ (form : Form) where
       ∷ []
 
   module _ (mac : List ℕ → List ℕ → List ℕ) where
+    -- the machine as the calls use it: with a code under the module's key, the form's last round, the module's n and station, and its last pair on a question
+    abbrev pub by-module : {A : Type 0} → ((Statement → List ℕ) → ℕ → ℕ → ℕ → Last → A) → Module → ℕ → A
+    by-module f m question = f (statement-code form (mac (m .key))) (last-round form) (m .n) (m .station) (last-for m question)
+
+    -- and with the state of a station on that question, and the main statement and the certificate of the words given to it
+    abbrev pub on-bundle : ((Statement → List ℕ) → ℕ → ℕ → ℕ → Last → State → Statement → List Statement → ℕ → Outcome) → Module → Station → List ℕ → ℕ → Outcome
+    on-bundle f m t ws coin = by-module f m (t .identity .question) (state-of form t) (main-of form ws) (certificate-of form ws) coin
+
     -- "Opening tests 1, 2, 12."; "a jump setting outside 0 and 1 is 2" (Job 3 of document 02)
     abbrev pub open-tests : Module → ℕ → ℕ → List ℕ → List Test
     open-tests m proposal jump out =
@@ -68,7 +77,7 @@ module _ (form : Form) where
     abbrev pub opening-outcome : Module → ℕ → ℕ → ℕ → List ℕ → Outcome
     opening-outcome m question proposal jump out =
         unless (open-tests m proposal jump out)
-        (opened (statement-code form (mac (m .key))) (last-round form) (m .n) (m .station) (last-for m question) question proposal (eqb jump 1))
+        (by-module opened m question question proposal (eqb jump 1))
 
     unfoldable pub opening : Module → ℕ → ℕ → ℕ → List ℕ → Returned
     opening m question proposal jump out = returned m no-station out (opening-outcome m question proposal jump out)
@@ -82,7 +91,7 @@ module _ (form : Form) where
     abbrev pub giving-outcome : Module → Station → List ℕ → ℕ → List ℕ → Outcome
     giving-outcome m t ws coin out =
         unless (give-tests m t ws coin out)
-        (answered (statement-code form (mac (m .key))) (last-round form) (m .n) (m .station) (last-for m (t .identity .question)) (state-of form t) (main-of form ws) (certificate-of form ws) coin)
+        (on-bundle answered m t ws coin)
 
     unfoldable pub giving : Module → Station → List ℕ → ℕ → List ℕ → Returned
     giving m t ws coin out = returned m t out (giving-outcome m t ws coin out)

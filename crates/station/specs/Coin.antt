@@ -26,7 +26,7 @@ use Rattle.station.specs.declared.Stage.the-variants.{Gathering, Proposi
 use Rattle.station.specs.declared.Station.{Station}
 use Rattle.station.specs.Machine.{State, Outcome, refused, keeps, sends, Next, next, proposing, insert, has-value, vote-value, decided, carried, decision-after, keeping, follows, lasting-at, with-decision, closes, shut, moved, own, began, ended, taken, voting, jumps, entered, answered}
 use Rattle.station.specs.Demand.{one-of, tossing, no-effect, tossed}
-use Rattle.station.specs.Present.{state-of, returned, give-tests, giving, CoinEffect}
+use Rattle.station.specs.Present.{state-of, returned, give-tests, giving, CoinEffect, on-bundle}
 use Rattle.station.specs.declared.Lasting.{Lasting}
 
 -- no vote for 0 or 1 among some: none is decided, and no call first decides
@@ -181,7 +181,7 @@ module _ (mac : List ℕ → List ℕ → List ℕ) (m : Module) (t : Station) (
       k = first-failed (give-tests mac m t ws 0 out)
 
       whole : ℕ → Outcome
-      whole coin = answered (statement-code (mac (m .key))) last-round (m .n) (m .station) (last-for m (t .identity .question)) (state-of t) (main-of ws) (certificate-of ws) coin
+      whole coin = on-bundle mac answered m t ws coin
 
       go : (b : Bool) → giving mac m t ws 0 out ≡ returned m t out (pick b (whole 0) (refused k)) → giving mac m t ws 1 out ≡ returned m t out (pick b (whole 1) (refused k)) → CoinEffect mac m t ws out
       go true x y = from (answered-tossed (statement-code (mac (m .key))) last-round (m .n) (m .station) (last-for m (t .identity .question)) (state-of t) (main-of ws) (certificate-of ws))

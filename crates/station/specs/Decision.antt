@@ -21,7 +21,7 @@ use Rattle.station.specs.declared.Stage.the-variants.{Gathering, Proposi
 use Rattle.station.specs.declared.Station.{Station}
 use Rattle.station.specs.Machine.{State, Outcome, refused, keeps, sends, Next, own, began, undecided, shut, moved, keeping, follows, decision-at, lasting-at, closes, ended, taken, stage-of, jumps, copied-value, entered, answered}
 use Rattle.station.specs.Calls.{Returned}
-use Rattle.station.specs.Present.{state-of, as-station, returned, opening, give-tests, giving}
+use Rattle.station.specs.Present.{state-of, as-station, returned, opening, give-tests, giving, on-bundle, by-module}
 use Rattle.station.specs.declared.Lasting.{Lasting}
 
 -- 20, eleven words, and a station that gathers, holds its INIT alone and names no decision
@@ -80,12 +80,12 @@ module _ (mac : List ℕ → List ℕ → List ℕ) (m : Module) (t : Station) (
       sent-on false number = refl
 
       end : (c : Bool) → Keeps (pick c (keeps closed-now (shut k l))
-          (moved (statement-code (mac (m .key))) last-round (m .n) (m .station) (last-for m (t .identity .question)) k x l))
+          (by-module mac moved m (t .identity .question) k x l))
       end true = stays (t .stage) (t .lasting .decision) (k .held) there
       end false =
           sent-on (above (last-for m (t .identity .question)) (t .identity .question) (step s)) (pick (ltb (t .lasting .decision) none || eqb (l .decision) none) sent sent-decided)
 
-      take-in : (b : Bool) → Keeps (pick b (keeps kept k) (ended (statement-code (mac (m .key))) last-round (m .n) (m .station) (last-for m (t .identity .question)) k coin))
+      take-in : (b : Bool) → Keeps (pick b (keeps kept k) (by-module mac ended m (t .identity .question) k coin))
       take-in true = refl
       take-in false = end (closes last-round (t .stage))
 
@@ -98,12 +98,12 @@ module _ (mac : List ℕ → List ℕ → List ℕ) (m : Module) (t : Station) (
       enter false = refl
 
       jump-or-take : (j : Bool) → Keeps (pick j
-          (entered (statement-code (mac (m .key))) last-round (m .n) (m .station) (last-for m (t .identity .question)) (state-of t) (main-of ws) (certificate-of ws) coin)
-          (taken (statement-code (mac (m .key))) last-round (m .n) (m .station) (last-for m (t .identity .question)) (state-of t) (main-of ws) (certificate-of ws) coin))
+          (on-bundle mac entered m t ws coin)
+          (on-bundle mac taken m t ws coin))
       jump-or-take true = enter (above (last-for m (t .identity .question)) (t .identity .question) (step u))
       jump-or-take false = take-in (ltb (length (k .held)) (quorum (m .n)))
 
-      go : (b : Bool) → Keeps (pick b (answered (statement-code (mac (m .key))) last-round (m .n) (m .station) (last-for m (t .identity .question)) (state-of t) (main-of ws) (certificate-of ws) coin)
+      go : (b : Bool) → Keeps (pick b (on-bundle mac answered m t ws coin)
           (refused (first-failed (give-tests mac m t ws coin out))))
       go true = jump-or-take (jumps (state-of t) (main-of ws))
       go false = refl

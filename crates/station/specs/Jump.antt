@@ -30,7 +30,7 @@ use Rattle.station.specs.Machine.{State, Outcome, refused, keeps, sends,
 use Rattle.station.specs.Words.{state-of, as-station, Lengths}
 use Rattle.station.specs.Fit.{fits}
 use Rattle.station.specs.Returns.{unrefused}
-use Rattle.station.specs.Calls.{Returned, returned, no-station, opening, opening-outcome, station-tests, give-tests, giving, giving-outcome}
+use Rattle.station.specs.Calls.{Returned, returned, no-station, opening, opening-outcome, station-tests, give-tests, giving, giving-outcome, by-module, on-bundle}
 use Rattle.station.specs.Demand.{as-given}
 use Rattle.station.specs.Laws.Views.{Gives, refuses, holds-on, shuts, goes-on, enters, gives-view, Opens, no-opening, begins, opens-view}
 use Rattle.station.specs.declared.Lasting.{Lasting}
@@ -128,7 +128,7 @@ module _ (form : Form) where
       bundle = bundle-tests form (mac (m .key)) (m .n) (Only (t .identity .question)) ws
 
       whole : Outcome
-      whole = answered (statement-code form (mac (m .key))) (last-round form) (m .n) (m .station) (last-for m (t .identity .question)) (state-of form t) (main-of form ws) (certificate-of form ws) coin
+      whole = on-bundle form mac answered m t ws coin
 
       eight : first-failed (step-tests (state-of form t) (main-of form ws)) ≡ too-early
       eight = rw (off, le-leb (stage-step (t .stage)) (step (main-of form ws)) (omega arith), lt-leb (step (main-of form ws)) (stage-step (t .stage)) up)
@@ -149,10 +149,10 @@ module _ (form : Form) where
       bundle = bundle-tests form (mac (m .key)) (m .n) (Only (t .identity .question)) ws
 
       entering : Outcome
-      entering = entered (statement-code form (mac (m .key))) (last-round form) (m .n) (m .station) (last-for m (t .identity .question)) (state-of form t) (main-of form ws) (certificate-of form ws) coin
+      entering = on-bundle form mac entered m t ws coin
 
       staying : Outcome
-      staying = taken (statement-code form (mac (m .key))) (last-round form) (m .n) (m .station) (last-for m (t .identity .question)) (state-of form t) (main-of form ws) (certificate-of form ws) coin
+      staying = on-bundle form mac taken m t ws coin
 
       ahead : jumps (state-of form t) (main-of form ws) ≡ true
       ahead = join (t .lasting .jump) (ltb (stage-step (t .stage)) (step (main-of form ws))) on (lt-ltb (stage-step (t .stage)) (step (main-of form ws)) up)
@@ -184,7 +184,7 @@ module _ (form : Form) where
         k = first-failed (give-tests form mac m (set-jump false t) ws coin out)
 
         whole : Bool → Outcome
-        whole b = taken (statement-code form (mac (m .key))) (last-round form) (m .n) (m .station) (last-for m (t .identity .question)) (with-jump b (state-of form t)) (main-of form ws) (certificate-of form ws) coin
+        whole b = by-module form mac taken m (t .identity .question) (with-jump b (state-of form t)) (main-of form ws) (certificate-of form ws) coin
 
         go : (b : Bool) → but-jump (pick b (whole true) (refused k)) ≡ but-jump (pick b (whole false) (refused k))
         go true = taken-same (statement-code form (mac (m .key))) (last-round form) (m .n) (m .station) (last-for m (t .identity .question)) (state-of form t) (main-of form ws) (certificate-of form ws) coin

@@ -8,7 +8,7 @@ use lib.ListN.{length}
 use Rattle.laws.specs.Pick.{pick}
 use Rattle.laws.specs.Refusals.{Test, test, first-failed, test-numbers}
 use Rattle.laws.specs.All.{All}
-use Rattle.format.specs.Numbers.{kind-INIT, none, D-GET, R-GET, sent, short-output, out-of-range, too-early, too-late, already-held, not-above}
+use Rattle.format.specs.Numbers.{kind-INIT, D-GET, R-GET, sent, short-output, out-of-range, too-early, too-late, already-held, not-above}
 use Rattle.format.specs.Group.{backing}
 use Rattle.format.specs.Words.{step-of}
 use Rattle.format.specs.Statement.{Statement, step}

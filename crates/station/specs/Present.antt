@@ -6,6 +6,7 @@ use Rattle.laws.specs.Refusals.{Test}
 use Rattle.format.specs.Form.{present-form}
 use Rattle.format.specs.Statement.{Statement}
 use Rattle.rules.specs.declared.Group.{Group}
+use Rattle.modules.specs.declared.Last.{Last}
 use Rattle.modules.specs.declared.Module.{Module}
 use Rattle.station.specs.declared.Identity.{Identity}
 use Rattle.station.specs.declared.Lasting.{Lasting}
@@ -79,6 +80,12 @@ no-station = Rattle.station.specs.Calls.no-station present-form
 
 abbrev pub station-tests : Module → Station → ℕ → List ℕ → List Test
 station-tests = Rattle.station.specs.Calls.station-tests present-form
+
+abbrev pub by-module : (List ℕ → List ℕ → List ℕ) → {A : Type 0} → ((Statement → List ℕ) → ℕ → ℕ → ℕ → Last → A) → Module → ℕ → A
+by-module mac = Rattle.station.specs.Calls.by-module present-form mac
+
+abbrev pub on-bundle : (List ℕ → List ℕ → List ℕ) → ((Statement → List ℕ) → ℕ → ℕ → ℕ → Last → State → Statement → List Statement → ℕ → Outcome) → Module → Station → List ℕ → ℕ → Outcome
+on-bundle = Rattle.station.specs.Calls.on-bundle present-form
 
 abbrev pub open-tests : (List ℕ → List ℕ → List ℕ) → Module → ℕ → ℕ → List ℕ → List Test
 open-tests = Rattle.station.specs.Calls.open-tests present-form

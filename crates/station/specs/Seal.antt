@@ -143,11 +143,11 @@ module _ (mac : List ℕ → List ℕ → List ℕ) (eight : (key ws : List ℕ)
       go _ (holds-on A few) u = never false refl u
       go _ (shuts A size c) u = never false refl u
       go _ (goes-on A size c later k) u =
-          by-seal mac m (A .range) (sent-statement present-form mac m t ws coin out) _ out (sent-proper present-form mac eight m t ws coin out L A size c) refl refl later _ _ _ coin
-          (λ e. let v = toss-coin (m .n) (t .stage) (after present-form mac m t ws coin out) coin e in (v, omega (arith, v, A .coin-bit)))
+          by-seal mac m (A .cleared .range) (sent-statement present-form mac m t ws coin out) _ out (sent-proper present-form mac eight m t ws coin out L A size c) refl refl later _ _ _ coin
+          (λ e. let v = toss-coin (m .n) (t .stage) (after present-form mac m t ws coin out) coin e in (v, omega (arith, v, A .cleared .coin-bit)))
       go _ (enters J later) u =
-          by-seal mac m (J .range) (jump-statement present-form mac m t ws coin out) _ out (jump-proper present-form mac eight m t ws coin out J) refl refl later _ _ _ coin
-          (λ e. let v = copied-toss (main-of ws) coin e in (v, omega (arith, v, J .coin-bit)))
+          by-seal mac m (J .cleared .range) (jump-statement present-form mac m t ws coin out) _ out (jump-proper present-form mac eight m t ws coin out J) refl refl later _ _ _ coin
+          (λ e. let v = copied-toss (main-of ws) coin e in (v, omega (arith, v, J .cleared .coin-bit)))
 
   -- ---- the word count
   pub opening-counted : (question v jump : ℕ) (out : List ℕ) → length (message (opening mac m question v jump out)) ≡ opening mac m question v jump out .count

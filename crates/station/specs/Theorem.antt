@@ -13,13 +13,12 @@ use Rattle.laws.specs.Refusals.{first-failed, all-passed, failed-one, passed-fr
 use Rattle.laws.specs.All.{All}
 use Rattle.format.specs.Form.{present-form}
 use Rattle.format.specs.Numbers.{code-words}
-use Rattle.format.specs.Present.{output-words, last-round, statement-code, main-of, certificate-of}
+use Rattle.format.specs.Present.{output-words, main-of, certificate-of}
 use Rattle.hmac.specs.Code.{hmac-code, hmac-eight}
 use Rattle.rules.specs.declared.Which.the-variants.{Any, Only}
 use Rattle.certificate.specs.Check.{one-question}
 use Rattle.certificate.specs.Present.{bundle-tests, check-tests, check-by}
 use Rattle.modules.specs.declared.Module.{Module}
-use Rattle.modules.specs.Counter.{last-for}
 use Rattle.modules.specs.Present.{module-fits}
 use Rattle.station.specs.declared.Station.{Station}
 use Rattle.station.specs.Machine.{refused, answered, step-tests}
@@ -30,7 +29,7 @@ use Rattle.station.specs.Written as Written
 use Rattle.station.specs.Refused as Refused
 use Rattle.station.specs.Coin as Coin
 use Rattle.station.specs.Seal as Seal
-use Rattle.station.specs.Present.{state-of, fits, returned, giving, station-tests, give-tests, ValidToAll, Demand-2}
+use Rattle.station.specs.Present.{state-of, fits, returned, giving, station-tests, give-tests, ValidToAll, Demand-2, on-bundle}
 
 module _ (mac : List ℕ → List ℕ → List ℕ) (key : List ℕ) (n : ℕ) (ws : List ℕ) (valid : check-by (mac key) n Any ws ≡ 0) where
   -- the check's tests of the bundle, where one question is asked for
@@ -65,7 +64,7 @@ module _ (mac : List ℕ → List ℕ → List ℕ) (key : List ℕ) (n : ℕ) (
           ∙ passed-front (bundle-tests (mac (m .key)) (m .n) (Only (t .identity .question)) ws) (step-tests (state-of t) (main-of ws)) here
 
       go : (b : Bool) → eqb (first-failed (give-tests mac m t ws coin out)) 0 ≡ b
-          → invalid (returned m t out (pick b (answered (statement-code (mac (m .key))) last-round (m .n) (m .station) (last-for m (t .identity .question)) (state-of t) (main-of ws) (certificate-of ws) coin)
+          → invalid (returned m t out (pick b (on-bundle mac answered m t ws coin)
           (refused (first-failed (give-tests mac m t ws coin out)))) .number) ≡ false
       go true e = answered-number present-form mac m t ws coin out (λ k. invalid k ≡ false) refl refl refl refl refl refl
       go false e =

@@ -140,7 +140,7 @@ module _ (form : Form) where
 
     verified : (verifies form code (main-of form ws) ≡ true) × All (λ s. verifies form code s ≡ true) (certificate-of form ws)
     unfolding statements
-    verified = A .codes
+    verified = A .cleared .codes
 
     pub kept-certain : Certain code (state-of form t) → Certain code (after form mac m t ws coin out)
     unfolding pick
@@ -174,7 +174,7 @@ module _ (form : Form) where
 
       pub sent-backed : Backed (m .n) s (x .first ++ x .second)
       sent-backed =
-          backed form (m .n) (after form mac m t ws coin out) (full-after form mac m t ws coin out L A size) coin (A .coin-bit) (certain-after .given) (t .stage) stage-same more s refl refl refl refl
+          backed form (m .n) (after form mac m t ws coin out) (full-after form mac m t ws coin out L A size) coin (A .cleared .coin-bit) (certain-after .given) (t .stage) stage-same more s refl refl refl refl
 
       parts-verify : All (λ s. verifies form code s ≡ true) (x .first) × All (λ s. verifies form code s ≡ true) (x .second)
       parts-verify =
@@ -192,9 +192,9 @@ module _ (form : Form) where
       pub sent-valid : Valid form code (m .n) (bundle-of form s (x .first ++ x .second))
       sent-valid =
           let R = next-ready form mac eight m t ws coin out L A size more in
-          bundle-valid form (m .n) s (x .first ++ x .second) (A .range .at-most) (sent-proper form mac eight m t ws coin out L A size more)
+          bundle-valid form (m .n) s (x .first ++ x .second) (A .cleared .range .at-most) (sent-proper form mac eight m t ws coin out L A size more)
           (all-append (Proper form (m .n)) (x .first) (x .second) (R .proper) (R .more-proper))
-          (backed-few form (m .n) s (x .first ++ x .second) (A .range .at-most) sent-backed) code (A .range .at-least)
+          (backed-few form (m .n) s (x .first ++ x .second) (A .cleared .range .at-most) sent-backed) code (A .cleared .range .at-least)
           (all-append (λ y. y .question ≡ t .identity .question) (x .first) (x .second) (R .alike) (R .more-alike)) s-verifies
           all-verify sent-backed
 
@@ -206,13 +206,13 @@ module _ (form : Form) where
 
     given-verifies : All (λ s. verifies form (mac (m .key)) s ≡ true) (certificate-of form ws)
     unfolding statements
-    given-verifies = J .codes .1
+    given-verifies = J .cleared .codes .1
 
     own-code : verifies form (mac (m .key)) u ≡ true
     own-code = own-verifies (mac (m .key)) (m .station) (t .identity .question) (main-of form ws .kind) (copied-value (main-of form ws) coin) (main-of form ws .flag) (main-of form ws .round)
 
     pub jump-few : length (certificate-of form ws) ≤ most-statements form
-    jump-few = backed-few form (m .n) u (certificate-of form ws) (J .range .at-most) (jump-fitting form mac eight m t ws coin out J .backed)
+    jump-few = backed-few form (m .n) u (certificate-of form ws) (J .cleared .range .at-most) (jump-fitting form mac eight m t ws coin out J .backed)
 
     pub jump-certain : Certain (mac (m .key)) (began (m .n) (t .identity .question) (t .lasting) (stage-of (main-of form ws)) u (certificate-of form ws))
     jump-certain =
@@ -223,7 +223,7 @@ module _ (form : Form) where
     unfolding state-of
     jump-valid =
         let F = jump-fitting form mac eight m t ws coin out J in
-        bundle-valid form (m .n) u (certificate-of form ws) (J .range .at-most) (F .proper) (F .certificate) jump-few (mac (m .key)) (J .range .at-least) (F .alike) own-code given-verifies (F .backed)
+        bundle-valid form (m .n) u (certificate-of form ws) (J .cleared .range .at-most) (F .proper) (F .certificate) jump-few (mac (m .key)) (J .cleared .range .at-least) (F .alike) own-code given-verifies (F .backed)
 
   -- ---- stations made by opening and changed only by these calls
   module _ (mac : List ℕ → List ℕ → List ℕ) (key : List ℕ) (n : ℕ) where
@@ -265,7 +265,7 @@ module _ (form : Form) where
       good-giving number t good m ws coin out G = go (giving-outcome form mac m t ws coin out) (gives-view form mac m t ws coin out (good .lengths))
         where
           C : Accepted form mac m t ws coin out → Certain (mac (m .key)) (state-of form t)
-          C A = subst (λ (c : List ℕ). Certain (mac c) (state-of form t)) (sym (G .same-key)) (good .certain (A .still-open))
+          C A = subst (λ (c : List ℕ). Certain (mac c) (state-of form t)) (sym (G .same-key)) (good .certain (A .cleared .still-open))
 
           of-key : {u : State} → Certain (mac (m .key)) u → Certain (mac key) u
           of-key {u} c = subst (λ (x : List ℕ). Certain (mac x) u) (G .same-key) c
@@ -276,16 +276,16 @@ module _ (form : Form) where
           go : (o : Outcome) → Gives form mac m t ws coin out o → unrefused (returned form m t out o .number) ≡ true → Good number (returned form m t out o .station)
           go _ (refuses e) u = never _ e u
           go _ (holds-on A few) u =
-              here (after form mac m t ws coin out) (good-state (m .station) (m .n) (after form mac m t ws coin out) (A .range .at-most) (A .range .low) (A .range .high)
+              here (after form mac m t ws coin out) (good-state (m .station) (m .n) (after form mac m t ws coin out) (A .cleared .range .at-most) (A .cleared .range .low) (A .cleared .range .high)
               (kept-sane form mac eight m t ws coin out (good .lengths) A few) (of-key (kept-certain mac m t ws coin out A (C A))))
           go _ (shuts A size c) u =
               here (shut (after form mac m t ws coin out) (lasting-then form mac m t ws coin out))
               (good-shut (m .station) (m .n) (shut (after form mac m t ws coin out) (lasting-then form mac m t ws coin out)) refl refl refl refl)
           go _ (goes-on A size c above k) u =
-              here _ (good-state (m .station) (m .n) _ (A .range .at-most) (A .range .low) (A .range .high)
+              here _ (good-state (m .station) (m .n) _ (A .cleared .range .at-most) (A .cleared .range .low) (A .cleared .range .high)
               (sent-sane form mac eight m t ws coin out (good .lengths) A size c) (of-key (sent-certain mac m t ws coin out A eight (good .lengths) (C A) size c)))
           go _ (enters J above) u =
-              here _ (good-state (m .station) (m .n) _ (J .range .at-most) (J .range .low) (J .range .high)
+              here _ (good-state (m .station) (m .n) _ (J .cleared .range .at-most) (J .cleared .range .low) (J .cleared .range .high)
               (jump-sane form mac eight m t ws coin out J (good .lengths)) (of-key (jump-certain mac eight m t ws coin out J)))
 
       pub reached-good : (number : ℕ) (t : Station) → Reached form mac key n number t → Good number t
@@ -336,7 +336,7 @@ module _ (form : Form) where
           go _ (enters J above) u =
               let c = certificate-of form ws in
               let s = jump-statement form mac m t ws coin out in
-              ap (check-by form (mac key) n Any) (bundle-front (m .n) s c out (J .range .at-most) (jump-proper form mac eight m t ws coin out J) (J .fitting .certificate) (jump-few mac eight m t ws coin out J))
+              ap (check-by form (mac key) n Any) (bundle-front (m .n) s c out (J .cleared .range .at-most) (jump-proper form mac eight m t ws coin out J) (J .fitting .certificate) (jump-few mac eight m t ws coin out J))
               ∙ valid-found form (mac key) n (bundle-of form s c)
               (subst (λ (i : ℕ). Valid form (mac key) i (bundle-of form s c)) (G .same-n) (subst (λ (x : List ℕ). Valid form (mac x) (m .n) (bundle-of form s c)) (G .same-key) (jump-valid mac eight m t ws coin out J)))
           go _ (goes-on A size c above k) u = checks A size c
@@ -348,11 +348,11 @@ module _ (form : Form) where
                   let x = follows (m .n) (t .stage) (after form mac m t ws coin out) coin in
                   let s = sent-statement form mac m t ws coin out in
                   let g = reached-good number t reached in
-                  let C : Certain (mac (m .key)) (state-of form t) = subst (λ (c : List ℕ). Certain (mac c) (state-of form t)) (sym (G .same-key)) (g .certain (A .still-open)) in
+                  let C : Certain (mac (m .key)) (state-of form t) = subst (λ (c : List ℕ). Certain (mac c) (state-of form t)) (sym (G .same-key)) (g .certain (A .cleared .still-open)) in
                   let R = next-ready form mac eight m t ws coin out (g .lengths) A size c in
-                  ap (check-by form (mac key) n Any) (bundle-front (m .n) s (x .first ++ x .second) out (A .range .at-most) (sent-proper form mac eight m t ws coin out (g .lengths) A size c)
+                  ap (check-by form (mac key) n Any) (bundle-front (m .n) s (x .first ++ x .second) out (A .cleared .range .at-most) (sent-proper form mac eight m t ws coin out (g .lengths) A size c)
                   (all-append (Proper form (m .n)) (x .first) (x .second) (R .proper) (R .more-proper))
-                  (backed-few form (m .n) s (x .first ++ x .second) (A .range .at-most) (sent-backed mac m t ws coin out A eight (g .lengths) C size c)))
+                  (backed-few form (m .n) s (x .first ++ x .second) (A .cleared .range .at-most) (sent-backed mac m t ws coin out A eight (g .lengths) C size c)))
                   ∙ valid-found form (mac key) n (bundle-of form s (x .first ++ x .second))
                   (subst (λ (i : ℕ). Valid form (mac key) i (bundle-of form s (x .first ++ x .second))) (G .same-n)
                   (subst (λ (c : List ℕ). Valid form (mac c) (m .n) (bundle-of form s (x .first ++ x .second))) (G .same-key)

@@ -42,11 +42,11 @@ module _ (form : Form) where
     all-coded : Coded n (reads form l) (main-of form ws) × All (Coded n (reads form l)) (certificate-of form ws)
     unfolding statements
     all-coded =
-        whole-came form mac (m .key) n l ws came (suc (count-in ws)) (omega (arith, A .bundle .size)) (A .bundle .fields) (all-well form n ws 1 (suc (count-in ws)) (A .bundle .fields)) (A .codes)
+        whole-came form mac (m .key) n l ws came (suc (count-in ws)) (omega (arith, A .cleared .bundle .size)) (A .cleared .bundle .fields) (all-well form n ws 1 (suc (count-in ws)) (A .cleared .bundle .fields)) (A .cleared .codes)
 
     is-open : state-of form t .closed ≡ false
     unfolding state-of
-    is-open = A .still-open
+    is-open = A .cleared .still-open
 
     -- the certificate of what follows was coded
     pub parts-coded : All (Coded n (reads form l)) (follows n (t .stage) k coin .first) × All (Coded n (reads form l)) (follows n (t .stage) k coin .second)
@@ -57,7 +57,7 @@ module _ (form : Form) where
     kept-line few =
         let K =
         T.kept-standing form n (m .station) (reads form l) (state-of form t) took (L .standing) is-open (main-of form ws) (certificate-of form ws) (A .fitting) (A .new) (A .calm) (all-coded .0) (all-coded .1) few in
-        open-line form n (m .station) (reads form l) k (main-of form ws ∷ took) (A .range .at-most) (A .range .low) (A .range .high) (K .while-open is-open .sane) K
+        open-line form n (m .station) (reads form l) k (main-of form ws ∷ took) (A .cleared .range .at-most) (A .cleared .range .low) (A .cleared .range .high) (K .while-open is-open .sane) K
 
     module _ (size : length (k .held) ≡ quorum n) where
       pub shut-line : Line form n (reads form l) (m .station)
@@ -86,13 +86,13 @@ module _ (form : Form) where
         unfolding state-of
         sent-just =
             T.sent-just form n (m .station) (reads form l) (state-of form t) took (L .standing) is-open (main-of form ws) (certificate-of form ws) (A .fitting) (A .new) (A .calm) (all-coded .0) (all-coded .1) size
-            coin (A .coin-bit) more-state (A .range .at-least) s (sent-proper form mac eight m t ws coin out (L .lengths) A size more) refl (A .range .low) (A .range .high) refl refl refl refl refl
+            coin (A .cleared .coin-bit) more-state (A .cleared .range .at-least) s (sent-proper form mac eight m t ws coin out (L .lengths) A size more) refl (A .cleared .range .low) (A .cleared .range .high) refl refl refl refl refl
 
         pub sent-split : s .kind ≡ kind-V → s .value ≡ none → Split n (reads form l) (s .question) (s .round)
         unfolding state-of
         sent-split =
             T.sent-split form n (m .station) (reads form l) (state-of form t) took (L .standing) is-open (main-of form ws) (certificate-of form ws) (A .fitting) (A .new) (A .calm) (all-coded .0) (all-coded .1) size
-            coin (A .coin-bit) more-state (A .range .at-least) s (sent-proper form mac eight m t ws coin out (L .lengths) A size more) refl (A .range .low) (A .range .high) refl refl refl refl refl
+            coin (A .cleared .coin-bit) more-state (A .cleared .range .at-least) s (sent-proper form mac eight m t ws coin out (L .lengths) A size more) refl (A .cleared .range .low) (A .cleared .range .high) refl refl refl refl refl
 
         pub sent-line : Line form n (bare s ∷ reads form l) (m .station) (W.as-station form n (m .station) (began n (t .identity .question) (lasting-then form mac m t ws coin out) (x .stage) s (x .first ++ x .second)))
             (s ∷ (main-of form ws ∷ took))
@@ -100,9 +100,9 @@ module _ (form : Form) where
         sent-line =
             let K =
             T.sent-standing form n (m .station) (reads form l) (state-of form t) took (L .standing) is-open (main-of form ws) (certificate-of form ws) (A .fitting) (A .new) (A .calm) (all-coded .0) (all-coded .1) size
-            coin (A .coin-bit) more-state (A .range .at-least) s (sent-proper form mac eight m t ws coin out (L .lengths) A size more) refl (A .range .low) (A .range .high) refl refl refl refl refl in
+            coin (A .cleared .coin-bit) more-state (A .cleared .range .at-least) s (sent-proper form mac eight m t ws coin out (L .lengths) A size more) refl (A .cleared .range .low) (A .cleared .range .high) refl refl refl refl refl in
             open-line form n (m .station) (bare s ∷ reads form l) (began n (t .identity .question) (lasting-then form mac m t ws coin out) (x .stage) s (x .first ++ x .second)) (s ∷ (main-of form ws ∷ took))
-            (A .range .at-most) (A .range .low) (A .range .high) (K .while-open refl .sane) K
+            (A .cleared .range .at-most) (A .cleared .range .low) (A .cleared .range .high) (K .while-open refl .sane) K
 
   -- ---- a jump: the own statement is justified by the given certificate, and it alone is taken
   module _ (mac : List ℕ → List ℕ → List ℕ) (eight : (key ws : List ℕ) → length (mac key ws) ≡ code-words) (m : Module) (t : Station) (ws : List ℕ) (coin : ℕ) (out : List ℕ)
@@ -116,14 +116,14 @@ module _ (form : Form) where
     pub given-coded : All (Coded (m .n) (reads form l)) (certificate-of form ws)
     unfolding statements
     given-coded =
-        whole-came form mac (m .key) (m .n) l ws came (suc (count-in ws)) (omega (arith, J .bundle .size)) (J .bundle .fields) (all-well form (m .n) ws 1 (suc (count-in ws)) (J .bundle .fields)) (J .codes) .1
+        whole-came form mac (m .key) (m .n) l ws came (suc (count-in ws)) (omega (arith, J .cleared .bundle .size)) (J .cleared .bundle .fields) (all-well form (m .n) ws 1 (suc (count-in ws)) (J .cleared .bundle .fields)) (J .cleared .codes) .1
 
     K : Standing form (m .n) (reads form l) (m .station) (state-of form t) took
     K = L .standing
 
     still-open : state-of form t .closed ≡ false
     unfolding state-of
-    still-open = J .still-open
+    still-open = J .cleared .still-open
 
     O : Open form (m .n) (reads form l) (m .station) (state-of form t) took
     O = K .while-open still-open
@@ -142,7 +142,7 @@ module _ (form : Form) where
     unfolding state-of
     entered =
         let F = jump-fitting form mac eight m t ws coin out J in
-        entered-standing form (m .n) (m .station) (t .identity .question) (t .lasting) (reads form l) g u (certificate-of form ws) took (J .range .at-least) (J .range .low) (J .range .high) refl u-step
+        entered-standing form (m .n) (m .station) (t .identity .question) (t .lasting) (reads form l) g u (certificate-of form ws) took (J .cleared .range .at-least) (J .cleared .range .low) (J .cleared .range .high) refl u-step
         (stage-step (t .stage)) up (O .upto) (K .facts) (K .asked) given-coded (F .alike) (F .backed) (K .low) (K .named) (K .names) sane
 
     pub jump-just : Just (m .n) (reads form l) u
@@ -154,4 +154,4 @@ module _ (form : Form) where
     pub jump-line : Line form (m .n) (bare u ∷ reads form l) (m .station) (W.as-station form (m .n) (m .station) (began (m .n) (t .identity .question) (t .lasting) g u (certificate-of form ws))) (u ∷ took)
     jump-line =
         open-line form (m .n) (m .station) (bare u ∷ reads form l) (began (m .n) (t .identity .question) (t .lasting) g u (certificate-of form ws)) (u ∷ took)
-        (J .range .at-most) (J .range .low) (J .range .high) sane entered
+        (J .cleared .range .at-most) (J .cleared .range .low) (J .cleared .range .high) sane entered

@@ -469,7 +469,7 @@ module _ (form : Form) where
                     lines = subst (λ (l : List Statement). Lines l (lineage form mac key n (g ∷ cs))) (sym (reads-spoke g cs lo hi (I .logs) s (coded .0)))
                         (given-are (returned form mg t out o') (returned-is o' e) (bare s ∷ before)
                         (placed (returned form mg t out o') (bare s ∷ before) (lines-more (bare s) before (lineage form mac key n cs) (I .lines)) (λ h. whose h un)
-                        (λ H h. subst (λ (y : List Statement). Line form n (bare s ∷ before) j T (y ++ (given-main form (returned form mg t out o') ws ++ H .line .took))) (sym (main-is k s (x .first ++ x .second) u wr proper (A .range .at-most)))
+                        (λ H h. subst (λ (y : List Statement). Line form n (bare s ∷ before) j T (y ++ (given-main form (returned form mg t out o') ws ++ H .line .took))) (sym (main-is k s (x .first ++ x .second) u wr proper (A .cleared .range .at-most)))
                         (subst (λ (y : List Statement). Line form n (bare s ∷ before) j T (s ∷ (y ++ H .line .took))) (sym (given-is k tk))
                         (of-mine j mg mine-g (bare s ∷ before) T (s ∷ (main-of form ws ∷ H .line .took))
                         (sent-line form mac eight mg t ws coin out (log form mac key n cs) (H .line .took) (H .known) A came-g size more))))));
@@ -495,7 +495,7 @@ module _ (form : Form) where
                     lines = subst (λ (l : List Statement). Lines l (lineage form mac key n (g ∷ cs))) (sym (reads-spoke g cs lo hi (I .logs) s (coded .0)))
                         (given-are (returned form mg t out o') (returned-is o' e) (bare s ∷ before)
                         (placed (returned form mg t out o') (bare s ∷ before) (lines-more (bare s) before (lineage form mac key n cs) (I .lines)) (λ h. whose h un)
-                        (λ H h. subst (λ (y : List Statement). Line form n (bare s ∷ before) j T (y ++ H .line .took)) (sym (main-is jumped s (certificate-of form ws) u refl proper (J .range .at-most)))
+                        (λ H h. subst (λ (y : List Statement). Line form n (bare s ∷ before) j T (y ++ H .line .took)) (sym (main-is jumped s (certificate-of form ws) u refl proper (J .cleared .range .at-most)))
                         (of-mine j mg mine-g (bare s ∷ before) T (s ∷ H .line .took)
                         (jump-line form mac eight mg t ws coin out (log form mac key n cs) (H .line .took) (H .known) J came-g)))));
                   }

@@ -15,7 +15,7 @@ use Rattle.format.specs.Numbers.{none, kept, sent, sent-decided, closed-now, no
 use Rattle.format.specs.Group.{quorum}
 use Rattle.format.specs.declared.Fields.{Fields}
 use Rattle.format.specs.Words.{fields-of, step-of}
-use Rattle.format.specs.Present.{last-round, statement-code, main-of, certificate-of}
+use Rattle.format.specs.Present.{last-round, main-of}
 use Rattle.hmac.specs.Code.{hmac-code}
 use Rattle.modules.specs.declared.Module.{Module}
 use Rattle.modules.specs.Counter.{above, last-for}
@@ -25,7 +25,7 @@ use Rattle.station.specs.Present as W
 use Rattle.station.specs.Calls.{Returned}
 use Rattle.station.specs.Answers.{Answers}
 use Rattle.station.specs.Laws.Views.{Accepted, accepted, jumping as makes-jump, after}
-use Rattle.station.specs.Present.{held-by, state-of, returned, give-tests, giving, Lengths}
+use Rattle.station.specs.Present.{held-by, state-of, returned, give-tests, giving, Lengths, on-bundle}
 use Rattle.station.specs.declared.Lasting.{Lasting}
 use Rattle.refusal.specs.Refusal.{first-refusal, first-refusal-by-length, jumps-by, jumps-is}
 use Rattle.laws.specs.Below.{Below}
@@ -49,7 +49,7 @@ module _ (m : Module) (t : Station) (ws : List ℕ) (coin : ℕ) (out : List ℕ
       let f : k ≡ first-failed (give-tests hmac-code m t ws coin out) = e ∙ first-refusal-by-length m t ws coin out in
       answers-by (with-no-bundle k t m out) (giving hmac-code m t ws coin out)
       (ap (λ (z : ℕ). with-no-bundle z t m out) f
-      ∙ sym (ap (λ (b : Bool). returned m t out (pick b (answered (statement-code (hmac-code (m .key))) last-round (m .n) (m .station) (last-for m (t .identity .question)) (state-of t) (main-of ws) (certificate-of ws) coin)
+      ∙ sym (ap (λ (b : Bool). returned m t out (pick b (on-bundle hmac-code answered m t ws coin)
       (refused (first-failed (give-tests hmac-code m t ws coin out))))) (ne-eqb (first-failed (give-tests hmac-code m t ws coin out)) 0 (λ z. no-0 (f ∙ z)))))
 
   -- where the number found is 0, no test fails
@@ -68,8 +68,8 @@ module _ (m : Module) (t : Station) (ws : List ℕ) (coin : ℕ) (out : List ℕ
       answers-same (jumping m t ws coin out) (giving hmac-code m t ws coin out) number count u after-m xs
       (sym (passed-so m t ws coin out none-failed
       ∙ ap (λ (b : Bool). returned m t out (pick b
-      (entered (statement-code (hmac-code (m .key))) last-round (m .n) (m .station) (last-for m (t .identity .question)) (state-of t) (main-of ws) (certificate-of ws) coin)
-      (taken (statement-code (hmac-code (m .key))) last-round (m .n) (m .station) (last-for m (t .identity .question)) (state-of t) (main-of ws) (certificate-of ws) coin))) to-jump
+      (on-bundle hmac-code entered m t ws coin)
+      (on-bundle hmac-code taken m t ws coin))) to-jump
       ∙ jumped-is m t ws coin out J low (subst Below (a .lent-is) low-xs))) a
 
   -- 12 leaves the lent words

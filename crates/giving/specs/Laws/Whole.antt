@@ -16,7 +16,7 @@ use Rattle.format.specs.Numbers.{none, kept, sent, sent-decided, closed-now, no
 use Rattle.format.specs.Group.{quorum}
 use Rattle.format.specs.Words.{step-of}
 use Rattle.format.specs.Statement.{Statement, step}
-use Rattle.format.specs.Present.{last-round, statement-code, main-of, certificate-of}
+use Rattle.format.specs.Present.{last-round, main-of, certificate-of}
 use Rattle.hmac.specs.Code.{hmac-code, hmac-eight}
 use Rattle.modules.specs.declared.Module.{Module}
 use Rattle.modules.specs.Counter.{above, last-for}
@@ -35,7 +35,7 @@ use Rattle.station.specs.Laws.End.{Full, Ready}
 use Rattle.station.specs.Laws.Views.{Accepted, after, lasting-then, sane-before, full-after}
 use Rattle.station.specs.Laws.Fits.{next-ready, sent-proper}
 use Rattle.station.specs.Seal.{range-fits}
-use Rattle.station.specs.Present.{sites, slots-of, held-in, held-by, state-of, returned, give-tests, giving, Lengths}
+use Rattle.station.specs.Present.{sites, slots-of, held-in, held-by, state-of, returned, give-tests, giving, Lengths, by-module, on-bundle}
 use Rattle.station.specs.declared.Lasting.{Lasting}
 use Rattle.laws.specs.Below.{Below}
 use Rattle.sending.specs.Sends.{own-fields, own-statement}
@@ -63,10 +63,10 @@ in-range-of (Voting r) i = i .1
 -- where no test fails, giving is what the station answers
 pub passed-so : (m : Module) (t : Station) (ws : List ℕ) (coin : ℕ) (out : List ℕ) → first-failed (give-tests hmac-code m t ws coin out) ≡ 0
     → giving hmac-code m t ws coin out
-    ≡ returned m t out (answered (statement-code (hmac-code (m .key))) last-round (m .n) (m .station) (last-for m (t .identity .question)) (state-of t) (main-of ws) (certificate-of ws) coin)
+    ≡ returned m t out (on-bundle hmac-code answered m t ws coin)
 unfolding Rattle.station.specs.Calls.giving pick
 passed-so m t ws coin out z =
-    ap (λ (b : Bool). returned m t out (pick b (answered (statement-code (hmac-code (m .key))) last-round (m .n) (m .station) (last-for m (t .identity .question)) (state-of t) (main-of ws) (certificate-of ws) coin)
+    ap (λ (b : Bool). returned m t out (pick b (on-bundle hmac-code answered m t ws coin)
     (refused (first-failed (give-tests hmac-code m t ws coin out))))) (eq-eqb _ 0 z)
 
 module _ (m : Module) (t : Station) (ws : List ℕ) (coin : ℕ) (out : List ℕ) (L : Lengths t) (A : Accepted present-form hmac-code m t ws coin out) where
@@ -80,12 +80,12 @@ module _ (m : Module) (t : Station) (ws : List ℕ) (coin : ℕ) (out : List ℕ
   G = grown present-form (m .n) (m .station) (state-of t) (main-of ws) (certificate-of ws) (sane-before present-form hmac-code m t ws coin out L A) (A .fitting) (A .new)
 
   back : held-in (set-of (K .held)) (slots-of (K .held) 1 sites) 0 sites ≡ K .held
-  back = held-back present-form (m .n) (K .held) (A .range .at-most) (G .rising) (G .proper)
+  back = held-back present-form (m .n) (K .held) (A .cleared .range .at-most) (G .rising) (G .proper)
 
   -- the step goes on
   goes-on : length (K .held) ≡ quorum (m .n) → closes last-round (t .stage) ≡ false → (l : Lasting) → l ≡ lasting-then present-form hmac-code m t ws coin out
       → Below (moving m k (next-by (m .n) (K .stage) (set-of (K .held)) (slots-of (K .held) 1 sites) coin) l out .lent)
-      → returned m t out (moved (statement-code (hmac-code (m .key))) last-round (m .n) (m .station) (last-for m (t .identity .question)) K (follows (m .n) (K .stage) K coin) l)
+      → returned m t out (by-module hmac-code moved m (t .identity .question) K (follows (m .n) (K .stage) K coin) l)
       ≡ or-as-was m t out (moving m k (next-by (m .n) (K .stage) (set-of (K .held)) (slots-of (K .held) 1 sites) coin) l out)
   unfolding Rattle.station.specs.Calls.returned moving Rattle.station.specs.Words.state-of Rattle.station.specs.Words.as-station step pick sending-words answer
   goes-on size goes l same-l low =
@@ -127,14 +127,14 @@ module _ (m : Module) (t : Station) (ws : List ℕ) (coin : ℕ) (out : List ℕ
           ≡ or-as-was m t out (pick a (sending-words m k X (own-fields m (X .kind) (X .value) (X .flag) (X .round .0)) l out) (with-no-bundle not-above k m out))
       go true later low =
           skip _ _ _ _ (not-12 (ltb (t .lasting .decision) none || eqb (l .decision) none))
-          (sym (sending-is m K (A .range .at-most) F l out (A .room) X x ek (ap (λ (y : Next). y .value) e) (ap (λ (y : Next). y .flag) e) er (ap (λ (y : Next). y .stage) e)
-          (chosen (m .n) K (A .range .at-most) F (t .stage) refl goes coin R) (sent-proper present-form hmac-code hmac-eight m t ws coin out L A size goes)
-          (range-fits m (A .range)) (ap (above (last-for m q) q) (sym (λ i. step-of (ek i) (er i))) ∙ later) low))
+          (sym (sending-is m K (A .cleared .range .at-most) F l out (A .cleared .room) X x ek (ap (λ (y : Next). y .value) e) (ap (λ (y : Next). y .flag) e) er (ap (λ (y : Next). y .stage) e)
+          (chosen (m .n) K (A .cleared .range .at-most) F (t .stage) refl goes coin R) (sent-proper present-form hmac-code hmac-eight m t ws coin out L A size goes)
+          (range-fits m (A .cleared .range)) (ap (above (last-for m q) q) (sym (λ i. step-of (ek i) (er i))) ∙ later) low))
       go false later low = refl
 
   -- the step has ended
   ends : length (K .held) ≡ quorum (m .n) → Below (ending-words m k coin out .lent)
-      → returned m t out (ended (statement-code (hmac-code (m .key))) last-round (m .n) (m .station) (last-for m (t .identity .question)) K coin) ≡ or-as-was m t out (ending-words m k coin out)
+      → returned m t out (by-module hmac-code ended m (t .identity .question) K coin) ≡ or-as-was m t out (ending-words m k coin out)
   unfolding Rattle.station.specs.Calls.returned ended ending-words shut-words Rattle.station.specs.Words.state-of Rattle.station.specs.Words.as-station pick set-of Rattle.station.specs.Words.slots-of Rattle.station.specs.Words.slot-of Rattle.format.specs.Bundle.all-written
   ends size low = go (closes last-round (t .stage)) refl low
     where
@@ -148,13 +148,13 @@ module _ (m : Module) (t : Station) (ws : List ℕ) (coin : ℕ) (out : List ℕ
           → Below (pick b (with-no-bundle closed-now (shut-words k (lasting-at (t .stage) (t .lasting) (held-by k))) m out)
           (moving m k (next-by (m .n) (t .stage) (set-of (K .held)) (slots-of (K .held) 1 sites) coin) (lasting-at (t .stage) (t .lasting) (held-by k)) out) .lent)
           → returned m t out (pick b (keeps closed-now (shut K l))
-          (moved (statement-code (hmac-code (m .key))) last-round (m .n) (m .station) (last-for m (t .identity .question)) K (follows (m .n) (t .stage) K coin) l))
+          (by-module hmac-code moved m (t .identity .question) K (follows (m .n) (t .stage) K coin) l))
           ≡ or-as-was m t out (pick b (with-no-bundle closed-now (shut-words k (lasting-at (t .stage) (t .lasting) (held-by k))) m out)
           (moving m k (next-by (m .n) (t .stage) (set-of (K .held)) (slots-of (K .held) 1 sites) coin) (lasting-at (t .stage) (t .lasting) (held-by k)) out))
       go true e low = ap (λ (z : Lasting). with-no-bundle closed-now (shut-words k z) m out) (sym same-l)
       go false e low =
           subst (λ (z : Lasting). Below (moving m k (next-by (m .n) (t .stage) (set-of (K .held)) (slots-of (K .held) 1 sites) coin) z out .lent)
-          → returned m t out (moved (statement-code (hmac-code (m .key))) last-round (m .n) (m .station) (last-for m (t .identity .question)) K (follows (m .n) (t .stage) K coin) l)
+          → returned m t out (by-module hmac-code moved m (t .identity .question) K (follows (m .n) (t .stage) K coin) l)
           ≡ or-as-was m t out (moving m k (next-by (m .n) (t .stage) (set-of (K .held)) (slots-of (K .held) 1 sites) coin) z out)) (sym same-l)
           (goes-on size e l refl) low
 
@@ -164,8 +164,8 @@ module _ (m : Module) (t : Station) (ws : List ℕ) (coin : ℕ) (out : List ℕ
   given-is z stays low =
       passed-so m t ws coin out z
       ∙ ap (λ (b : Bool). returned m t out (pick b
-      (entered (statement-code (hmac-code (m .key))) last-round (m .n) (m .station) (last-for m (t .identity .question)) (state-of t) (main-of ws) (certificate-of ws) coin)
-      (taken (statement-code (hmac-code (m .key))) last-round (m .n) (m .station) (last-for m (t .identity .question)) (state-of t) (main-of ws) (certificate-of ws) coin))) stays
+      (on-bundle hmac-code entered m t ws coin)
+      (on-bundle hmac-code taken m t ws coin))) stays
       ∙ go (ltb (length (K .held)) (quorum (m .n))) refl (subst (λ (c : ℕ). Below (pick (ltb c (quorum (m .n))) (with-no-bundle kept k m out) (ending-words m k coin out) .lent)) number low)
       ∙ ap (λ (c : ℕ). or-as-was m t out (pick (ltb c (quorum (m .n))) (with-no-bundle kept k m out) (ending-words m k coin out))) (sym number)
     where
@@ -173,7 +173,7 @@ module _ (m : Module) (t : Station) (ws : List ℕ) (coin : ℕ) (out : List ℕ
       number = ones-set (K .held) (G .rising)
 
       go : (b : Bool) → ltb (length (K .held)) (quorum (m .n)) ≡ b → Below (pick b (with-no-bundle kept k m out) (ending-words m k coin out) .lent)
-          → returned m t out (pick b (keeps kept K) (ended (statement-code (hmac-code (m .key))) last-round (m .n) (m .station) (last-for m (t .identity .question)) K coin))
+          → returned m t out (pick b (keeps kept K) (by-module hmac-code ended m (t .identity .question) K coin))
           ≡ or-as-was m t out (pick b (with-no-bundle kept k m out) (ending-words m k coin out))
       go true e low = refl
       go false e low = ends (omega (arith, ltb-false (length (K .held)) (quorum (m .n)) e, insert-length (main-of ws) (state-of t .held), sane-before present-form hmac-code m t ws coin out L A .few)) low

@@ -10,7 +10,7 @@ use Rattle.format.specs.Form.{present-form}
 use Rattle.format.specs.Numbers.{jumped, not-above}
 use Rattle.format.specs.Words.{fields-of, step-of}
 use Rattle.format.specs.Statement.{Statement, step}
-use Rattle.format.specs.Present.{last-round, statement-code, main-of, certificate-of}
+use Rattle.format.specs.Present.{main-of, certificate-of}
 use Rattle.hmac.specs.Code.{hmac-code, hmac-eight}
 use Rattle.modules.specs.declared.Module.{Module}
 use Rattle.modules.specs.Counter.{above, last-for}
@@ -21,7 +21,7 @@ use Rattle.station.specs.Laws.Views.{Jumping, jump-statement}
 use Rattle.station.specs.Laws.Fits.{jump-proper}
 use Rattle.station.specs.Written.{jump-few}
 use Rattle.station.specs.Seal.{range-fits}
-use Rattle.station.specs.Present.{state-of, returned}
+use Rattle.station.specs.Present.{state-of, returned, on-bundle}
 use Rattle.keeping.specs.Laws.Back.{bundle-back}
 use Rattle.sending.specs.Sends.{own-fields, copy-count-is, copy-lent-is, copy-station-is, copy-after-is}
 use Rattle.jumping.specs.Jumps.{value-by, copied-fields, stage-by, given-fields, jump-words, jumping}
@@ -48,27 +48,27 @@ module _ (m : Module) (t : Station) (ws : List ℕ) (coin : ℕ) (out : List ℕ
       → returned m t out whole ≡ jump-words m t (given-fields ws) (own-fields m (given .kind) (copied-value given coin) (given .flag) (given .round)) ws out
   unfolding Rattle.station.specs.Calls.returned jump-words stage-by fields-of whole
   sent-so later low-out =
-      let b = bundle-back (m .n) ws low (J .bundle) in
+      let b = bundle-back (m .n) ws low (J .cleared .bundle) in
       let p = jump-proper present-form hmac-code hmac-eight m t ws coin out J in
       let few = jump-few present-form hmac-code hmac-eight m t ws coin out J in
-      let fit = range-fits m (J .range) in
+      let fit = range-fits m (J .cleared .range) in
       let v = copied-value given coin in
       let g = stage-of given in
       sym (λ i.
       record {
         number = jumped;
-        count = copy-count-is m (t .identity .question) (given .kind) (copied-value given coin) (given .flag) (given .round) (t .lasting) (stage-of given) given (certificate-of ws) ws b asked out (J .room) (J .range .at-most)
+        count = copy-count-is m (t .identity .question) (given .kind) (copied-value given coin) (given .flag) (given .round) (t .lasting) (stage-of given) given (certificate-of ws) ws b asked out (J .cleared .room) (J .cleared .range .at-most)
             (J .fitting .proper) p (J .fitting .certificate) few fit later i;
-        station = copy-station-is m (t .identity .question) (given .kind) (copied-value given coin) (given .flag) (given .round) (t .lasting) (stage-of given) given (certificate-of ws) ws b asked out (J .room) (J .range .at-most)
+        station = copy-station-is m (t .identity .question) (given .kind) (copied-value given coin) (given .flag) (given .round) (t .lasting) (stage-of given) given (certificate-of ws) ws b asked out (J .cleared .room) (J .cleared .range .at-most)
             (J .fitting .proper) p (J .fitting .certificate) few fit later low-out i;
-        after = copy-after-is m (t .identity .question) (given .kind) (copied-value given coin) (given .flag) (given .round) (t .lasting) (stage-of given) given (certificate-of ws) ws b asked out (J .room) (J .range .at-most)
+        after = copy-after-is m (t .identity .question) (given .kind) (copied-value given coin) (given .flag) (given .round) (t .lasting) (stage-of given) given (certificate-of ws) ws b asked out (J .cleared .room) (J .cleared .range .at-most)
             (J .fitting .proper) p (J .fitting .certificate) few fit later i;
-        lent = copy-lent-is m (t .identity .question) (given .kind) (copied-value given coin) (given .flag) (given .round) (t .lasting) (stage-of given) given (certificate-of ws) ws b asked out (J .room) (J .range .at-most)
+        lent = copy-lent-is m (t .identity .question) (given .kind) (copied-value given coin) (given .flag) (given .round) (t .lasting) (stage-of given) given (certificate-of ws) ws b asked out (J .cleared .room) (J .cleared .range .at-most)
             (J .fitting .proper) p (J .fitting .certificate) few fit later i;
       })
 
   pub jumped-is : Below (jumping m t ws coin out .lent)
-      → returned m t out (entered (statement-code (hmac-code (m .key))) last-round (m .n) (m .station) (last-for m (t .identity .question)) (state-of t) (main-of ws) (certificate-of ws) coin)
+      → returned m t out (on-bundle hmac-code entered m t ws coin)
       ≡ jumping m t ws coin out
   unfolding jumping Rattle.station.specs.Calls.returned pick Rattle.station.specs.Words.state-of step value-by copied-fields fields-of whole
   jumped-is = go (above (last-for m q) q (step-of (given .kind) (given .round))) refl

@@ -151,4 +151,4 @@ pub keeps-state : (mac : List ℕ → List ℕ → List ℕ) (m : Module) (t : S
     → Accepted present-form mac m t ws coin out → with-bundle t ws ≡ W.as-station (m .n) (m .station) (keeping (m .n) (state-of t) (main-of ws) (certificate-of ws))
 unfolding Rattle.station.specs.Words.state-of
 keeps-state mac m t ws coin out L A low a =
-    kept-is (m .n) (m .station) t ws (a .range .at-most) L A low (fit-out (m .n) (m .station) t (a .fit) (a .still-open)) (a .bundle) (a .new)
+    kept-is (m .n) (m .station) t ws (a .cleared .range .at-most) L A low (fit-out (m .n) (m .station) t (a .cleared .fit) (a .cleared .still-open)) (a .cleared .bundle) (a .new)

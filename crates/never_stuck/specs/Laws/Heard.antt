@@ -18,7 +18,7 @@ use Rattle.format.specs.Group.{quorum}
 use Rattle.format.specs.Words.{of-group}
 use Rattle.format.specs.Statement.{Statement, step}
 use Rattle.format.specs.Bundle.{count-in}
-use Rattle.format.specs.Present.{output-words, last-round, most-stations, size-fits, statements, statement-code, main-of, certificate-of, bundle-fits}
+use Rattle.format.specs.Present.{output-words, last-round, most-stations, size-fits, statements, main-of, certificate-of, bundle-fits}
 use Rattle.rules.specs.declared.Which.the-variants.{Any, Only}
 use Rattle.rules.specs.Rules.{rule}
 use Rattle.certificate.specs.Check.{one-question}
@@ -37,7 +37,7 @@ use Rattle.station.specs.Laws.Fits.{opening-fits, giving-fits}
 use Rattle.station.specs.Laws.Sane.{Sane}
 use Rattle.station.specs.Laws.FitSane.{fits-sane}
 use Rattle.station.specs.Laws.Views.{after, sent-statement, jump-statement, ten-tests}
-use Rattle.station.specs.Present.{state-of, fits, returned, opening, giving, station-tests, give-tests, Lengths, Reached}
+use Rattle.station.specs.Present.{state-of, fits, returned, opening, giving, station-tests, give-tests, Lengths, Reached, by-module}
 use Rattle.station.specs.declared.Lasting.{Lasting}
 use Rattle.agreement.specs.Maths.Taking.{steps-up}
 use Rattle.agreement.specs.Laws.Ground.{Ground}
@@ -89,12 +89,12 @@ module _ (mac : List ℕ → List ℕ → List ℕ) (m : Module) (t : Station) (
       sent-by false b e = never false refl e
 
       ended-by : (c : Bool) → unrefused (returned m t out (pick c (keeps closed-now (shut (after present-form mac m t ws coin out) l))
-          (moved (statement-code (mac (m .key))) last-round (m .n) (m .station) (last-for m (t .identity .question)) (after present-form mac m t ws coin out) x l)) .number) ≡ true
+          (by-module mac moved m (t .identity .question) (after present-form mac m t ws coin out) x l)) .number) ≡ true
       ended-by true = refl
       ended-by false = sent-by (above (last-for m (t .identity .question)) (t .identity .question) (step s)) (ltb (t .lasting .decision) none || eqb (l .decision) none) up
 
       by : (b : Bool) → unrefused (returned m t out (pick b (keeps kept (after present-form mac m t ws coin out))
-          (ended (statement-code (mac (m .key))) last-round (m .n) (m .station) (last-for m (t .identity .question)) (after present-form mac m t ws coin out) coin)) .number) ≡ true
+          (by-module mac ended m (t .identity .question) (after present-form mac m t ws coin out) coin)) .number) ≡ true
       by true = refl
       by false = ended-by (closes last-round (t .stage))
 

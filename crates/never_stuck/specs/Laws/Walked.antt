@@ -383,11 +383,11 @@ module _ (G : Ground present-form) where
             → answer mac key n cs g ≡ returned mm t out (sends k S1 (X .first ++ X .second) (began n Q (lasting-then present-form mac mm t ws coin out) (X .stage) S1 (X .first ++ X .second)))
             → Walk G (g ∷ cs) i
         ended-walk ung e =
-            let R = reached-good present-form mac key n eight i t (up-t ung .reached) .certain (A .still-open) in
+            let R = reached-good present-form mac key n eight i t (up-t ung .reached) .certain (A .cleared .still-open) in
             let few = backed-few present-form n S1 (X .first ++ X .second) top (sent-backed present-form mac mm t ws coin out A eight len R size more) in
             let c = parts-coded present-form mac eight mm t ws coin out (log mac key n cs) (p ung .line .took) (known ung) A came in
             sent-walk ung k S1 (X .first ++ X .second) (X .stage) (lasting-then present-form mac mm t ws coin out) refl refl step-1 ab wk (sent-proper present-form mac eight mm t ws coin out len A size more) proper-1 few
-            (all-append (Coded n (reads present-form (log mac key n cs))) (X .first) (X .second) (c .0) (c .1)) (sent-sane present-form mac eight mm t ws coin out len A size more) (A .still-open) refl
+            (all-append (Coded n (reads present-form (log mac key n cs))) (X .first) (X .second) (c .0) (c .1)) (sent-sane present-form mac eight mm t ws coin out len A size more) (A .cleared .still-open) refl
             (λ off s a b. up-to (next-is n (t .stage) (after present-form mac mm t ws coin out) coin) s a b) e
 
       -- the station has jumped
@@ -399,7 +399,7 @@ module _ (G : Ground present-form) where
           let ung : unrefused (answer mac key n cs g .number) ≡ true = ap (λ (r : Returned). unrefused (r .number)) e in
           sent-walk ung jumped (jump-statement present-form mac mm t ws coin out) (certificate-of ws) (stage-of (main-of ws)) (t .lasting) refl refl (jump-fitting present-form mac eight mm t ws coin out K .in-step) ab refl
           (jump-proper present-form mac eight mm t ws coin out K) (K .fitting .certificate) (jump-few present-form mac eight mm t ws coin out K) (given-coded present-form mac eight mm t ws coin out (log mac key n cs) (p ung .line .took) (known ung) K came)
-          (jump-sane present-form mac eight mm t ws coin out K len) (K .still-open) refl (λ off s a b. never (t .lasting .jump) off (K .on)) e
+          (jump-sane present-form mac eight mm t ws coin out K len) (K .cleared .still-open) refl (λ off s a b. never (t .lasting .jump) off (K .on)) e
 
       kept-walk : (A : Accepted present-form mac mm t ws coin out) → length (after present-form mac mm t ws coin out .held) < quorum n → answer mac key n cs g ≡ returned mm t out (keeps kept (after present-form mac mm t ws coin out))
           → Walk G (g ∷ cs) i

@@ -8,7 +8,7 @@ use lib.ListN.{length}
 use borrow.Author.Tests.{le-leb, ltb-true}
 use Rattle.format.specs.Form.{present-form}
 use Rattle.format.specs.declared.Fields.{Fields}
-use Rattle.format.specs.Numbers.{kind-INIT, D-GET, sent, none}
+use Rattle.format.specs.Numbers.{kind-INIT, D-GET, sent}
 use Rattle.format.specs.Statement.{step}
 use Rattle.hmac.specs.Code.{hmac-code, hmac-eight}
 use Rattle.format.specs.Words.{step-of}

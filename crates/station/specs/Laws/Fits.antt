@@ -172,12 +172,12 @@ module _ (form : Form) where
       pub next-ready : length (k .held) ≡ quorum (m .n) → closes (last-round form) (t .stage) ≡ false → Ready form (m .n) (t .identity .question) (follows (m .n) (t .stage) k coin)
       next-ready size c =
           subst (λ (q : ℕ). Ready form (m .n) q (follows (m .n) (t .stage) k coin)) question-same
-          (ready (m .n) k (full-after form mac m t ws coin out L A size) coin (A .coin-bit) (t .stage) stage-same c)
+          (ready (m .n) k (full-after form mac m t ws coin out L A size) coin (A .cleared .coin-bit) (t .stage) stage-same c)
 
       pub sent-proper : length (k .held) ≡ quorum (m .n) → closes (last-round form) (t .stage) ≡ false → Proper form (m .n) (sent-statement form mac m t ws coin out)
       sent-proper size c =
           let x = follows (m .n) (t .stage) k coin in
-          own-proper m (t .identity .question) (x .kind) (x .value) (x .flag) (x .round) (A .range)
+          own-proper m (t .identity .question) (x .kind) (x .value) (x .flag) (x .round) (A .cleared .range)
           (next-ready size c .shape (sent-statement form mac m t ws coin out) refl refl refl refl)
 
       pub sent-sane : length (k .held) ≡ quorum (m .n) → closes (last-round form) (t .stage) ≡ false
@@ -189,7 +189,7 @@ module _ (form : Form) where
           let R = next-ready size c-on in
           let c = x .first ++ x .second in
           began-sane (m .n) (m .station) (t .identity .question) (lasting-then form mac m t ws coin out) (x .stage) (sent-statement form mac m t ws coin out) c
-          (A .range .at-least) (sent-proper size c-on) refl (A .range .low) refl (λ i. step-of (R .kind i) (R .round i)) (R .rounds) (R .flag (sent-statement form mac m t ws coin out) refl)
+          (A .cleared .range .at-least) (sent-proper size c-on) refl (A .cleared .range .low) refl (λ i. step-of (R .kind i) (R .round i)) (R .rounds) (R .flag (sent-statement form mac m t ws coin out) refl)
           (decision-low (t .stage) (t .lasting .decision) (k .held) (decision-before (m .n) (m .station) t (sane-before form mac m t ws coin out L A)))
           (all-append (Proper form (m .n)) (x .first) (x .second) (R .proper) (R .more-proper))
           (all-append (λ s. s .question ≡ t .identity .question) (x .first) (x .second) (R .alike) (R .more-alike))
@@ -224,11 +224,11 @@ module _ (form : Form) where
       copied-low v low two = go (eqb (main-of form ws .kind) kind-P && eqb (main-of form ws .flag) R-GET)
         where
           go : (b : Bool) → pick b coin (main-of form ws .value) < v
-          go true = omega (arith, J .coin-bit)
+          go true = omega (arith, J .cleared .coin-bit)
           go false = low
 
       pub jump-proper : Proper form (m .n) u
-      jump-proper = own-proper m (t .identity .question) (main-of form ws .kind) (copied-value (main-of form ws) coin) (main-of form ws .flag) (main-of form ws .round) (J .range) (shaped given-shape)
+      jump-proper = own-proper m (t .identity .question) (main-of form ws .kind) (copied-value (main-of form ws) coin) (main-of form ws .flag) (main-of form ws .round) (J .cleared .range) (shaped given-shape)
         where
           shaped : Shape form (main-of form ws) → Shape form u
           shaped (init a b c d) = init a b (copied-low 2 c (omega arith)) d
@@ -254,9 +254,9 @@ module _ (form : Form) where
       pub jump-sane : Lengths form t → Sane form (m .n) (m .station) (began (m .n) (t .identity .question) (t .lasting) (stage-of (main-of form ws)) u (certificate-of form ws))
       unfolding state-of
       jump-sane L =
-          began-sane (m .n) (m .station) (t .identity .question) (t .lasting) (stage-of (main-of form ws)) u (certificate-of form ws) (J .range .at-least) jump-proper refl (J .range .low) refl
+          began-sane (m .n) (m .station) (t .identity .question) (t .lasting) (stage-of (main-of form ws)) u (certificate-of form ws) (J .cleared .range .at-least) jump-proper refl (J .cleared .range .low) refl
           (jump-fitting .in-step) jump-rounds (stage-of-flag (main-of form ws) u refl)
-          (decision-before (m .n) (m .station) t (fits-sane form (m .n) (m .station) t (J .range .at-most) (J .range .low) (J .range .high) L (J .fit) (J .still-open)))
+          (decision-before (m .n) (m .station) t (fits-sane form (m .n) (m .station) t (J .cleared .range .at-most) (J .cleared .range .low) (J .cleared .range .high) L (J .cleared .fit) (J .cleared .still-open)))
           (J .fitting .certificate) (J .fitting .alike)
           (taken-for-value form (m .n) (state-of form t .question) (stage-of (main-of form ws)) u (certificate-of form ws) jump-fitting jump-rounds)
           (taken-for-none form (m .n) (state-of form t .question) (stage-of (main-of form ws)) u (certificate-of form ws) jump-fitting jump-rounds)
@@ -274,11 +274,11 @@ module _ (form : Form) where
         go : (o : Outcome) → Gives form mac m t ws coin out o → unrefused (returned form m t out o .number) ≡ true → fits form (m .n) (m .station) (returned form m t out o .station) ≡ true
         go _ (refuses e) u = never _ e u
         go _ (holds-on A few) u =
-            sane-fits form (m .n) (m .station) (after form mac m t ws coin out) (A .range .at-most) (A .range .low) (A .range .high) (kept-sane m t ws coin out L A few)
+            sane-fits form (m .n) (m .station) (after form mac m t ws coin out) (A .cleared .range .at-most) (A .cleared .range .low) (A .cleared .range .high) (kept-sane m t ws coin out L A few)
         go _ (shuts A size c) u =
             shut-fits (m .n) (m .station) (shut (after form mac m t ws coin out) (lasting-then form mac m t ws coin out)) refl
-        go _ (goes-on A size c above k) u = sane-fits form (m .n) (m .station) _ (A .range .at-most) (A .range .low) (A .range .high) (sent-sane m t ws coin out L A size c)
-        go _ (enters J above) u = sane-fits form (m .n) (m .station) _ (J .range .at-most) (J .range .low) (J .range .high) (jump-sane m t ws coin out J L)
+        go _ (goes-on A size c above k) u = sane-fits form (m .n) (m .station) _ (A .cleared .range .at-most) (A .cleared .range .low) (A .cleared .range .high) (sent-sane m t ws coin out L A size c)
+        go _ (enters J above) u = sane-fits form (m .n) (m .station) _ (J .cleared .range .at-most) (J .cleared .range .low) (J .cleared .range .high) (jump-sane m t ws coin out J L)
 
     pub opening-fits : (m : Module) (question v jump : ℕ) (out : List ℕ) → unrefused (opening form mac m question v jump out .number) ≡ true
         → fits form (m .n) (m .station) (opening form mac m question v jump out .station) ≡ true

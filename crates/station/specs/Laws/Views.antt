@@ -15,12 +15,12 @@ use Rattle.format.specs.Form.{Form, most-stations, last-round, output-words, si
 use Rattle.format.specs.Numbers.{kind-INIT, none, D-GET, kept, sent, sent-decided, closed-now, jumped, conflicting, not-above, least-stations}
 use Rattle.format.specs.Group.{quorum}
 use Rattle.format.specs.Statement.{Statement, statements, well-formed, verifies, step, statement-code}
-use Rattle.format.specs.Bundle.{count-in, main-of, certificate-of}
+use Rattle.format.specs.Bundle.{count-in, main-of, certificate-of, bundle-fits}
 use Rattle.format.specs.Laws.Layout.{all-well}
 use Rattle.format.specs.Laws.Shape.{formed-out}
 use Rattle.rules.specs.Rules.{rule}
 use Rattle.rules.specs.declared.Which.the-variants.{Only}
-use Rattle.certificate.specs.Check.{one-question, bundle-tests}
+use Rattle.certificate.specs.Check.{one-question, bundle-tests, all-verify}
 use Rattle.rules.specs.Backed.{rule-backed}
 use Rattle.certificate.specs.Valid.{IsBundle}
 use Rattle.certificate.specs.Exact.{bundle-out, every-out}
@@ -34,7 +34,7 @@ use Rattle.station.specs.Machine.{State, Outcome, refused, keeps, sends,
 use Rattle.station.specs.Words.{state-of, Lengths}
 use Rattle.station.specs.Fit.{fits}
 use Rattle.station.specs.Returns.{unrefused}
-use Rattle.station.specs.Calls.{returned, giving, open-tests, opening-outcome, station-tests, give-tests, giving-outcome}
+use Rattle.station.specs.Calls.{returned, giving, open-tests, opening-outcome, station-tests, give-tests, giving-outcome, by-module, on-bundle}
 use Rattle.format.specs.Laws.ReadBack.{Proper}
 use Rattle.station.specs.Laws.Insert.{insert-length}
 use Rattle.station.specs.Laws.Sane.{Sane}
@@ -60,8 +60,8 @@ module _ (form : Form) where
   module _ (mac : List ℕ → List ℕ → List ℕ) where
     -- ---- giving
     module _ (m : Module) (t : Station) (ws : List ℕ) (coin : ℕ) (out : List ℕ) where
-      -- all tests but the last have passed
-      pub record Accepted : Type 0 where
+      -- what tests 1, 2, 11 and 3 to 6 leave known, but for what a rule backs
+      pub record Cleared : Type 0 where
         pub room : output-words form ≤ length out
         pub range : InRange m
         pub coin-bit : coin < 2
@@ -69,19 +69,17 @@ module _ (form : Form) where
         pub still-open : t .closed ≡ false
         pub bundle : IsBundle form (m .n) ws
         pub codes : All (λ s. verifies form (mac (m .key)) s ≡ true) (statements form ws 1 (suc (count-in ws)))
+
+      -- all tests but the last have passed
+      pub record Accepted : Type 0 where
+        pub cleared : Cleared
         pub fitting : Fitting form (m .n) (state-of form t .question) (state-of form t .stage) (main-of form ws) (certificate-of form ws)
         pub new : held-of (main-of form ws .station) (state-of form t .held) ≡ false
         pub calm : conflict (state-of form t .stage) (main-of form ws ∷ state-of form t .held) ≡ false
 
       -- all tests but 12 have passed, and the bundle makes the station jump: it fits the stage that its main statement belongs to
       pub record Jumping : Type 0 where
-        pub room : output-words form ≤ length out
-        pub range : InRange m
-        pub coin-bit : coin < 2
-        pub fit : fits form (m .n) (m .station) t ≡ true
-        pub still-open : t .closed ≡ false
-        pub bundle : IsBundle form (m .n) ws
-        pub codes : All (λ s. verifies form (mac (m .key)) s ≡ true) (statements form ws 1 (suc (count-in ws)))
+        pub cleared : Cleared
         pub fitting : Fitting form (m .n) (state-of form t .question) (stage-of (main-of form ws)) (main-of form ws) (certificate-of form ws)
         pub on : t .lasting .jump ≡ true
         pub ahead : stage-step (t .stage) < step (main-of form ws)
@@ -125,13 +123,7 @@ module _ (form : Form) where
 
         -- all tests but that of 10 have passed
         pub record Nearly : Type 0 where
-          pub room : output-words form ≤ length out
-          pub range : InRange m
-          pub coin-bit : coin < 2
-          pub fit : fits form (m .n) (m .station) t ≡ true
-          pub still-open : t .closed ≡ false
-          pub bundle : IsBundle form (m .n) ws
-          pub codes : All (λ s. verifies form (mac (m .key)) s ≡ true) (statements form ws 1 (suc (count-in ws)))
+          pub cleared : Cleared
           pub fitting : Fitting form (m .n) (state-of form t .question) (state-of form t .stage) (main-of form ws) (certificate-of form ws)
           pub new : held-of (main-of form ws .station) (state-of form t .held) ≡ false
 
@@ -166,24 +158,30 @@ module _ (form : Form) where
               backed = rule-backed form (m .n) (main-of form ws) (certificate-of form ws) (formed-out form (m .n) (main-of form ws) (p .0 .formed) .shape) u;
             }
 
+        -- the seven tests, passed
+        cleared-by : leb (output-words form) (length out) ≡ true → (module-fits form m && ltb coin 2 && fits form (m .n) (m .station) t) ≡ true → not (t .closed) ≡ true
+            → bundle-fits form (m .n) ws ≡ true → all-verify form (mac (m .key)) (statements form ws 1 (suc (count-in ws))) ≡ true → Cleared
+        cleared-by wide right awake formed verified =
+            let a = both (module-fits form m && ltb coin 2) _ right in
+            let b = both (module-fits form m) _ (a .0) in
+            record {
+              room = leb-true (output-words form) (length out) wide;
+              range = in-range m (b .0);
+              coin-bit = ltb-true coin 2 (b .1);
+              fit = a .1;
+              still-open = not-true (t .closed) awake;
+              bundle = bundle-out form (m .n) ws formed;
+              codes = every-out (verifies form (mac (m .key))) (statements form ws 1 (suc (count-in ws))) verified;
+            }
+
         pub nearly : jumps (state-of form t) (main-of form ws) ≡ false → All (λ x. x .ok ≡ true) ten-tests → Nearly
         unfolding statements
         nearly stays p =
-            let a = both (module-fits form m && ltb coin 2) _ (p .1 .0) in
-            let b = both (module-fits form m) _ (a .0) in
-            let r = in-range m (b .0) in
-            let open-still : t .closed ≡ false = not-true (t .closed) (p .1 .1 .0) in
-            let B = bundle-out form (m .n) ws (p .1 .1 .1 .0) in
+            let T = cleared-by (p .0) (p .1 .0) (p .1 .1 .0) (p .1 .1 .1 .0) (p .1 .1 .1 .1 .1 .0) in
             let q = both (one-question (main-of form ws) (certificate-of form ws)) _ (p .1 .1 .1 .1 .0) in
             record {
-              room = leb-true (output-words form) (length out) (p .0);
-              range = r;
-              coin-bit = ltb-true coin 2 (b .1);
-              fit = a .1;
-              still-open = open-still;
-              bundle = B;
-              codes = every-out (verifies form (mac (m .key))) (statements form ws 1 (suc (count-in ws))) (p .1 .1 .1 .1 .1 .0);
-              fitting = fitted B (q .0) (eqb-true _ _ (q .1)) (p .1 .1 .1 .1 .1 .1 .0) (state-of form t .stage)
+              cleared = T;
+              fitting = fitted (T .bundle) (q .0) (eqb-true _ _ (q .1)) (p .1 .1 .1 .1 .1 .1 .0) (state-of form t .stage)
                   (let lo : stage-step (state-of form t .stage) ≤ step (main-of form ws) = leb-true _ _ (p .1 .1 .1 .1 .1 .1 .1 .0) in
                   let hi : step (main-of form ws) ≤ stage-step (state-of form t .stage) = leb-true _ _ (second-of (jumps (state-of form t) (main-of form ws)) _ stays (p .1 .1 .1 .1 .1 .1 .1 .1 .0)) in
                   omega arith);
@@ -197,13 +195,7 @@ module _ (form : Form) where
             let c = p .1 .1 .1 .1 .1 .1 .1 .1 .1 in
             let N = nearly stays (p .0, (p .1 .0, (p .1 .1 .0, (p .1 .1 .1 .0, (p .1 .1 .1 .1 .0, (p .1 .1 .1 .1 .1 .0, (p .1 .1 .1 .1 .1 .1 .0, (p .1 .1 .1 .1 .1 .1 .1 .0, (p .1 .1 .1 .1 .1 .1 .1 .1 .0, (c .0, tt)))))))))) in
             record {
-              room = N .room;
-              range = N .range;
-              coin-bit = N .coin-bit;
-              fit = N .fit;
-              still-open = N .still-open;
-              bundle = N .bundle;
-              codes = N .codes;
+              cleared = N .cleared;
               fitting = N .fitting;
               new = N .new;
               calm = not-true _ (second-of (jumps (state-of form t) (main-of form ws)) _ stays (c .1 .0));
@@ -212,22 +204,14 @@ module _ (form : Form) where
         jumping-by : (t .lasting .jump && ltb (stage-step (t .stage)) (step (main-of form ws))) ≡ true → All (λ x. x .ok ≡ true) (give-tests form mac m t ws coin out) → Jumping
         unfolding statements
         jumping-by both-so p =
-            let a = both (module-fits form m && ltb coin 2) _ (p .1 .0) in
-            let b = both (module-fits form m) _ (a .0) in
-            let B = bundle-out form (m .n) ws (p .1 .1 .1 .0) in
+            let T = cleared-by (p .0) (p .1 .0) (p .1 .1 .0) (p .1 .1 .1 .0) (p .1 .1 .1 .1 .1 .0) in
             let q = both (one-question (main-of form ws) (certificate-of form ws)) _ (p .1 .1 .1 .1 .0) in
             let j = both (t .lasting .jump) _ both-so in
             let up : stage-step (t .stage) < step (main-of form ws) = ltb-true _ _ (j .1) in
             record {
-              room = leb-true (output-words form) (length out) (p .0);
-              range = in-range m (b .0);
-              coin-bit = ltb-true coin 2 (b .1);
-              fit = a .1;
-              still-open = not-true (t .closed) (p .1 .1 .0);
-              bundle = B;
-              codes = every-out (verifies form (mac (m .key))) (statements form ws 1 (suc (count-in ws))) (p .1 .1 .1 .1 .1 .0);
-              fitting = fitted B (q .0) (eqb-true _ _ (q .1)) (p .1 .1 .1 .1 .1 .1 .0) (stage-of (main-of form ws))
-                  (stage-of-step form (main-of form ws) (formed-out form (m .n) (main-of form ws) (parts B .0 .formed) .shape) (omega arith));
+              cleared = T;
+              fitting = fitted (T .bundle) (q .0) (eqb-true _ _ (q .1)) (p .1 .1 .1 .1 .1 .1 .0) (stage-of (main-of form ws))
+                  (stage-of-step form (main-of form ws) (formed-out form (m .n) (main-of form ws) (parts (T .bundle) .0 .formed) .shape) (omega arith));
               on = j .0;
               ahead = up;
             }
@@ -240,7 +224,7 @@ module _ (form : Form) where
 
         -- the station as a state, sane; with the bundle, and q statements
         pub sane-before : Accepted → Sane form (m .n) (m .station) (state-of form t)
-        sane-before A = fits-sane form (m .n) (m .station) t (A .range .at-most) (A .range .low) (A .range .high) L (A .fit) (A .still-open)
+        sane-before A = fits-sane form (m .n) (m .station) t (A .cleared .range .at-most) (A .cleared .range .low) (A .cleared .range .high) L (A .cleared .fit) (A .cleared .still-open)
 
         pub full-after : Accepted → length (after .held) ≡ quorum (m .n) → Full form (m .n) after
         full-after A size = full-grown form (m .n) (m .station) (state-of form t) (main-of form ws) (certificate-of form ws) (sane-before A) (A .fitting) (A .new) (A .calm) size
@@ -249,7 +233,7 @@ module _ (form : Form) where
         few-after A = omega (arith, insert-length (main-of form ws) (state-of form t .held), sane-before A .few)
 
         ended-view : Accepted → length (after .held) ≡ quorum (m .n)
-            → Gives (ended (statement-code form (mac (m .key))) (last-round form) (m .n) (m .station) (last-for m (t .identity .question)) after coin)
+            → Gives (by-module form mac ended m (t .identity .question) after coin)
         unfolding ended pick state-of
         ended-view A size = go (closes (last-round form) (t .stage)) refl
           where
@@ -265,22 +249,22 @@ module _ (form : Form) where
 
             go : (b : Bool) → closes (last-round form) (t .stage) ≡ b
                 → Gives (pick b (keeps closed-now (shut after lasting-then))
-                (moved (statement-code form (mac (m .key))) (last-round form) (m .n) (m .station) (last-for m (t .identity .question)) after (follows (m .n) (t .stage) after coin) lasting-then))
+                (by-module form mac moved m (t .identity .question) after (follows (m .n) (t .stage) after coin) lasting-then))
             go true c = shuts A size c
             go false c = sent-on c (above (last-for m (t .identity .question)) (t .identity .question) (step sent-statement)) refl
 
         taken-view : Accepted
-            → Gives (taken (statement-code form (mac (m .key))) (last-round form) (m .n) (m .station) (last-for m (t .identity .question)) (state-of form t) (main-of form ws) (certificate-of form ws) coin)
+            → Gives (on-bundle form mac taken m t ws coin)
         unfolding taken pick
         taken-view A = go (ltb (length (after .held)) (quorum (m .n))) refl
           where
             go : (b : Bool) → ltb (length (after .held)) (quorum (m .n)) ≡ b
-                → Gives (pick b (keeps kept after) (ended (statement-code form (mac (m .key))) (last-round form) (m .n) (m .station) (last-for m (t .identity .question)) after coin))
+                → Gives (pick b (keeps kept after) (by-module form mac ended m (t .identity .question) after coin))
             go true e = holds-on A (ltb-true _ _ e)
             go false e = ended-view A (omega (arith, ltb-false (length (after .held)) (quorum (m .n)) e, few-after A))
 
         entered-view : Jumping
-            → Gives (entered (statement-code form (mac (m .key))) (last-round form) (m .n) (m .station) (last-for m (t .identity .question)) (state-of form t) (main-of form ws) (certificate-of form ws) coin)
+            → Gives (on-bundle form mac entered m t ws coin)
         unfolding pick state-of
         entered-view J = go (above (last-for m (t .identity .question)) (t .identity .question) (step jump-statement)) refl
           where
@@ -292,13 +276,13 @@ module _ (form : Form) where
 
         -- what passed the tests makes the station jump, or is taken
         answered-view : first-failed (give-tests form mac m t ws coin out) ≡ 0
-            → Gives (answered (statement-code form (mac (m .key))) (last-round form) (m .n) (m .station) (last-for m (t .identity .question)) (state-of form t) (main-of form ws) (certificate-of form ws) coin)
+            → Gives (on-bundle form mac answered m t ws coin)
         unfolding pick
         answered-view h = go (jumps (state-of form t) (main-of form ws)) refl
           where
             go : (b : Bool) → jumps (state-of form t) (main-of form ws) ≡ b
-                → Gives (pick b (entered (statement-code form (mac (m .key))) (last-round form) (m .n) (m .station) (last-for m (t .identity .question)) (state-of form t) (main-of form ws) (certificate-of form ws) coin)
-                (taken (statement-code form (mac (m .key))) (last-round form) (m .n) (m .station) (last-for m (t .identity .question)) (state-of form t) (main-of form ws) (certificate-of form ws) coin))
+                → Gives (pick b (on-bundle form mac entered m t ws coin)
+                (on-bundle form mac taken m t ws coin))
             go true e = entered-view (jumping e h)
             go false e = taken-view (accepted e h)
 
@@ -307,7 +291,7 @@ module _ (form : Form) where
         gives-view = go (eqb (first-failed (give-tests form mac m t ws coin out)) 0) refl
           where
             go : (b : Bool) → eqb (first-failed (give-tests form mac m t ws coin out)) 0 ≡ b
-                → Gives (pick b (answered (statement-code form (mac (m .key))) (last-round form) (m .n) (m .station) (last-for m (t .identity .question)) (state-of form t) (main-of form ws) (certificate-of form ws) coin)
+                → Gives (pick b (on-bundle form mac answered m t ws coin)
                 (refused (first-failed (give-tests form mac m t ws coin out))))
             go true e = answered-view (eqb-true _ _ e)
             go false e =
@@ -338,7 +322,7 @@ module _ (form : Form) where
           begun false e x y z = no-opening refl
 
           go : (b : Bool) → eqb (first-failed (open-tests form mac m proposal jump out)) 0 ≡ b
-              → Opens (pick b (opened (statement-code form (mac (m .key))) (last-round form) (m .n) (m .station) (last-for m question) question proposal (eqb jump 1))
+              → Opens (pick b (by-module form mac opened m question question proposal (eqb jump 1))
               (refused (first-failed (open-tests form mac m proposal jump out))))
           go true e =
               let p = all-passed (open-tests form mac m proposal jump out) (omega arith, (omega arith, tt)) (eqb-true _ _ e) in
@@ -349,7 +333,7 @@ module _ (form : Form) where
   -- what passes the tests is answered 0, 22, 20, 21, 23 or 12
   pub answered-number : (mac : List ℕ → List ℕ → List ℕ) (m : Module) (t : Station) (ws : List ℕ) (coin : ℕ) (out : List ℕ) (P : ℕ → Type 0)
       → P kept → P closed-now → P sent → P sent-decided → P jumped → P not-above
-      → P (returned form m t out (answered (statement-code form (mac (m .key))) (last-round form) (m .n) (m .station) (last-for m (t .identity .question)) (state-of form t) (main-of form ws) (certificate-of form ws) coin) .number)
+      → P (returned form m t out (on-bundle form mac answered m t ws coin) .number)
   unfolding returned pick taken ended
   answered-number mac m t ws coin out P p0 p22 p20 p21 p23 p12 = first (jumps (state-of form t) (main-of form ws))
     where
@@ -369,11 +353,11 @@ module _ (form : Form) where
       sent-by false b = p12
 
       ended-by : (c : Bool) → P (returned form m t out (pick c (keeps closed-now (shut (after mac m t ws coin out) l))
-          (moved (statement-code form (mac (m .key))) (last-round form) (m .n) (m .station) (last-for m (t .identity .question)) (after mac m t ws coin out) x l)) .number)
+          (by-module form mac moved m (t .identity .question) (after mac m t ws coin out) x l)) .number)
       ended-by true = p22
       ended-by false = sent-by (above (last-for m (t .identity .question)) (s .question) (step s)) (ltb (state-of form t .lasting .decision) none || eqb (l .decision) none)
 
-      by : (b : Bool) → P (returned form m t out (pick b (keeps kept (after mac m t ws coin out)) (ended (statement-code form (mac (m .key))) (last-round form) (m .n) (m .station) (last-for m (t .identity .question)) (after mac m t ws coin out) coin)) .number)
+      by : (b : Bool) → P (returned form m t out (pick b (keeps kept (after mac m t ws coin out)) (by-module form mac ended m (t .identity .question) (after mac m t ws coin out) coin)) .number)
       by true = p0
       by false = ended-by (closes (last-round form) (state-of form t .stage))
 
@@ -386,8 +370,8 @@ module _ (form : Form) where
       entered-by false = p12
 
       first : (j : Bool) → P (returned form m t out (pick j
-          (entered (statement-code form (mac (m .key))) (last-round form) (m .n) (m .station) (last-for m (t .identity .question)) (state-of form t) (main-of form ws) (certificate-of form ws) coin)
-          (taken (statement-code form (mac (m .key))) (last-round form) (m .n) (m .station) (last-for m (t .identity .question)) (state-of form t) (main-of form ws) (certificate-of form ws) coin)) .number)
+          (on-bundle form mac entered m t ws coin)
+          (on-bundle form mac taken m t ws coin)) .number)
       first true = entered-by (above (last-for m (t .identity .question)) (u .question) (step u))
       first false = by (ltb (length (after mac m t ws coin out .held)) (quorum (m .n)))
 
@@ -408,7 +392,7 @@ module _ (form : Form) where
           record { near = nearly mac m t ws coin out L (f .0) (p .0); clash = not-false _ (f .1) }
 
       go : (b : Bool) → eqb (first-failed (give-tests form mac m t ws coin out)) 0 ≡ b
-          → returned form m t out (pick b (answered (statement-code form (mac (m .key))) (last-round form) (m .n) (m .station) (last-for m (t .identity .question)) (state-of form t) (main-of form ws) (certificate-of form ws) coin)
+          → returned form m t out (pick b (on-bundle form mac answered m t ws coin)
           (refused (first-failed (give-tests form mac m t ws coin out)))) .number ≡ conflicting → Conflicts mac m t ws coin out L
       go true q z =
           absurd (answered-number mac m t ws coin out (λ k. k ≡ conflicting → ⊥) (λ e. omega arith) (λ e. omega arith) (λ e. omega arith) (λ e. omega arith) (λ e. omega arith) (λ e. omega arith) z)
