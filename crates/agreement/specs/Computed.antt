@@ -18,16 +18,16 @@ use Rattle.format.specs.Group.{quorum, backing, most-faulty}
 use Rattle.format.specs.Words as Format
 use Rattle.format.specs.Words.{fields-of, word-of, step-of}
 use Rattle.format.specs.Statement.{same-words, step}
+use Rattle.format.specs.Lists.{some, every, number-of, those, leading}
 use Rattle.format.specs.Laws.Layout.{same-out}
 use Rattle.format.specs.Present.{place-of, statement-words, covered-at, code-at}
-use Rattle.rules.specs.Rules.{wanted, some, in-order, holds, d-get-group, first-group, second-group, has-second, early-toss, rest-holds, spread, groups-hold, rule}
-use Rattle.certificate.specs.Check.{every}
+use Rattle.rules.specs.Rules.{wanted, in-order, holds, d-get-group, first-group, second-group, has-second, early-toss, rest-holds, spread, groups-hold, rule}
 use Rattle.modules.specs.Counter.{above}
 use Rattle.modules.specs.Present.{making}
 use Rattle.station.specs.declared.Stage.{Stage}
 use Rattle.station.specs.declared.Stage.the-variants.{Gathering, Proposing, Voting}
 use Rattle.station.specs.declared.Station.{Station}
-use Rattle.station.specs.Machine.{kind-in, round-in, proposing, voting, insert, number-of, first-value, those, vote-value, decided, carried, follows, ended, taken, conflict, leading, kept-for-value, kept-for-none, with-setting}
+use Rattle.station.specs.Machine.{kind-in, round-in, proposing, voting, insert, first-value, vote-value, decided, carried, follows, ended, taken, conflict, kept-for-value, kept-for-none, with-setting}
 use Rattle.station.specs.Words.{set-of}
 use Rattle.station.specs.Fit.{zeros}
 use Rattle.station.specs.Calls.{Returned}

@@ -17,13 +17,14 @@ use Rattle.format.specs.Numbers.{kind-INIT, kind-V, none}
 use Rattle.format.specs.Group.{backing}
 use Rattle.format.specs.Words.{kind-of, value-of, station-of}
 use Rattle.format.specs.Statement.{Statement, same-words}
+use Rattle.format.specs.Lists.{some}
 use Rattle.hmac.specs.Code.{hmac-code}
 use Rattle.format.specs.Bundle.{count-in}
 use Rattle.format.specs.Laws.Layout.{all-well, same-out}
 use Rattle.format.specs.Laws.Shape.{formed-out}
 use Rattle.format.specs.Present.{covered-words, place-of, statement, well-formed, main-of, certificate-of}
 use Rattle.rules.specs.declared.Which.the-variants.{Any}
-use Rattle.rules.specs.Rules.{wanted, matches, some, inits, Backed, rule-1, rule-2, rule-3, rule-4, rule-5, rule-6, rule-7}
+use Rattle.rules.specs.Rules.{wanted, matches, inits, Backed, rule-1, rule-2, rule-3, rule-4, rule-5, rule-6, rule-7}
 use Rattle.certificate.specs.Exact.{found-valid}
 use Rattle.certificate.specs.Present.{check-by, checked, Valid}
 use Rattle.agreement.specs.Maths.Log.{In, some-in}

@@ -6,3 +6,4 @@ pub mod Invariant
 pub mod Run
 pub mod Lists
 pub mod Settings
+pub mod Sites

@@ -10,7 +10,7 @@ use borrow.Author.Tests.{eqb-true, ne-eqb}
 use Rattle.laws.specs.Pick.{pick}
 use Rattle.laws.specs.Bools.{right}
 use Rattle.format.specs.Statement.{Statement}
-use Rattle.rules.specs.Rules.{some}
+use Rattle.format.specs.Lists.{some}
 use Rattle.station.specs.Calls.{Returned}
 use Rattle.agreement.specs.Maths.Counting.{count-mono}
 use Rattle.agreement.specs.Maths.Votes.{votes}

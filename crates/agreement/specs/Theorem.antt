@@ -2,25 +2,25 @@
 use mathlib.Core.Path.{_≡_, refl, sym, _∙_, ap, subst}
 use mathlib.Core.Bool.{Bool, true, false, not, _&&_, _||_}
 use mathlib.Core.List.{List, [], _∷_}
-use Prim.Native.Nat.{ℕ, zero, suc, _-_, _/_, _≤_, _<_}
+use Prim.Native.Nat.{ℕ, suc, _-_, _/_, _≤_, _<_}
 use native.Mathlib.Omega.{arith}
 use lib.Dec.{eqb, ltb}
 use lib.ListN.{length, getD}
-use borrow.Author.Tests.{eqb-true, eqb-false, eq-eqb, ne-eqb, ltb-true, ltb-false}
+use borrow.Author.Tests.{eqb-true, eqb-false, eq-eqb, ltb-true, ltb-false}
 use Rattle.laws.specs.Pick.{pick}
-use Rattle.laws.specs.Bools.{never, both, join, left, right}
+use Rattle.laws.specs.Bools.{never, both, join, left, right, twice-not}
 use Rattle.laws.specs.All.{All, all-map, all-two}
-use Rattle.laws.specs.Count.{count, meet}
+use Rattle.laws.specs.Count.{count, meet, every-one}
 use Rattle.format.specs.Form.{Form}
 use Rattle.format.specs.Numbers.{kind-INIT, kind-P, kind-V, none, D-GET, conflicting, code-words}
 use Rattle.format.specs.Group.{quorum, backing, most-faulty}
 use Rattle.format.specs.Words.{kind-of, value-of}
 use Rattle.format.specs.Statement.{Statement, statement, statements, step}
+use Rattle.format.specs.Lists.{some}
 use Rattle.hmac.specs.Code.{hmac-code, hmac-eight}
 use Rattle.format.specs.Bundle.{count-in, main-of, certificate-of}
 use Rattle.format.specs.Laws.Layout.{all-well}
 use Rattle.format.specs.Laws.Shape.{Shape, init, proposal, vote, Formed, formed-out}
-use Rattle.rules.specs.Rules.{some}
 use Rattle.modules.specs.declared.Module.{Module}
 use Rattle.station.specs.declared.Stage.{Stage}
 use Rattle.station.specs.declared.Stage.the-variants.{Gathering, Proposing, Voting}
@@ -40,8 +40,9 @@ use Rattle.agreement.specs.Maths.Log.{In, is, has, has-out, has-at, Supp
 use Rattle.agreement.specs.Maths.Safe as Safe
 use Rattle.agreement.specs.Maths.Safe.{Just, Split, LogOk, Decided}
 use Rattle.agreement.specs.Maths.Just.{bare, Coded, backed-just}
-use Rattle.agreement.specs.Maths.Took.{vote-out, one-more, none-there}
+use Rattle.agreement.specs.Maths.Took.{vote-out}
 use Rattle.agreement.specs.Laws.Ground.{Ground}
+use Rattle.agreement.specs.Laws.Sites.{member-few, without, without-few, without-self, without-other, without-more}
 use Rattle.agreement.specs.Laws.Effect.{plain-effect, toss-effect}
 use Rattle.agreement.specs.Laws.Line.{reads, AtSite, whole-came, Line, line-asked, line-low, line-named, line-names, line-open}
 use Rattle.agreement.specs.Maths.Standing.{Enough, Open}
@@ -50,71 +51,6 @@ use Rattle.agreement.specs.Laws.Settings.{setting-known}
 use Rattle.agreement.specs.Laws.Run.{Inv, apart-step, open-step, give-step}
 use Rattle.agreement.specs.Maths.Votes.{is-vote, votes}
 use Rattle.agreement.specs.Demand.{opens, gives, codes, tosses, Call, call, site, action, View, starting, going-on, apart, view, Entry, is-statement, Lineage, Found, found, started, gave, went, member, proposed, act, modules, answer, log, openings, lineage, Presents, Sound, JumpOff, AllOff, FewFaulty, CodesCame, Given, Decides, Claim, Demand-3}
-
--- ---- the premise on numbers
-member-few : (l : List ℕ) (n : ℕ) → count (λ i. member i l) n ≤ length l
-member-few [] n = omega (arith, none-there n)
-member-few (j ∷ l) n =
-    omega (arith, member-few l n, one-more j (λ i. member i l) n, count-mono (λ i. member i (j ∷ l)) (λ i. eqb j i || member i l) (λ i h. turned i h) n)
-  where
-    turned : (i : ℕ) → (eqb i j || member i l) ≡ true → (eqb j i || member i l) ≡ true
-    turned i h = go (eqb i j) refl h
-      where
-        go : (b : Bool) → eqb i j ≡ b → (b || member i l) ≡ true → (eqb j i || member i l) ≡ true
-        go true e x = left (eqb j i) _ (eq-eqb j i (sym (eqb-true i j e)))
-        go false e x = right (eqb j i) _ x
-
--- a site taken out of a list
-without : ℕ → List ℕ → List ℕ
-without i [] = []
-without i (j ∷ l) = pick (eqb j i) (without i l) (j ∷ without i l)
-
-without-few : (i : ℕ) (l : List ℕ) → length (without i l) ≤ length l
-unfolding without pick
-without-few i [] = omega arith
-without-few i (j ∷ l) = go (eqb j i) (without-few i l)
-  where
-    go : (b : Bool) → length (without i l) ≤ length l → length (pick b (without i l) (j ∷ without i l)) ≤ suc (length l)
-    go true e = omega arith
-    go false e = omega arith
-
-without-self : (i : ℕ) (l : List ℕ) → member i (without i l) ≡ false
-unfolding without pick
-without-self i [] = refl
-without-self i (j ∷ l) = go (eqb j i) refl (without-self i l)
-  where
-    go : (b : Bool) → eqb j i ≡ b → member i (without i l) ≡ false → member i (pick b (without i l) (j ∷ without i l)) ≡ false
-    go true e h = h
-    go false e h = rw (ne-eqb i j (λ z. eqb-false j i e (sym z))) h
-
--- who is in the list and not the one taken out is in it still
-without-other : (i x : ℕ) (l : List ℕ) → (x ≡ i → ⊥) → member x (without i l) ≡ false → member x l ≡ false
-unfolding without pick
-without-other i x [] ne h = refl
-without-other i x (j ∷ l) ne h = go (eqb j i) refl h (without-other i x l ne)
-  where
-    go : (b : Bool) → eqb j i ≡ b → member x (pick b (without i l) (j ∷ without i l)) ≡ false → (member x (without i l) ≡ false → member x l ≡ false) → (eqb x j || member x l) ≡ false
-    go true e h ih = rw (ne-eqb x j (λ z. ne (z ∙ eqb-true j i e))) (ih h)
-    go false e h ih = split (eqb x j) refl h
-      where
-        split : (c : Bool) → eqb x j ≡ c → (c || member x (without i l)) ≡ false → (c || member x l) ≡ false
-        split true y z = z
-        split false y z = ih z
-
-without-more : (i x : ℕ) (l : List ℕ) → member x l ≡ false → member x (without i l) ≡ false
-unfolding without pick
-without-more i x [] h = refl
-without-more i x (j ∷ l) h = go (eqb j i) (eqb x j) refl h (without-more i x l)
-  where
-    go : (b c : Bool) → eqb x j ≡ c → (c || member x l) ≡ false → (member x l ≡ false → member x (without i l) ≡ false) → member x (pick b (without i l) (j ∷ without i l)) ≡ false
-    go b true e h ih = never true h refl
-    go true false e h ih = ih h
-    go false false e h ih = rw e (ih h)
-
-pub every-one : (k : ℕ) → count (λ i. true) k ≡ k
-unfolding count
-every-one zero = refl
-every-one (suc k) = let z = every-one k in omega arith
 
 module _ (form : Form) where
   module _ (G : Ground form) where
@@ -179,11 +115,7 @@ module _ (form : Form) where
       not-sound false e = refl
 
       pub bad-few : count (λ i. not (sound i)) n ≤ (n - 1) / 2
-      bad-few = omega (arith, member-few faulty n, count-mono (λ i. not (sound i)) (λ i. member i faulty) (λ i e. twice (member i faulty) e) n)
-        where
-          twice : (b : Bool) → not (not b) ≡ true → b ≡ true
-          twice true e = refl
-          twice false e = e
+      bad-few = omega (arith, member-few faulty n, count-mono (λ i. not (sound i)) (λ i. member i faulty) (λ i e. twice-not (member i faulty) e) n)
 
       pub log-ok : LogOk n sound l
       log-ok =
@@ -211,13 +143,10 @@ module _ (form : Form) where
       -- votes are of round 1 or later
       from-1 : (q r v : ℕ) → Supp n l kind-V q r v (quorum n) → 1 ≤ r
       from-1 q r v s =
-          let m = meet (has l kind-V q r v) (λ i. true) n (omega (arith, all-true n)) in
+          let m = meet (has l kind-V q r v) (λ i. true) n (omega (arith, every-one n)) in
           let h = has-out l kind-V q r v (m .at) (m .in-first) in
           late (h .one) (h .kind≡) (h .round≡) (all-at (Formed form n) l (I .logs .formed) (h .one) (h .mem) .shape)
         where
-          all-true : (k : ℕ) → count (λ i. true) k ≡ k
-          all-true k = every-one k
-
           late : (s : Statement) → s .kind ≡ kind-V → s .round ≡ r → Shape form s → 1 ≤ r
           late s k e (init a b c d) = absurd (omega arith)
           late s k e (proposal a b c d f) = absurd (omega arith)

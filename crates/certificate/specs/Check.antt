@@ -1,21 +1,18 @@
 -- The validity check's answer: "The validity check alone tests 2 (n), 3, 4, 5, 6 and answers 0." Each test goes over the whole bundle before the next.
 use Prim.Native.Nat.{ℕ, suc}
-use mathlib.Core.Bool.{Bool, true, _&&_}
+use mathlib.Core.Bool.{Bool, _&&_}
 use mathlib.Core.List.{List, [], _∷_}
 use lib.Dec.{eqb}
 use Rattle.laws.specs.Refusals.{Test, test, first-failed}
 use Rattle.format.specs.Form.{Form, size-fits}
 use Rattle.format.specs.Numbers.{out-of-range, malformed, other-question, wrong-code, no-certificate}
 use Rattle.format.specs.Statement.{Statement, statements, verifies}
+use Rattle.format.specs.Lists.{every}
 use Rattle.hmac.specs.Code.{hmac-code}
 use Rattle.format.specs.Bundle.{count-in, main-of, certificate-of, bundle-fits}
 use Rattle.rules.specs.declared.Which.{Which}
 use Rattle.rules.specs.declared.Which.the-variants.{Any}
 use Rattle.rules.specs.Rules.{which, rule}
-
-unfoldable pub every : (Statement → Bool) → List Statement → Bool
-every p [] = true
-every p (s ∷ c) = p s && every p c
 
 -- "all of the main statement's question"
 abbrev pub one-question : Statement → List Statement → Bool

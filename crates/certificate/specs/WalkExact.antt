@@ -7,14 +7,15 @@ use lib.Dec.{eqb}
 use Rattle.laws.specs.Pick.{pick}
 use Rattle.laws.specs.Refusals.{first-failed}
 use Rattle.format.specs.Statement.{Statement}
+use Rattle.format.specs.Lists.{some, every}
 use Rattle.format.specs.Bundle.{count-in}
 use Rattle.format.specs.Present.{place-of, size-fits, statements, verifies, laid-out, all-formed, bundle-fits, main-of, certificate-of}
 use Rattle.rules.specs.declared.Which.{Which}
-use Rattle.rules.specs.Rules.{which, some, rule}
+use Rattle.rules.specs.Rules.{which, rule}
 use Rattle.walk.specs.declared.Findings.{Findings}
 use Rattle.walk.specs.Walk.{findings, answer, walk}
 use Rattle.walk.specs.WalkFinds.{Found, answered, walk-finds}
-use Rattle.certificate.specs.Check.{every, question-fits}
+use Rattle.certificate.specs.Check.{question-fits}
 use Rattle.certificate.specs.Present.{all-verify, bundle-tests, check-by}
 
 -- some statement fails a test exactly if not every one passes it

@@ -41,7 +41,7 @@ struct Scanned {
 fn said(line: [u8; 23], held: usize) -> Line
     ensures { λ r. ⌜ r ≡ read-line (take held line) ⌝ }
 {
-    let n = world::shorter_of(held, 23);
+    let n = certificate::smaller(held, 23);
     lines::read_line(&line[..n])
 }
 

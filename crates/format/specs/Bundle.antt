@@ -3,7 +3,7 @@ use Prim.Native.Nat.{ℕ, zero, suc, _+_, _*_, _/_, _%_, _^_}
 use mathlib.Core.Bool.{Bool, true, _&&_}
 use mathlib.Core.List.{List, [], _∷_, _++_}
 use lib.Dec.{eqb, leb}
-use lib.ListN.{getD, length, drop}
+use lib.ListN.{getD, length}
 use Rattle.format.specs.Form.{Form, most-statements, head-bits, fields-at, statement-words, bundle-words}
 use Rattle.format.specs.Statement.{Statement, formed, statement, statements, written}
 
@@ -22,10 +22,6 @@ count-bits = 16
 
 abbrev pub count-in : List ℕ → ℕ
 count-in ws = getD ws 0 0 % 2 ^ count-bits
-
--- "words behind the bundle are untouched"
-abbrev pub over : List ℕ → List ℕ → List ℕ
-over ws out = ws ++ drop (length ws) out
 
 module _ (form : Form) where
   -- the head in a form: bits 29..16 are as it says, zero in the first

@@ -1,7 +1,6 @@
 pub mod Word0
 pub mod Shape
 pub mod Layout
-pub mod Over
 pub mod Covered
 pub mod Parts
 pub mod ReadBack

@@ -3,6 +3,7 @@ pub mod Words
 pub mod Group
 pub mod Form
 pub mod Statement
+pub mod Lists
 pub mod Bundle
 pub mod Tables
 pub mod Present

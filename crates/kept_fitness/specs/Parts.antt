@@ -12,12 +12,13 @@ use Rattle.laws.specs.Pick.{here, skip}
 use Rattle.laws.specs.Bools.{both}
 use Rattle.format.specs.declared.Fields.{Fields}
 use Rattle.format.specs.Words.{fields-of}
+use Rattle.format.specs.Lists.{leading}
 use Rattle.format.specs.Present.{most-stations, statement-words, size-fits, statement}
 use Rattle.rules.specs.declared.Group.{Group}
 use Rattle.rules.specs.Rules.{none-votes}
 use Rattle.station.specs.declared.Groups.{Groups}
 use Rattle.station.specs.declared.Stage.{Stage}
-use Rattle.station.specs.Machine.{round-in, supplies-for-value, supplies-for-none, leading, kept-for-value, kept-for-none, value-group, no-group}
+use Rattle.station.specs.Machine.{round-in, supplies-for-value, supplies-for-none, kept-for-value, kept-for-none, value-group, no-group}
 use Rattle.station.specs.Present.{sites, held-in, group-fits}
 use Rattle.held.specs.Scan.{scan}
 use Rattle.held.specs.Laws.Held.{scan-some, scan-first}

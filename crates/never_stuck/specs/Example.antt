@@ -15,8 +15,8 @@ use Rattle.laws.specs.Count.{count}
 use Rattle.format.specs.Form.{present-form}
 use Rattle.format.specs.Numbers.{kind-P, kind-V, none, D-GET, least-stations}
 use Rattle.format.specs.Group.{quorum}
+use Rattle.format.specs.Lists.{some}
 use Rattle.format.specs.Present.{last-round, most-stations, statement, main-of, bundle-of}
-use Rattle.rules.specs.Rules.{some}
 use Rattle.modules.specs.Counter.{last-for}
 use Rattle.station.specs.declared.Station.{Station}
 use Rattle.station.specs.Machine.{round-in, stage-step, has-value}

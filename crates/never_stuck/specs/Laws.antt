@@ -2,6 +2,11 @@ pub mod Came
 pub mod Spoken
 pub mod Steps
 pub mod Walk
+pub mod SoundSite
+pub mod OpeningStep
+pub mod GivenStation
+pub mod WrittenStep
+pub mod GivingStep
 pub mod Walked
 pub mod Heard
 pub mod Moves

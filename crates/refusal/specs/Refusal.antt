@@ -11,11 +11,12 @@ use Rattle.format.specs.Numbers.{D-GET, too-late, too-early, already-held, conf
 use Rattle.format.specs.declared.Fields.{Fields}
 use Rattle.format.specs.Words.{fields-of, step-of}
 use Rattle.format.specs.Statement.{Statement, step}
+use Rattle.format.specs.Lists.{some}
 use Rattle.format.specs.Present.{main-of}
 use Rattle.hmac.specs.Code.{hmac-code}
 use Rattle.rules.specs.declared.Which.{Which}
 use Rattle.rules.specs.declared.Which.the-variants.{Any, Only}
-use Rattle.rules.specs.Rules.{which, some}
+use Rattle.rules.specs.Rules.{which}
 use Rattle.modules.specs.declared.Module.{Module}
 use Rattle.station.specs.declared.Stage.{Stage}
 use Rattle.station.specs.declared.Stage.the-variants.{Gathering, Proposing, Voting}

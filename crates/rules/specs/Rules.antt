@@ -1,6 +1,6 @@
 -- Certificate groups, and the seven rules: `Backed` as documents 01 and 02 (Job 2, of rule 5) list them, `rule` as a test (Backed.antt: the two agree).
 use Prim.Native.Nat.{ℕ, _+_, _-_, _<_}
-use mathlib.Core.Bool.{Bool, true, false, not, _&&_, _||_}
+use mathlib.Core.Bool.{Bool, true, not, _&&_, _||_}
 use mathlib.Core.List.{List, [], _∷_, _++_}
 use mathlib.Core.Path.{_≡_}
 use lib.Dec.{eqb, ltb}
@@ -10,6 +10,7 @@ use Rattle.laws.specs.All.{All}
 use Rattle.format.specs.Numbers.{kind-INIT, kind-P, kind-V, none, D-GET, R-GET}
 use Rattle.format.specs.Group.{quorum, backing}
 use Rattle.format.specs.Statement.{Statement}
+use Rattle.format.specs.Lists.{some}
 use Rattle.rules.specs.declared.Which.{Which}
 use Rattle.rules.specs.declared.Which.the-variants.{Any, Only}
 use Rattle.rules.specs.declared.Group.{Group}
@@ -48,10 +49,6 @@ pub record Holds (g : Group) (c : List Statement) : Type 0 where
   pub size : length c ≡ g .size
   pub rising : Rising 0 c
   pub each : All (λ s. matches g s ≡ true) c
-
-unfoldable pub some : (Statement → Bool) → List Statement → Bool
-some p [] = false
-some p (s ∷ c) = p s || some p c
 
 -- one of them is D-GET; one of them has the value v
 abbrev pub some-D-GET : List Statement → Bool

@@ -28,7 +28,6 @@ use Rattle.sealed.specs.Present.{coding-plain, coding-coin}
 use Rattle.station.specs.declared.Stage.{Stage}
 use Rattle.station.specs.Machine.{own, began}
 use Rattle.station.specs.Words.{set-of}
-use Rattle.format.specs.Bundle.{over}
 use Rattle.station.specs.Present as W
 use Rattle.format.specs.Laws.ReadBack.{Proper, length-written}
 use Rattle.format.specs.Present.{bundle-words, most-stations, most-statements, output-words, written, statement-code, all-written, bundle-of}
@@ -38,6 +37,7 @@ use Rattle.station.specs.declared.Lasting.{Lasting}
 use Rattle.writer.specs.Written.{with-word, copyable, copy-after, copy-count}
 use Rattle.writer.specs.Laws.Bundle.{Certificate, lent-bundle, count-bundle}
 use Rattle.laws.specs.Below.{Below}
+use Rattle.laws.specs.Over.{over}
 use Rattle.keeping.specs.Kept.{with-bundle}
 use Rattle.keeping.specs.Begun.{blank, begun}
 use Rattle.sending.specs.Sent.{drafted, asked, main-part, with-main, coded-lent, coded-after, sent-count, sent-lent, sent-bundle, sent-station, sent-after, copy-lent, copy-module, copy-bundle}

@@ -6,10 +6,11 @@ use lib.Dec.{eqb, ltb, leb}
 use lib.ListN.{length}
 use Rattle.laws.specs.Pick.{pick}
 use Rattle.laws.specs.Refusals.{Test, test, first-failed}
+use Rattle.laws.specs.Over.{over}
 use Rattle.format.specs.Form.{Form, last-round, bundle-words, output-words}
 use Rattle.format.specs.Numbers.{short-output, out-of-range, station-closed}
 use Rattle.format.specs.Statement.{Statement, step, statement-code}
-use Rattle.format.specs.Bundle.{main-of, certificate-of, bundle-of, over}
+use Rattle.format.specs.Bundle.{main-of, certificate-of, bundle-of}
 use Rattle.rules.specs.declared.Which.the-variants.{Only}
 use Rattle.certificate.specs.Check.{bundle-tests}
 use Rattle.modules.specs.declared.Last.{Last}

@@ -10,14 +10,14 @@ use borrow.Author.Tests.{eqb-true}
 use Rattle.laws.specs.Pick.{pick}
 use Rattle.laws.specs.Bools.{never}
 use Rattle.laws.specs.Refusals.{first-failed}
+use Rattle.laws.specs.Over.{over}
 use Rattle.format.specs.Numbers.{kind-P, none, D-GET, R-GET, kept, sent, sent-decided, closed-now, jumped, not-above}
 use Rattle.format.specs.Group.{quorum}
 use Rattle.format.specs.Words.{step-of}
 use Rattle.format.specs.Statement.{Statement, step}
-use Rattle.format.specs.Bundle.{over}
+use Rattle.format.specs.Lists.{some, every}
 use Rattle.format.specs.Present.{last-round, statement-code, main-of, certificate-of, bundle-of}
-use Rattle.rules.specs.Rules.{some, some-value}
-use Rattle.certificate.specs.Check.{every}
+use Rattle.rules.specs.Rules.{some-value}
 use Rattle.modules.specs.declared.Last.{Last}
 use Rattle.modules.specs.declared.Module.{Module}
 use Rattle.modules.specs.Counter.{last-for, above}

@@ -12,7 +12,8 @@ use Rattle.laws.specs.Pick.{pick}
 use Rattle.laws.specs.All.{All}
 use Rattle.format.specs.Group.{quorum, backing, proposed-0, proposed-1, enough-0, enough-1}
 use Rattle.format.specs.Statement.{Statement}
-use Rattle.station.specs.Machine.{number-of, has-value, first-value}
+use Rattle.format.specs.Lists.{number-of}
+use Rattle.station.specs.Machine.{has-value, first-value}
 use Rattle.station.specs.Laws.Pieces.{zeros-ones}
 
 -- v is proposed only where it has its backing, and wherever it has it

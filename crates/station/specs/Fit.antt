@@ -13,10 +13,10 @@ use Rattle.format.specs.Numbers.{none}
 use Rattle.format.specs.Group.{quorum}
 use Rattle.format.specs.Words.{flag-of, step-of, kind-of, station-of}
 use Rattle.format.specs.Statement.{statements, formed}
+use Rattle.format.specs.Lists.{every}
 use Rattle.format.specs.Bundle.{all-formed}
 use Rattle.rules.specs.declared.Group.{Group}
 use Rattle.rules.specs.Rules.{holds}
-use Rattle.certificate.specs.Check.{every}
 use Rattle.station.specs.declared.Stage.{Stage}
 use Rattle.station.specs.declared.Stage.the-variants.{Gathering, Proposing, Voting}
 use Rattle.station.specs.declared.Station.{Station}

@@ -1,5 +1,5 @@
 -- What a station does with statements that are read already (document 01, "The station"). No word is looked into here.
-use Prim.Native.Nat.{ℕ, suc, _+_, _-_, _*_}
+use Prim.Native.Nat.{ℕ, _+_, _-_, _*_}
 use mathlib.Core.Bool.{Bool, true, false, not, _&&_, _||_}
 use mathlib.Core.List.{List, [], _∷_, _++_}
 use lib.Dec.{eqb, ltb, leb}
@@ -10,10 +10,10 @@ use Rattle.format.specs.Numbers.{kind-INIT, kind-P, kind-V, none, D-GET, R-GET,
 use Rattle.format.specs.Group.{quorum, backing}
 use Rattle.format.specs.Words.{step-of}
 use Rattle.format.specs.Statement.{Statement, step}
+use Rattle.format.specs.Lists.{some, every, number-of, those, leading}
 use Rattle.rules.specs.declared.Group.{Group}
 use Rattle.rules.specs.declared.Which.the-variants.{Any, Only}
-use Rattle.rules.specs.Rules.{group, proposals, some, some-D-GET, some-value, none-votes, d-get-group, has-second}
-use Rattle.certificate.specs.Check.{every}
+use Rattle.rules.specs.Rules.{group, proposals, some-D-GET, some-value, none-votes, d-get-group, has-second}
 use Rattle.modules.specs.declared.Last.{Last}
 use Rattle.modules.specs.Counter.{above}
 use Rattle.station.specs.declared.Lasting.{Lasting}
@@ -84,11 +84,6 @@ supplies-for-none (Voting r) s = false
 abbrev pub takes : (Statement → Bool) → List Statement → Statement → Bool
 takes p held m = p m && not (some (λ s. p s && ltb (s .station) (m .station)) held)
 
--- the value of the first statement that a test takes, or 2
-unfoldable pub leading : (Statement → Bool) → List Statement → ℕ
-leading p [] = 2
-leading p (s ∷ h) = pick (p s) (s .value) (leading p h)
-
 -- no statement at all
 abbrev pub no-group : Group
 no-group = group 0 0 0 Any Any
@@ -125,21 +120,12 @@ keeping n t m c =
     }
 
 -- ---- the end of a step
-unfoldable pub number-of : (Statement → Bool) → List Statement → ℕ
-number-of p [] = 0
-number-of p (s ∷ h) = pick (p s) (suc (number-of p h)) (number-of p h)
-
 abbrev pub has-value : ℕ → Statement → Bool
 has-value v s = eqb (s .value) v
 
 -- "If at least half of the q INITs are 1 the proposal is 1, else 0." (Job 1 of document 02)
 unfoldable pub first-value : List Statement → ℕ
 first-value h = pick (leb (length h) (2 * number-of (has-value 1) h)) 1 0
-
--- those that a test takes, in order
-unfoldable pub those : (Statement → Bool) → List Statement → List Statement
-those p [] = []
-those p (s ∷ h) = pick (p s) (s ∷ those p h) (those p h)
 
 -- "P: all q equal gives V with that value; else V none."
 unfoldable pub vote-value : List Statement → ℕ

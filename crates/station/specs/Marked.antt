@@ -13,16 +13,16 @@ use Rattle.format.specs.Numbers.{kind-INIT, kind-P, kind-V, none, D-GET, R-GET,
 use Rattle.format.specs.Group.{quorum, backing}
 use Rattle.format.specs.Words.{fields-of, word-of, step-of}
 use Rattle.format.specs.Statement.{Statement, step}
+use Rattle.format.specs.Lists.{some, every, number-of, those}
 use Rattle.format.specs.Present.{last-round, written, statement-code}
-use Rattle.rules.specs.Rules.{rule, wanted, some, in-order, holds, d-get-group, first-group, second-group, has-second, early-toss, rest-holds, spread, groups-hold}
-use Rattle.certificate.specs.Check.{every}
+use Rattle.rules.specs.Rules.{rule, wanted, in-order, holds, d-get-group, first-group, second-group, has-second, early-toss, rest-holds, spread, groups-hold}
 use Rattle.modules.specs.declared.Last.{Last}
 use Rattle.modules.specs.declared.Module.{Module}
 use Rattle.modules.specs.Counter.{no-pair, pair, above}
 use Rattle.sealed.specs.Present.{coding-plain}
 use Rattle.station.specs.declared.Stage.{Stage}
 use Rattle.station.specs.declared.Stage.the-variants.{Gathering}
-use Rattle.station.specs.Machine.{State, Outcome, refused, keeps, sends, proposing, voting, began, insert, number-of, first-value, those, vote-value, decided, carried, follows, ended, taken, answered, conflict, step-tests, undecided, with-decision}
+use Rattle.station.specs.Machine.{State, Outcome, refused, keeps, sends, proposing, voting, began, insert, first-value, vote-value, decided, carried, follows, ended, taken, answered, conflict, step-tests, undecided, with-decision}
 use Rattle.station.specs.Calls.{unless}
 
 -- ---- statements of question 1, by round, station, value and flag

@@ -12,8 +12,9 @@ use Rattle.format.specs.Numbers.{kind-INIT, D-GET, R-GET, sent, short-output, o
 use Rattle.format.specs.Group.{backing}
 use Rattle.format.specs.Words.{step-of}
 use Rattle.format.specs.Statement.{Statement, step}
+use Rattle.format.specs.Lists.{some}
 use Rattle.format.specs.Present.{output-words, statement-code}
-use Rattle.rules.specs.Rules.{rule, wanted, some, in-order, holds, d-get-group, first-group, second-group, has-second, early-toss, rest-holds, spread, groups-hold}
+use Rattle.rules.specs.Rules.{rule, wanted, in-order, holds, d-get-group, first-group, second-group, has-second, early-toss, rest-holds, spread, groups-hold}
 use Rattle.modules.specs.declared.Module.{Module}
 use Rattle.modules.specs.Counter.{above, last-for}
 use Rattle.modules.specs.Present.{module-fits}

@@ -12,6 +12,7 @@ use borrow.Author.Tests.{le-leb}
 use Rattle.laws.specs.Pick.{pick}
 use Rattle.laws.specs.Bools.{never, join}
 use Rattle.laws.specs.All.{All, all-append}
+use Rattle.laws.specs.Over.{over}
 use Rattle.format.specs.Form.{present-form}
 use Rattle.format.specs.Numbers.{kind-INIT, kind-P, none, D-GET, R-GET, code-words}
 use Rattle.format.specs.Statement.{Statement, step}
@@ -27,7 +28,6 @@ use Rattle.station.specs.declared.Stage.{Stage}
 use Rattle.station.specs.declared.Stage.the-variants.{Gathering, Proposing, Voting}
 use Rattle.station.specs.declared.Station.{Station}
 use Rattle.station.specs.Machine.{State, Outcome, Next, next, proposing, carried, follows, copied-value}
-use Rattle.format.specs.Bundle.{over}
 use Rattle.format.specs.Present.{bundle-words, most-stations, place-of, statement-words, size-fits, statement, covered, written, main-of, certificate-of, all-written, bundle-of}
 use Rattle.station.specs.Returns.{unrefused, wrote, wrote-unrefused, sent-wrote}
 use Rattle.station.specs.Demand.{message}

@@ -12,7 +12,7 @@ use Rattle.format.specs.Group.{quorum}
 use Rattle.format.specs.Statement.{Statement, statement, statements, written}
 use Rattle.rules.specs.declared.Group.{Group}
 use Rattle.rules.specs.declared.Which.the-variants.{Any, Only}
-use Rattle.rules.specs.Rules.{group, proposals, none-votes, some}
+use Rattle.rules.specs.Rules.{group, proposals, none-votes}
 use Rattle.station.specs.declared.Stage.{Stage}
 use Rattle.station.specs.declared.Stage.the-variants.{Gathering, Proposing, Voting}
 use Rattle.station.specs.declared.Identity.{Identity}

@@ -13,12 +13,14 @@ use borrow.Author.Tests.{eq-eqb}
 use Rattle.laws.specs.Pick.{pick}
 use Rattle.laws.specs.Bools.{never, join}
 use Rattle.laws.specs.All.{All, all-map, all-append}
+use Rattle.laws.specs.Over.{over}
 use Rattle.format.specs.Form.{Form, most-stations, last-round, most-statements, statement-words, bundle-words, words-mono}
 use Rattle.format.specs.Numbers.{kind-INIT, kind-P, kind-V, none, D-GET, R-GET, code-words}
 use Rattle.format.specs.Group.{quorum, backing}
 use Rattle.format.specs.Statement.{Statement, statements, covered, same-words, verifies, statement-code}
+use Rattle.format.specs.Lists.{those}
 use Rattle.hmac.specs.Code.{hmac-code, hmac-eight}
-use Rattle.format.specs.Bundle.{main-of, certificate-of, all-written, bundle-of, over}
+use Rattle.format.specs.Bundle.{main-of, certificate-of, all-written, bundle-of}
 use Rattle.format.specs.Laws.Shape.{init}
 use Rattle.rules.specs.declared.Which.the-variants.{Any}
 use Rattle.rules.specs.Rules.{Backed, rule-1, rule-2, rule-3, rule-4, rule-5, rule-6, rule-7, some-D-GET, has-second}
@@ -30,7 +32,7 @@ use Rattle.modules.specs.Counter.{last-for}
 use Rattle.station.specs.declared.Stage.{Stage}
 use Rattle.station.specs.declared.Stage.the-variants.{Gathering, Proposing, Voting}
 use Rattle.station.specs.declared.Station.{Station}
-use Rattle.station.specs.Machine.{State, Outcome, Next, own, began, shut, stage-of, copied-value, supplies-for-value, supplies-for-none, takes, closes, those, has-value, first-value, vote-value, carried, follows, undecided}
+use Rattle.station.specs.Machine.{State, Outcome, Next, own, began, shut, stage-of, copied-value, supplies-for-value, supplies-for-none, takes, closes, has-value, first-value, vote-value, carried, follows, undecided}
 use Rattle.station.specs.Words as W
 use Rattle.station.specs.Words.{state-of, group-words, sites, Lengths, kept-words}
 use Rattle.station.specs.Calls.{returned, opening, giving, opening-outcome, giving-outcome, no-station}

@@ -7,10 +7,10 @@ use lib.ListN.{length, take, drop}
 use lib.Seq.{take-at}
 use borrow.Author.Tests.{le-leb}
 use Rattle.laws.specs.Pick.{pick}
+use Rattle.laws.specs.Over.{over}
 use Rattle.format.specs.Numbers.{malformed}
 use Rattle.station.specs.declared.Station.{Station}
 use Rattle.station.specs.Present.{no-station, Lengths}
-use Rattle.format.specs.Bundle.{over}
 use Rattle.station_words.specs.Words.{station-words, words-of, is-station, station-in, flag-fits, refusal, reading, Writing, writing}
 use Rattle.station_words.specs.Laws.Back.{words-length, written-is, station-back, words-back, read-fits}
 

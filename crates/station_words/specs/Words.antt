@@ -6,13 +6,13 @@ use mathlib.Core.Path.{_≡_}
 use lib.Dec.{eqb, ltb, leb}
 use lib.ListN.{length, take, drop, getD}
 use Rattle.laws.specs.Pick.{pick}
+use Rattle.laws.specs.Over.{over}
 use Rattle.format.specs.Numbers.{malformed, short-output, out-of-range}
 use Rattle.station.specs.declared.Identity.{Identity}
 use Rattle.station.specs.declared.Stage.{Stage}
 use Rattle.station.specs.declared.Stage.the-variants.{Gathering, Proposing, Voting}
 use Rattle.station.specs.declared.Station.{Station}
 use Rattle.station.specs.Present.{no-station, slots-words, kept-words}
-use Rattle.format.specs.Bundle.{over}
 use Rattle.station_words.specs.declared.Reading.{Reading}
 
 -- ---- the layout

@@ -15,7 +15,7 @@ ghost use mathlib.Core.Path.{_≡_};
 ghost use mathlib.Core.List.{_++_};
 ghost use Prim.Native.Nat.{_+_, _≤_};
 ghost use lib.ListN.{length};
-ghost use Rattle.format.specs.Bundle.{over};
+ghost use Rattle.laws.specs.Over.{over};
 ghost use Rattle.station_words.specs.Words.{slots-at, station-words, stage-words, truth-word, settings-of, sets-of, is-stage, is-station, stage-in, part, station-in, flag-fits, refusal as Refusal, words-of, reading, writing, Wrote};
 ghost use Rattle.station.specs.Present.{slots-words, kept-words};
 ghost use Rattle.station_words.specs.Laws.Put.{put-at, Parts};

@@ -12,10 +12,11 @@ use Rattle.laws.specs.Refusals.{test, first-failed}
 use Rattle.format.specs.Numbers.{malformed, other-question, wrong-code, no-certificate}
 use Rattle.format.specs.Words.{fields-of}
 use Rattle.format.specs.Statement.{Statement}
+use Rattle.format.specs.Lists.{some}
 use Rattle.format.specs.Bundle.{count-in}
 use Rattle.format.specs.Present.{place-of, statement-words, formed, statements, fields-at, verifies, all-formed, main-of, certificate-of}
 use Rattle.rules.specs.declared.Which.{Which}
-use Rattle.rules.specs.Rules.{which, some, some-D-GET, in-order, spread, rule}
+use Rattle.rules.specs.Rules.{which, some-D-GET, in-order, spread, rule}
 use Rattle.walk.specs.declared.Findings.{Findings}
 use Rattle.walk.specs.Walk.{started, walked, first-size, second-size, both-seen, between, through, findings, answer}
 use Rattle.walk.specs.Laws.Turns.{Finds, stopped, finds-malformed, finds}

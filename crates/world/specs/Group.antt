@@ -1,7 +1,5 @@
 -- What the calls on a group promise.
 use Prim.Native.Nat.{ℕ}
-use lib.Dec.{ltb}
-use Rattle.laws.specs.Pick.{pick}
 use Rattle.modules.specs.declared.Module.{Module}
 use Rattle.station.specs.declared.Station.{Station}
 use Rattle.station.specs.Calls.{Returned}
@@ -16,7 +14,3 @@ returned-by c = record { number = c .number; count = c .count; station = c .stat
 -- the group with another station and module of number s
 abbrev pub moved : World → ℕ → Station → Module → World
 moved w s t m = record { modules = put-number (w .modules) s m; stations = put-number (w .stations) s t; written = w .written; bundles = w .bundles }
-
--- the smaller of a count and a length
-unfoldable pub shorter : ℕ → ℕ → ℕ
-shorter count length = pick (ltb count length) count length

@@ -9,7 +9,7 @@ ghost use Rattle.modules.specs.Counter.{no-module};
 ghost use Rattle.hmac.specs.Code.{hmac-code};
 ghost use Rattle.station.specs.Present.{no-station, giving};
 ghost use Rattle.world.specs.Valley.{the-output, made-for, group-of, no-bundle, at-number, put-number, is-open, is-written, opens, gives, shown-step, shown-decision};
-ghost use Rattle.world.specs.Group.{returned-by, moved as Moved, shorter};
+ghost use Rattle.world.specs.Group.{returned-by, moved as Moved};
 
 // A bundle as it was written: the word count, and the lent words.
 pub struct Bundle {
@@ -166,16 +166,6 @@ pub fn is_written(w: World, k: u32) -> bool
     (1 <= k) & ((k as usize) <= w.written)
 }
 
-// The smaller of a count and a length.
-pub fn shorter_of(count: usize, length: usize) -> usize
-    ensures { λ r. ⌜ r ≡ shorter count length ⌝ }
-{
-    if count < length {
-        return count;
-    }
-    length
-}
-
 // Opens station s with proposal v on question 1. valley opens with jump off.
 pub fn open_call(w: World, s: u32, v: u32) -> Call
     ensures { λ r. ⌜ returned-by r ≡ opens w s v ⌝ }
@@ -199,7 +189,7 @@ pub fn open_call(w: World, s: u32, v: u32) -> Call
 fn give_words(m: Module, t: Station, given: [u32; OUTPUT_WORDS], count: usize, coin: u32) -> Call
     ensures { λ r. ⌜ returned-by r ≡ giving hmac-code m t (take count given) coin the-output ⌝ }
 {
-    let n = shorter_of(count, OUTPUT_WORDS);
+    let n = certificate::smaller(count, OUTPUT_WORDS);
     let mut words = [0u32; OUTPUT_WORDS];
     let g = giving::give(m, t, &given[..n], coin, &mut words);
     let station = g.station;

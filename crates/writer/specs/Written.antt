@@ -7,15 +7,12 @@ use lib.Dec.{ltb, leb}
 use lib.ListN.{length, getD, set}
 use Rattle.laws.specs.Pick.{pick}
 use Rattle.laws.specs.Sets.{bit}
+use Rattle.laws.specs.Over.{over}
 use Rattle.format.specs.Numbers.{code-words}
 use Rattle.format.specs.Group.{quorum}
-use Rattle.format.specs.Bundle.{head-mark, mark-bit, over}
+use Rattle.format.specs.Bundle.{head-mark, mark-bit}
 use Rattle.format.specs.Present.{statement-words, output-words, most-statements, bundle-words, place-of}
 use Rattle.station.specs.Present.{sites}
-
--- words written over the front of those lent
-unfoldable pub laid : List ℕ → List ℕ → List ℕ
-laid ws out = over ws out
 
 -- n words from a place on, with 0 for each that the list lacks
 unfoldable pub part : ℕ → ℕ → List ℕ → List ℕ

@@ -13,10 +13,11 @@ ghost use mathlib.Core.Path.{_≡_};
 ghost use Prim.Native.Nat.{_+_, _*_, _^_, _≤_, _<_};
 ghost use lib.Count.{ones};
 ghost use lib.ListN.{length};
+ghost use Rattle.laws.specs.Over.{over};
 ghost use Rattle.format.specs.Group.{quorum};
 ghost use Rattle.format.specs.Present.{bundle-words, most-statements, output-words, place-of, statement-words};
 ghost use Rattle.station.specs.Present.{sites, slots-words};
-ghost use Rattle.writer.specs.Written.{laid, part, held-words, main-words, words-of, writable as Writable, lent-after, count-after, copy-after, copy-count};
+ghost use Rattle.writer.specs.Written.{part, held-words, main-words, words-of, writable as Writable, lent-after, count-after, copy-after, copy-count};
 
 // As many statements as a kept group has.
 const LARGEST_QUORUM: u32 = MOST_STATIONS / 2 + 1;
@@ -27,7 +28,7 @@ const HEAD: u32 = HEAD_MARK * MARK;
 // Copies n words, from a place on, to the front of the lent ones.
 fn copy_words(out: &mut [u32], ws: &[u32], at: usize, n: usize)
     requires { ⌜ (at + n ≤ length (now ws)) × (n ≤ length (now out)) ⌝ }
-    ensures { λ _. ⌜ now (out .exit) ≡ laid (part n at (now (ws .entry))) (now (out .entry)) ⌝ }
+    ensures { λ _. ⌜ now (out .exit) ≡ over (part n at (now (ws .entry))) (now (out .entry)) ⌝ }
 {
     let mut i: usize = 0;
     while i < n {
@@ -39,7 +40,7 @@ fn copy_words(out: &mut [u32], ws: &[u32], at: usize, n: usize)
 // Writes the slots of the stations in the set, by rising station, one behind the other.
 fn write_held(out: &mut [u32], slots: &[u32; SLOTS_WORDS], set: u32)
     requires { ⌜ slots-words ≤ length (now out) ⌝ }
-    ensures { λ _. ⌜ now (out .exit) ≡ laid (held-words set (now (slots .entry)) 0 sites) (now (out .entry)) ⌝ }
+    ensures { λ _. ⌜ now (out .exit) ≡ over (held-words set (now (slots .entry)) 0 sites) (now (out .entry)) ⌝ }
 {
     let mut at: usize = 0;
     let mut i: u32 = 0;
@@ -60,7 +61,7 @@ fn write_held(out: &mut [u32], slots: &[u32; SLOTS_WORDS], set: u32)
 // Writes the first k statements of a kept group at the front of the lent words.
 fn write_group(out: &mut [u32], group: &[u32; KEPT_WORDS], k: usize)
     requires { ⌜ (k ≤ quorum sites) × (k * statement-words ≤ length (now out)) ⌝ }
-    ensures { λ _. ⌜ now (out .exit) ≡ laid (part (k * statement-words) 0 (now (group .entry))) (now (out .entry)) ⌝ }
+    ensures { λ _. ⌜ now (out .exit) ≡ over (part (k * statement-words) 0 (now (group .entry))) (now (out .entry)) ⌝ }
 {
     copy_words(out, &group[..], 0, k * STATEMENT_WORDS);
 }
@@ -68,7 +69,7 @@ fn write_group(out: &mut [u32], group: &[u32; KEPT_WORDS], k: usize)
 // Writes the head word and the main statement at the front of the lent words.
 fn write_main(out: &mut [u32], count: u32, w0: u32, question: u32, code: &[u32; CODE_WORDS])
     requires { ⌜ (count ≤ most-statements) × (place-of 1 ≤ length (now out)) ⌝ }
-    ensures { λ _. ⌜ now (out .exit) ≡ laid (main-words count w0 question (now (code .entry))) (now (out .entry)) ⌝ }
+    ensures { λ _. ⌜ now (out .exit) ≡ over (main-words count w0 question (now (code .entry))) (now (out .entry)) ⌝ }
 {
     out[0] = HEAD + count;
     out[1] = w0;
@@ -99,7 +100,7 @@ fn write_parts(
     k: u32,
 ) -> usize
     requires { ⌜ (output-words ≤ length (now out)) × (set < 2 ^ sites) × (k ≤ quorum sites) × (count + k ≤ most-statements) × (count ≡ ones set) ⌝ }
-    ensures { λ r. ⌜ (r ≡ bundle-words (count + k)) × (now (out .exit) ≡ laid (words-of w0 question (now (code .entry)) (now (slots .entry)) set (now (group .entry)) k) (now (out .entry))) ⌝ }
+    ensures { λ r. ⌜ (r ≡ bundle-words (count + k)) × (now (out .exit) ≡ over (words-of w0 question (now (code .entry)) (now (slots .entry)) set (now (group .entry)) k) (now (out .entry))) ⌝ }
 {
     let at = CERTIFICATE_AT + (count as usize) * STATEMENT_WORDS;
     let n = k as usize;

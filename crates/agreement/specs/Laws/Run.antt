@@ -11,13 +11,15 @@ use Rattle.laws.specs.Pick.{pick}
 use Rattle.laws.specs.Bools.{never, both, join, left}
 use Rattle.laws.specs.All.{All}
 use Rattle.laws.specs.Count.{count}
+use Rattle.laws.specs.Over.{over}
 use Rattle.format.specs.Form.{Form, most-stations, last-round}
 use Rattle.format.specs.Numbers.{kind-INIT, kind-V, none, D-GET, kept, sent, sent-decided, closed-now, jumped, code-words}
 use Rattle.format.specs.Group.{quorum}
 use Rattle.format.specs.Statement.{Statement, statement, written, step}
-use Rattle.format.specs.Bundle.{main-of, certificate-of, all-written, bundle-of, over}
+use Rattle.format.specs.Lists.{some}
+use Rattle.format.specs.Bundle.{main-of, certificate-of, all-written, bundle-of}
 use Rattle.format.specs.Laws.Shape.{init}
-use Rattle.rules.specs.Rules.{rule-1, some}
+use Rattle.rules.specs.Rules.{rule-1}
 use Rattle.modules.specs.declared.Module.{Module}
 use Rattle.modules.specs.Counter.{above, advanced, last-for}
 use Rattle.station.specs.declared.Stage.the-variants.{Gathering}

@@ -16,7 +16,8 @@ use Rattle.format.specs.Form.{Form}
 use Rattle.format.specs.Numbers.{none, least-stations}
 use Rattle.format.specs.Group.{quorum}
 use Rattle.format.specs.Statement.{Statement, step}
-use Rattle.rules.specs.Rules.{some, Backed}
+use Rattle.format.specs.Lists.{some}
+use Rattle.rules.specs.Rules.{Backed}
 use Rattle.station.specs.declared.Stage.{Stage}
 use Rattle.station.specs.Machine.{stage-step, has-value, began, supplies-for-value, supplies-for-none}
 use Rattle.station.specs.Laws.Sane.{Sane}

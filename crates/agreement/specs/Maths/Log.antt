@@ -11,7 +11,7 @@ use Rattle.laws.specs.All.{All}
 use Rattle.laws.specs.Count.{count}
 use Rattle.format.specs.Words.{step-of}
 use Rattle.format.specs.Statement.{Statement, step}
-use Rattle.rules.specs.Rules.{some}
+use Rattle.format.specs.Lists.{some}
 
 abbrev pub In : Statement → List Statement → Type 0
 In s l = List·Memᴰ s l

@@ -6,6 +6,7 @@ use Prim.Native.Nat.{ℕ, zero, suc, _+_, _-_, _≤_, _<_}
 use native.Mathlib.Omega.{arith}
 use lib.Dec.{eqb, ltb}
 use borrow.Author.Tests.{eqb-true, eqb-false, ltb-true, ltb-false}
+use Rattle.laws.specs.Bools.{twice-not}
 use Rattle.laws.specs.Count.{count}
 use Rattle.format.specs.Numbers.{least-stations}
 use Rattle.format.specs.Group.{quorum, backing, most-faulty, quorums-meet, quorum-sound}
@@ -52,10 +53,6 @@ pub record SoundHas (sound : ℕ → Bool) (l : List Statement) (kd q r v : ℕ)
   pub at : ℕ
   pub ok : sound at ≡ true
   pub it : Has l kd q r v at
-
-twice-not : (b : Bool) → not (not b) ≡ true → b ≡ true
-twice-not true h = refl
-twice-not false h = h
 
 module _ (n : ℕ) (sound : ℕ → Bool) (l : List Statement) (few : count (λ i. not (sound i)) n ≤ most-faulty n) (big : least-stations ≤ n) (L : LogOk n sound l) where
   pub same : (kd q r v w : ℕ) → Supp n l kd q r v (quorum n) → Supp n l kd q r w (quorum n) → v ≡ w

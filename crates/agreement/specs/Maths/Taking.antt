@@ -16,10 +16,10 @@ use Rattle.format.specs.Form.{Form, last-round}
 use Rattle.format.specs.Numbers.{kind-INIT, kind-P, kind-V, none, D-GET, R-GET, least-stations}
 use Rattle.format.specs.Group.{quorum}
 use Rattle.format.specs.Statement.{Statement, step}
+use Rattle.format.specs.Lists.{every}
 use Rattle.format.specs.Laws.ReadBack.{Proper}
 use Rattle.rules.specs.Rules.{some-value, which, none-votes, Holds, Backed}
 use Rattle.rules.specs.declared.Which.the-variants.{Any, Only}
-use Rattle.certificate.specs.Check.{every}
 use Rattle.station.specs.declared.Stage.{Stage}
 use Rattle.station.specs.declared.Stage.the-variants.{Gathering, Proposing, Voting}
 use Rattle.station.specs.Machine.{State, stage-step, kind-in, round-in, has-value, decided, decision-at, closes, follows, Next, began, takes, supplies-for-value, supplies-for-none, vote-value, carried, keeping, held-of, conflict, value-group, with-decision}

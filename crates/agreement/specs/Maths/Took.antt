@@ -13,10 +13,9 @@ use Rattle.laws.specs.All.{All, all-map, all-two}
 use Rattle.laws.specs.Count.{count, one-if}
 use Rattle.format.specs.Numbers.{kind-V, none}
 use Rattle.format.specs.Statement.{Statement, step}
-use Rattle.rules.specs.Rules.{some}
+use Rattle.format.specs.Lists.{some, every, number-of}
 use Rattle.rules.specs.Rules as R
-use Rattle.certificate.specs.Check.{every}
-use Rattle.station.specs.Machine.{has-value, vote-value, decided, number-of}
+use Rattle.station.specs.Machine.{has-value, vote-value, decided}
 use Rattle.certificate.specs.Exact.{every-out}
 use Rattle.station.specs.Laws.Pieces.{Found, find-some}
 use Rattle.station.specs.Laws.Keep.{steps-V}

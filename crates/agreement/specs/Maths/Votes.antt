@@ -5,7 +5,7 @@ use mathlib.Core.List.{List}
 use lib.Dec.{eqb}
 use Rattle.format.specs.Numbers.{kind-V}
 use Rattle.format.specs.Statement.{Statement}
-use Rattle.rules.specs.Rules.{some}
+use Rattle.format.specs.Lists.{some}
 
 -- "kept q V for v of one round, its own counted": among what a station took, the stations 1 to n with such a vote
 abbrev pub is-vote : ℕ → ℕ → ℕ → ℕ → Statement → Bool

@@ -6,29 +6,29 @@ use Rattle.world.specs.Laws.Group.{part-fits, part-long, part-is}
 use Rattle.console.proofs.said.Statement.{statement}
 use Rattle.console.proofs.said.Tie as tie
 
-shorter-of-requires : tie.Need-shorter-of-requires
-shorter-of-requires c κs = search needs
+smaller-requires : tie.Need-smaller-requires
+smaller-requires c κs = search needs
 
 array-share-prefix-line : tie.Need-array-share-prefix-line
 array-share-prefix-line c = let a = c .before .args in
-    part-fits (a .t1) 23 (a .held) _ (search needs) (c .shorter-of .ensures)
+    part-fits (a .t1) 23 (a .held) _ (search needs) (c .smaller .ensures)
 
 slice-aggregate-read-line : tie.Need-slice-aggregate-read-line
 slice-aggregate-read-line c = let a = c .before .before .args in
-    part-long (a .t1) 23 (a .held) _ (search needs) (c .before .shorter-of .ensures)
+    part-long (a .t1) 23 (a .held) _ (search needs) (c .before .smaller .ensures)
 
 read-line-requires : tie.Need-read-line-requires
 read-line-requires c κs = search needs
 
 returns : tie.Need-returns
 returns c = let a = c .before .before .before .args in
-    c .read-line .ensures ∙ ap read-line (part-is (a .t1) 23 (a .held) _ (search needs) (c .before .before .shorter-of .ensures))
+    c .read-line .ensures ∙ ap read-line (part-is (a .t1) 23 (a .held) _ (search needs) (c .before .before .smaller .ensures))
 
 pub said-spec : {M : Type 1} → statement M
 said-spec =
     tie.close
     (tie.spec
-    shorter-of-requires
+    smaller-requires
     array-share-prefix-line
     slice-aggregate-read-line
     read-line-requires

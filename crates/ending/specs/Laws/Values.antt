@@ -7,10 +7,10 @@ use lib.Dec.{eqb, ltb, leb}
 use lib.ListN.{length}
 use Rattle.laws.specs.Pick.{pick}
 use Rattle.format.specs.Statement.{Statement}
+use Rattle.format.specs.Lists.{every, number-of}
 use Rattle.rules.specs.declared.Which.the-variants.{Any, Only}
 use Rattle.rules.specs.Rules.{some-value}
-use Rattle.certificate.specs.Check.{every}
-use Rattle.station.specs.Machine.{number-of, has-value, first-value}
+use Rattle.station.specs.Machine.{has-value, first-value}
 use Rattle.station.specs.Present.{sites, held-in}
 use Rattle.held.specs.Scan.{scan, such}
 use Rattle.held.specs.Laws.Held.{scan-low, scan-number, scan-some, scan-every, scan-value}

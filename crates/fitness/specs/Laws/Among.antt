@@ -12,8 +12,8 @@ use Rattle.laws.specs.Pick.{pick}
 use Rattle.laws.specs.Bools.{both}
 use Rattle.laws.specs.Sets.{bit}
 use Rattle.format.specs.Words.{fields-of, station-of}
+use Rattle.format.specs.Lists.{some}
 use Rattle.format.specs.Present.{most-stations, statement-words, formed, statement}
-use Rattle.rules.specs.Rules.{some}
 use Rattle.station.specs.Machine.{held-of}
 use Rattle.station.specs.Fit.{zeros}
 use Rattle.station.specs.Present.{sites, held-in, slot-fits, slots-fit}

@@ -15,9 +15,9 @@ use Rattle.format.specs.Numbers.{none, kind-P, kind-V, D-GET, R-GET}
 use Rattle.format.specs.Group.{quorum, backing}
 use Rattle.format.specs.declared.Fields.{Fields}
 use Rattle.format.specs.Statement.{Statement, step}
+use Rattle.format.specs.Lists.{every, those}
 use Rattle.rules.specs.Rules.{some-D-GET, has-second, d-get-group}
 use Rattle.rules.specs.Backed.{d-get-size, d-get-most, two-out, two-later}
-use Rattle.certificate.specs.Check.{every}
 use Rattle.modules.specs.declared.Module.{Module}
 use Rattle.modules.specs.Counter.{above, last-for, advanced}
 use Rattle.modules.specs.Present.{module-fits}
@@ -25,10 +25,9 @@ use Rattle.station.specs.declared.Groups.{Groups}
 use Rattle.station.specs.declared.Stage.{Stage}
 use Rattle.station.specs.declared.Stage.the-variants.{Gathering, Proposing, Voting}
 use Rattle.station.specs.declared.Station.{Station}
-use Rattle.station.specs.Machine.{State, Next, next, proposing, voting, began, has-value, those, first-value, vote-value, carried, follows, closes}
+use Rattle.station.specs.Machine.{State, Next, next, proposing, voting, began, has-value, first-value, vote-value, carried, follows, closes}
 use Rattle.station.specs.Calls.{Returned}
 use Rattle.station.specs.Words.{set-of}
-use Rattle.format.specs.Bundle.{over}
 use Rattle.station.specs.Present as W
 use Rattle.format.specs.Laws.ReadBack.{Proper}
 use Rattle.format.specs.Present.{bundle-words, last-round, most-statements, most-stations, output-words, bundle-of}
@@ -39,6 +38,7 @@ use Rattle.station.specs.Present.{sites, slots-of, group-words, held-in}
 use Rattle.station.specs.declared.Lasting.{Lasting}
 use Rattle.writer.specs.Laws.Bundle.{Certificate, all-held, some-held, kept-alone}
 use Rattle.laws.specs.Below.{Below}
+use Rattle.laws.specs.Over.{over}
 use Rattle.sending.specs.Sent.{sent-count, sent-lent, sent-bundle, sent-station, sent-after}
 use Rattle.sending.specs.Sends.{own-fields, own-statement, lent-is, count-is, station-is, after-is}
 use Rattle.ending.specs.declared.Kept.the-variants.{Nothing, Inits, ForValue, ForNone}

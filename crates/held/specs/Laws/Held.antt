@@ -17,12 +17,12 @@ use Rattle.format.specs.Numbers.{D-GET, R-GET}
 use Rattle.format.specs.declared.Fields.{Fields}
 use Rattle.format.specs.Words.{fields-of}
 use Rattle.format.specs.Statement.{Statement}
+use Rattle.format.specs.Lists.{some, every, number-of, those, leading}
 use Rattle.format.specs.Present.{statement-words, statement}
 use Rattle.rules.specs.declared.Which.{Which}
 use Rattle.rules.specs.declared.Which.the-variants.{Any, Only}
-use Rattle.rules.specs.Rules.{which, some}
-use Rattle.certificate.specs.Check.{every}
-use Rattle.station.specs.Machine.{number-of, has-value, those, leading}
+use Rattle.rules.specs.Rules.{which}
+use Rattle.station.specs.Machine.{has-value}
 use Rattle.station.specs.Laws.Pieces.{those-length}
 use Rattle.station.specs.Laws.FitSane.{held-count}
 use Rattle.station.specs.Present.{sites, held-in}

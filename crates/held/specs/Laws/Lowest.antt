@@ -17,10 +17,10 @@ use Rattle.laws.specs.All.{All, all-two}
 use Rattle.laws.specs.Sets.{bit}
 use Rattle.format.specs.Form.{present-form}
 use Rattle.format.specs.Statement.{Statement}
+use Rattle.format.specs.Lists.{those}
 use Rattle.format.specs.Laws.ReadBack.{Proper, statement-drop, statement-back}
 use Rattle.format.specs.Present.{most-stations, statement-words, statement, written}
 use Rattle.rules.specs.Rules.{Rising}
-use Rattle.station.specs.Machine.{those}
 use Rattle.station.specs.Words.{set-of}
 use Rattle.station.specs.Laws.Slots.{bit-set, slot-held, slot-at, held-back}
 use Rattle.station.specs.Laws.Sane.{find}

@@ -16,9 +16,9 @@ use Rattle.format.specs.Form.{present-form}
 use Rattle.format.specs.Numbers.{none}
 use Rattle.format.specs.Group.{quorum}
 use Rattle.format.specs.Statement.{Statement}
+use Rattle.format.specs.Lists.{every}
 use Rattle.format.specs.Present.{most-stations, statement-words, statement, statements, written, all-formed}
 use Rattle.rules.specs.declared.Group.{Group}
-use Rattle.certificate.specs.Check.{every}
 use Rattle.rules.specs.Rules.{Rising, holds}
 use Rattle.station.specs.declared.Station.{Station}
 use Rattle.station.specs.Machine.{stage-step, kept-for-value, kept-for-none}

@@ -16,11 +16,12 @@ use Rattle.format.specs.Form.{present-form}
 use Rattle.format.specs.Group.{quorum}
 use Rattle.format.specs.Words.{fields-of}
 use Rattle.format.specs.Statement.{Statement}
+use Rattle.format.specs.Lists.{some, those}
 use Rattle.format.specs.Laws.Parts.{parts-take, parts-length}
 use Rattle.format.specs.Present.{place-of, statement-words, formed, statements, written, all-formed, all-written}
 use Rattle.laws.specs.Least.{least, least-fits}
-use Rattle.rules.specs.Rules.{Rising, some}
-use Rattle.station.specs.Machine.{insert, held-of, those, takes}
+use Rattle.rules.specs.Rules.{Rising}
+use Rattle.station.specs.Machine.{insert, held-of, takes}
 use Rattle.station.specs.Words.{set-of}
 use Rattle.station.specs.Present.{slot-of, group-words, sites, slots-words}
 use Rattle.laws.specs.Below.{Below}

@@ -13,9 +13,9 @@ use Rattle.laws.specs.Pick.{pick}
 use Rattle.laws.specs.Bools.{both}
 use Rattle.laws.specs.Fill.{put}
 use Rattle.laws.specs.Least.{least, least-fits}
+use Rattle.format.specs.Lists.{some}
 use Rattle.format.specs.Present.{most-stations, place-of, statement-words}
 use Rattle.station.specs.Present.{kept-words, slots-words}
-use Rattle.rules.specs.Rules.{some}
 use Rattle.keeping.specs.Kept.{words-kept}
 
 -- a number that passed the test is a station's

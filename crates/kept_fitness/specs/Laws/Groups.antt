@@ -10,10 +10,10 @@ use Rattle.laws.specs.Pick.{pick}
 use Rattle.format.specs.declared.Fields.{Fields}
 use Rattle.format.specs.Words.{fields-of}
 use Rattle.format.specs.Statement.{Statement}
+use Rattle.format.specs.Lists.{every}
 use Rattle.format.specs.Present.{statement-words, formed, statements, all-formed}
 use Rattle.rules.specs.declared.Group.{Group}
 use Rattle.rules.specs.Rules.{wanted, in-order, holds}
-use Rattle.certificate.specs.Check.{every}
 use Rattle.kept_fitness.specs.Laws.Turns.{parts-start, order-turn, holds-start, every-turn, formed-start, formed-turn}
 
 module _ (ws : List ℕ) (size : ℕ) where

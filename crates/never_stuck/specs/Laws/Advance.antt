@@ -12,8 +12,8 @@ use Rattle.laws.specs.Count.{count, count-not, meet, Shared}
 use Rattle.format.specs.Form.{present-form}
 use Rattle.format.specs.Group.{quorum}
 use Rattle.format.specs.Statement.{Statement}
+use Rattle.format.specs.Lists.{every}
 use Rattle.format.specs.Present.{main-of}
-use Rattle.certificate.specs.Check.{every}
 use Rattle.modules.specs.declared.Module.{Module}
 use Rattle.modules.specs.Counter.{last-for}
 use Rattle.station.specs.declared.Stage.{Stage}

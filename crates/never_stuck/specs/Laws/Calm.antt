@@ -14,9 +14,9 @@ use Rattle.format.specs.Form.{present-form}
 use Rattle.format.specs.Numbers.{kind-P, none}
 use Rattle.format.specs.Group.{quorum, most-faulty}
 use Rattle.format.specs.Statement.{Statement, step}
+use Rattle.format.specs.Lists.{every}
 use Rattle.format.specs.Laws.Shape.{Shape, init, proposal, vote, formed-out}
 use Rattle.format.specs.Laws.ReadBack.{Proper}
-use Rattle.certificate.specs.Check.{every}
 use Rattle.certificate.specs.Exact.{every-in}
 use Rattle.station.specs.declared.Station.{Station}
 use Rattle.station.specs.Machine.{State, stage-step, has-value}

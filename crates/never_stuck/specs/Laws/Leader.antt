@@ -7,11 +7,10 @@ use native.Mathlib.Omega.{arith}
 use lib.Dec.{eqb, leb}
 use borrow.Author.Tests.{eqb-true, eqb-false, leb-true, leb-false}
 use Rattle.laws.specs.Bools.{never}
-use Rattle.laws.specs.Count.{meet}
+use Rattle.laws.specs.Count.{meet, every-one}
 use Rattle.format.specs.Form.{present-form}
 use Rattle.station.specs.Machine.{stage-step}
 use Rattle.agreement.specs.Laws.Ground.{Ground}
-use Rattle.agreement.specs.Theorem.{every-one}
 use Rattle.agreement.specs.Demand.{Call}
 use Rattle.never_stuck.specs.Claim.{Quorate, Ready}
 

@@ -14,8 +14,8 @@ use Rattle.format.specs.Form.{present-form}
 use Rattle.format.specs.Numbers.{none}
 use Rattle.format.specs.Group.{quorum}
 use Rattle.format.specs.Statement.{Statement}
+use Rattle.format.specs.Lists.{every}
 use Rattle.format.specs.Present.{last-round, main-of}
-use Rattle.certificate.specs.Check.{every}
 use Rattle.station.specs.declared.Stage.{Stage}
 use Rattle.station.specs.declared.Station.{Station}
 use Rattle.station.specs.Machine.{State, follows, closes, decision-at, stage-step, copied-value}

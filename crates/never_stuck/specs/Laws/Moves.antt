@@ -13,8 +13,8 @@ use Rattle.format.specs.Form.{present-form}
 use Rattle.format.specs.Numbers.{kept, closed-now, jumped}
 use Rattle.format.specs.Group.{quorum}
 use Rattle.format.specs.Statement.{Statement, step}
+use Rattle.format.specs.Lists.{every}
 use Rattle.format.specs.Present.{last-round, statement-code, main-of, certificate-of}
-use Rattle.certificate.specs.Check.{every}
 use Rattle.modules.specs.declared.Module.{Module}
 use Rattle.modules.specs.Counter.{last-for}
 use Rattle.station.specs.declared.Stage.{Stage}

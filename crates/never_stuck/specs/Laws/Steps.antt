@@ -14,9 +14,9 @@ use Rattle.format.specs.Form.{present-form}
 use Rattle.format.specs.Numbers.{kind-INIT, kind-P, kind-V, none, D-GET, R-GET}
 use Rattle.format.specs.Words.{step-of}
 use Rattle.format.specs.Statement.{Statement}
+use Rattle.format.specs.Lists.{every}
 use Rattle.format.specs.Present.{last-round}
 use Rattle.rules.specs.Rules.{some-value}
-use Rattle.certificate.specs.Check.{every}
 use Rattle.certificate.specs.Exact.{every-out}
 use Rattle.station.specs.declared.Stage.{Stage}
 use Rattle.station.specs.declared.Stage.the-variants.{Gathering, Proposing, Voting}

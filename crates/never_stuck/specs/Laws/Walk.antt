@@ -13,11 +13,11 @@ use Rattle.laws.specs.Bools.{both}
 use Rattle.laws.specs.All.{All, all-map}
 use Rattle.format.specs.Form.{present-form}
 use Rattle.format.specs.Statement.{Statement, step}
+use Rattle.format.specs.Lists.{every}
 use Rattle.format.specs.Bundle.{count-in}
 use Rattle.format.specs.Laws.ReadBack.{Proper}
 use Rattle.format.specs.Present.{most-statements, place-of, statements, main-of, bundle-of}
 use Rattle.rules.specs.declared.Which.the-variants.{Any}
-use Rattle.certificate.specs.Check.{every}
 use Rattle.certificate.specs.Exact.{found-valid}
 use Rattle.certificate.specs.Present.{check-by}
 use Rattle.modules.specs.declared.Last.{Last}

@@ -19,17 +19,17 @@ use Rattle.format.specs.Numbers.{none, code-words}
 use Rattle.format.specs.Group.{quorum}
 use Rattle.format.specs.Words.{flag-of, station-of}
 use Rattle.format.specs.Statement.{Statement, statement, statements, well-formed, step, formed}
+use Rattle.format.specs.Lists.{some, every, leading}
 use Rattle.format.specs.Bundle.{all-formed}
 use Rattle.format.specs.Laws.Layout.{formed-well, all-well}
 use Rattle.rules.specs.declared.Group.{Group}
-use Rattle.rules.specs.Rules.{Rising, holds, some, none-votes}
+use Rattle.rules.specs.Rules.{Rising, holds, none-votes}
 use Rattle.rules.specs.Backed.{holds-out, d-get-most}
-use Rattle.certificate.specs.Check.{every}
 use Rattle.certificate.specs.Exact.{every-out}
 use Rattle.station.specs.declared.Stage.{Stage}
 use Rattle.station.specs.declared.Stage.the-variants.{Gathering, Proposing, Voting}
 use Rattle.station.specs.declared.Station.{Station}
-use Rattle.station.specs.Machine.{stage-step, held-of, supplies-for-value, supplies-for-none, round-in, kept-for-value, kept-for-none, value-group, leading, no-group}
+use Rattle.station.specs.Machine.{stage-step, held-of, supplies-for-value, supplies-for-none, round-in, kept-for-value, kept-for-none, value-group, no-group}
 use Rattle.station.specs.Words.{held-in, sites, held-by, state-of, Lengths, kept-words}
 use Rattle.station.specs.Fit.{zeros, slot-fits, slots-fit, stage-fits, group-fits, held-fits, rest-fits, fits}
 use Rattle.format.specs.Laws.ReadBack.{Proper}

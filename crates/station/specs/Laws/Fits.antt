@@ -15,17 +15,18 @@ use Rattle.format.specs.Numbers.{kind-INIT, kind-P, none, D-GET, R-GET, code-wo
 use Rattle.format.specs.Group.{quorum}
 use Rattle.format.specs.Words.{step-of}
 use Rattle.format.specs.Statement.{Statement, step, statement-code}
+use Rattle.format.specs.Lists.{some, leading}
 use Rattle.format.specs.Bundle.{main-of, certificate-of}
 use Rattle.format.specs.Laws.Shape.{Shape, init, proposal, vote, formed-in, formed-out}
 use Rattle.rules.specs.declared.Group.{Group}
-use Rattle.rules.specs.Rules.{Holds, some, none-votes, Backed}
+use Rattle.rules.specs.Rules.{Holds, none-votes, Backed}
 use Rattle.rules.specs.Copied.{backed-copied}
 use Rattle.modules.specs.declared.Module.{Module}
 use Rattle.modules.specs.Counter.{last-for}
 use Rattle.station.specs.declared.Stage.{Stage}
 use Rattle.station.specs.declared.Stage.the-variants.{Gathering, Proposing, Voting}
 use Rattle.station.specs.declared.Station.{Station}
-use Rattle.station.specs.Machine.{State, Outcome, own, began, shut, round-in, stage-step, stage-of, copied-value, supplies-for-value, supplies-for-none, closes, decision-at, decided, vote-value, follows, after-votes, carried, has-value, kept-for-value, kept-for-none, value-group, leading, no-group, undecided}
+use Rattle.station.specs.Machine.{State, Outcome, own, began, shut, round-in, stage-step, stage-of, copied-value, supplies-for-value, supplies-for-none, closes, decision-at, decided, vote-value, follows, after-votes, carried, has-value, kept-for-value, kept-for-none, value-group, no-group, undecided}
 use Rattle.station.specs.Words as W
 use Rattle.station.specs.Words.{state-of, Lengths}
 use Rattle.station.specs.Fit.{fits}
@@ -42,7 +43,7 @@ use Rattle.station.specs.declared.Lasting.{Lasting}
 -- ---- decisions are 0, 1 or none
 vote-low : (h : List Statement) → vote-value h ≤ none
 unfolding vote-value pick
-vote-low h = go (Rattle.certificate.specs.Check.every (has-value 0) h) (Rattle.certificate.specs.Check.every (has-value 1) h)
+vote-low h = go (Rattle.format.specs.Lists.every (has-value 0) h) (Rattle.format.specs.Lists.every (has-value 1) h)
   where
     go : (x y : Bool) → pick x 0 (pick y 1 none) ≤ none
     go true y = omega arith

@@ -11,12 +11,12 @@ use Rattle.laws.specs.Pick.{pick}
 use Rattle.laws.specs.Bools.{never}
 use Rattle.laws.specs.All.{All}
 use Rattle.format.specs.Statement.{Statement}
-use Rattle.rules.specs.Rules.{Rising, some}
-use Rattle.certificate.specs.Check.{every}
+use Rattle.rules.specs.Rules.{Rising}
 use Rattle.format.specs.Numbers.{D-GET}
+use Rattle.format.specs.Lists.{some, every, leading}
 use Rattle.station.specs.declared.Stage.{Stage}
 use Rattle.station.specs.declared.Stage.the-variants.{Gathering, Proposing, Voting}
-use Rattle.station.specs.Machine.{insert, held-of, has-value, conflict, leading}
+use Rattle.station.specs.Machine.{insert, held-of, has-value, conflict}
 
 pub insert-all : (P : Statement → Type 0) (m : Statement) (h : List Statement) → P m → All P h → All P (insert m h)
 unfolding insert pick

@@ -17,14 +17,15 @@ use Rattle.format.specs.Numbers.{kind-INIT, kind-P, kind-V, none, D-GET, R-GET}
 use Rattle.format.specs.Group.{quorum, backing-most}
 use Rattle.format.specs.Words.{step-of}
 use Rattle.format.specs.Statement.{Statement, step}
+use Rattle.format.specs.Lists.{some, leading}
 use Rattle.format.specs.Laws.Shape.{Shape, init, proposal, vote, formed-out}
 use Rattle.rules.specs.declared.Group.{Group}
 use Rattle.rules.specs.declared.Which.the-variants.{Any, Only}
 use Rattle.rules.specs.Backed.{d-get-first, d-get-later}
-use Rattle.rules.specs.Rules.{Rising, Holds, some, inits, proposals, none-votes, d-get-group, Backed, rule-1, rule-2, rule-3, rule-4, rule-5, rule-6, rule-7}
+use Rattle.rules.specs.Rules.{Rising, Holds, inits, proposals, none-votes, d-get-group, Backed, rule-1, rule-2, rule-3, rule-4, rule-5, rule-6, rule-7}
 use Rattle.station.specs.declared.Stage.{Stage}
 use Rattle.station.specs.declared.Stage.the-variants.{Gathering, Proposing, Voting}
-use Rattle.station.specs.Machine.{State, kind-in, round-in, stage-step, stage-of, proposing, voting, held-of, supplies-for-value, supplies-for-none, takes, insert, keeping, kept-for-value, kept-for-none, value-group, leading, no-group}
+use Rattle.station.specs.Machine.{State, kind-in, round-in, stage-step, stage-of, proposing, voting, held-of, supplies-for-value, supplies-for-none, takes, insert, keeping, kept-for-value, kept-for-none, value-group, no-group}
 use Rattle.format.specs.Laws.ReadBack.{Proper}
 use Rattle.station.specs.Laws.Insert.{insert-all, insert-rising, some-insert, leading-new, leading-other, leading-old, lower-some}
 use Rattle.station.specs.Laws.Sane.{Kept, InRounds, FlagOf, Sane}

@@ -12,10 +12,10 @@ use Rattle.laws.specs.Bools.{never, join, left, right}
 use Rattle.laws.specs.All.{All}
 use Rattle.format.specs.Numbers.{none}
 use Rattle.format.specs.Statement.{Statement}
+use Rattle.format.specs.Lists.{some, every, number-of, those, leading}
 use Rattle.rules.specs.declared.Which.{Which}
-use Rattle.rules.specs.Rules.{which, wanted, matches, Rising, some}
-use Rattle.certificate.specs.Check.{every}
-use Rattle.station.specs.Machine.{number-of, has-value, those, leading}
+use Rattle.rules.specs.Rules.{which, wanted, matches, Rising}
+use Rattle.station.specs.Machine.{has-value}
 use Rattle.station.specs.Laws.Slots.{rising-from}
 
 -- ---- a statement that a group asks for

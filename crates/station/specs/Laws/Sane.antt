@@ -19,12 +19,12 @@ use Rattle.format.specs.Numbers.{none}
 use Rattle.format.specs.Group.{quorum}
 use Rattle.format.specs.Words.{flag-of, step-of}
 use Rattle.format.specs.Statement.{Statement, statement, statements, word-0, written, step, formed}
+use Rattle.format.specs.Lists.{some, every}
 use Rattle.format.specs.Bundle.{all-formed, all-written}
 use Rattle.format.specs.Laws.Shape.{formed-out}
 use Rattle.rules.specs.declared.Group.{Group}
-use Rattle.rules.specs.Rules.{Rising, Holds, holds, some}
+use Rattle.rules.specs.Rules.{Rising, Holds, holds}
 use Rattle.rules.specs.Backed.{holds-in}
-use Rattle.certificate.specs.Check.{every}
 use Rattle.certificate.specs.Exact.{every-in}
 use Rattle.station.specs.declared.Stage.{Stage}
 use Rattle.station.specs.declared.Stage.the-variants.{Gathering, Proposing, Voting}

@@ -16,8 +16,9 @@ use Rattle.laws.specs.All.{All, all-map, all-two}
 use Rattle.laws.specs.Sets.{bit, set-same, set-other, ones-bit-set, bit-fits}
 use Rattle.format.specs.Form.{Form, most-stations, statement-words}
 use Rattle.format.specs.Statement.{Statement, statement, written}
+use Rattle.format.specs.Lists.{some}
 use Rattle.format.specs.Laws.Shape.{formed-out}
-use Rattle.rules.specs.Rules.{Rising, some}
+use Rattle.rules.specs.Rules.{Rising}
 use Rattle.station.specs.Machine.{held-of}
 use Rattle.station.specs.Words.{held-in, set-of, slot-of, slots-of, sites}
 use Rattle.format.specs.Laws.ReadBack.{Proper, statement-drop, statement-back, length-written}

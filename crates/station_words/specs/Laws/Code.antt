@@ -10,12 +10,12 @@ use lib.Seq.{length-take-le}
 use borrow.Author.Tests.{eqb-true, eq-eqb, ne-eqb, le-leb, leb-true, not-true, not-false}
 use Rattle.laws.specs.Pick.{pick, here, skip}
 use Rattle.laws.specs.Bools.{both}
+use Rattle.laws.specs.Over.{over}
 use Rattle.format.specs.Numbers.{malformed}
 use Rattle.station.specs.declared.Stage.{Stage}
 use Rattle.station.specs.declared.Stage.the-variants.{Gathering, Proposing, Voting}
 use Rattle.station.specs.declared.Station.{Station}
 use Rattle.station.specs.Present.{no-station}
-use Rattle.format.specs.Bundle.{over}
 use Rattle.station_words.specs.Words.{station-words, slots-at, stage-at, closed-at, jump-at, stage-words, truth-word, settings-of, sets-of, statements-of, words-of, is-stage, is-station, part, station-in, flag-fits, refusal, reading, writing, Writing, Wrote}
 use Rattle.station_words.specs.Laws.Put.{put-at, put-whole}
 use Rattle.station_words.specs.Laws.Back.{head-length}

@@ -1,13 +1,12 @@
 -- Words put into a list from a place on: turn by turn, at the front, behind what is at the front, over the whole.
 use Prim.Native.Nat.{ℕ, _+_, _≤_, _<_}
 use mathlib.Core.List.{List, _++_, append-nil}
-use mathlib.Core.Path.{_≡_, sym, ap, _∙_}
-use native.Mathlib.Nat.{zero-add}
+use mathlib.Core.Path.{_≡_, ap, _∙_}
 use native.Mathlib.Numerals.{add-one}
 use native.Mathlib.Omega.{arith}
-use lib.ListN.{length, drop, getD, set, length-append}
-use lib.Seq.{paste, paste-zero, paste-suc, take-length, take-at, drop-at, drop-drop, drop-length}
-use Rattle.format.specs.Bundle.{over}
+use lib.ListN.{length, getD, set, length-append}
+use lib.Seq.{paste, paste-zero, paste-suc, drop-length}
+use Rattle.laws.specs.Over.{over, paste-front, paste-behind}
 use Rattle.station_words.specs.Words.{slots-at, value-at, none-at, jump-at}
 use Rattle.station.specs.Present.{slots-words, kept-words}
 
@@ -34,16 +33,11 @@ put-end out at ws xs i xs-is e = xs-is ∙ rw e
 -- ---- where it is put
 pub put-first : (ws out : List ℕ) → put-at out 0 ws ≡ over ws out
 unfolding put-at
-put-first ws out = rw (take-length ws, zero-add (length ws))
+put-first ws out = paste-front ws out
 
 pub put-behind : (p ws out : List ℕ) (at : ℕ) → length p ≡ at → put-at (over p out) at ws ≡ over (p ++ ws) out
 unfolding put-at
-put-behind p ws out at e =
-    let d : drop (at + length ws) (p ++ drop (length p) out) ≡ drop (length p + length ws) out
-    = sym (drop-drop (length ws) at (p ++ drop (length p) out))
-    ∙ ap (drop (length ws)) (drop-at p (drop (length p) out) at e)
-    ∙ drop-drop (length ws) (length p) out in
-    rw (take-at p (drop (length p) out) at e, take-length ws, d, length-append p ws)
+put-behind p ws out at e = paste-behind p ws out at e
 
 pub put-whole : (ws out : List ℕ) → length ws ≡ length out → put-at out 0 ws ≡ ws
 put-whole ws out e = put-first ws out ∙ rw (e, drop-length out) (append-nil ws)

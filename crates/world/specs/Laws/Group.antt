@@ -7,8 +7,9 @@ use native.Mathlib.Omega.{arith}
 use lib.Dec.{ltb}
 use lib.ListN.{length, take, replicate}
 use lib.Seq.{take-all, length-take-le}
-use borrow.Author.Tests.{ltb-true, ltb-false, not-true, not-false}
+use borrow.Author.Tests.{ltb-false, not-true, not-false}
 use Rattle.laws.specs.Pick.{pick}
+use Rattle.laws.specs.Least.{least, least-fits}
 use Rattle.format.specs.Numbers.{none}
 use Rattle.hmac.specs.Code.{hmac-code}
 use Rattle.modules.specs.declared.Module.{Module}
@@ -21,7 +22,6 @@ use Rattle.station.specs.Present.{no-station, opening, giving}
 use Rattle.world.specs.declared.Bundle.{Bundle}
 use Rattle.world.specs.declared.World.{World}
 use Rattle.world.specs.Valley.{most-n, most-bundles, no-bundle, group-of, at-number, module-at, station-at, bundle-at, the-question, jump-off, the-output, opens, after, shown-step, shown-decision, is-open, gives}
-use Rattle.world.specs.Group.{shorter}
 
 pub answered : (x : Returned) (number count : ℕ) (t : Station) (m : Module) (lent : List ℕ) → Answers x number count t m lent
     → _≡_ {A = Returned} (record { number = number; count = count; station = t; after = m; lent = lent }) x
@@ -49,17 +49,9 @@ group-is n modules t b m-is t-is b-is =
     λ i. record { modules = m-is i; stations = replicate 7 (t-is i); written = 0; bundles = replicate 40 (b-is i) }
 
 -- ---- the smaller of a count and a length
-shorter-le : (count n : ℕ) → shorter count n ≤ n
-unfolding shorter pick
-shorter-le count n = go (ltb count n) refl
-  where
-    go : (t : Bool) → ltb count n ≡ t → pick t count n ≤ n
-    go true e = omega (arith, ltb-true count n e)
-    go false e = omega arith
-
-take-shorter : {A : Type 0} (count n : ℕ) (l : List A) → length l ≡ n → take (shorter count n) l ≡ take count l
-unfolding shorter pick
-take-shorter count n l long = go (ltb count n) refl
+take-least : {A : Type 0} (count n : ℕ) (l : List A) → length l ≡ n → take (least count n) l ≡ take count l
+unfolding least pick
+take-least count n l long = go (ltb count n) refl
   where
     go : (t : Bool) → ltb count n ≡ t → take (pick t count n) l ≡ take count l
     go true e = refl
@@ -69,18 +61,18 @@ take-shorter count n l long = go (ltb count n) refl
         take-all n l a ∙ sym (take-all count l b)
 
 -- the part of an array that counts
-module _ (l : List ℕ) (n count k : ℕ) (long : length l ≡ n) (k-is : k ≡ shorter count n) where
+module _ (l : List ℕ) (n count k : ℕ) (long : length l ≡ n) (k-is : k ≡ least count n) where
   pub part-fits : k ≤ length l
-  part-fits = omega (arith, shorter-le count n)
+  part-fits = omega (arith, least-fits count n)
 
   pub part-long : k ≡ length (take k l)
   part-long = sym (length-take-le k l part-fits)
 
   pub part-is : take k l ≡ take count l
-  part-is = ap (λ (x : ℕ). take x l) k-is ∙ take-shorter count n l long
+  part-is = ap (λ (x : ℕ). take x l) k-is ∙ take-least count n l long
 
 pub gives-words : (m : Module) (t : Station) (given : List ℕ) (n count k coin : ℕ) (number many : ℕ) (u : Station) (m2 : Module) (lent : List ℕ)
-    → length given ≡ n → k ≡ shorter count n → Answers (giving hmac-code m t (take k given) coin the-output) number many u m2 lent
+    → length given ≡ n → k ≡ least count n → Answers (giving hmac-code m t (take k given) coin the-output) number many u m2 lent
     → _≡_ {A = Returned} (record { number = number; count = many; station = u; after = m2; lent = lent })
     (giving hmac-code m t (take count given) coin the-output)
 gives-words m t given n count k coin number many u m2 lent long k-is h =

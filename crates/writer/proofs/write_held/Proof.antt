@@ -8,15 +8,16 @@ use mathlib.Core.Bool.{true, false}
 use mathlib.Core.Logic.{⊎-elim}
 use Rattle.laws.specs.Pick.{via}
 use Rattle.laws.specs.Sets.{bit}
-use Rattle.writer.specs.Written.{laid, part, held-words}
-use Rattle.writer.specs.Laws.Writing.{held-begin, held-in-turn, held-out-turn, held-longer, length-laid, put-behind}
+use Rattle.laws.specs.Over.{over, length-over, put-behind}
+use Rattle.writer.specs.Written.{part, held-words}
+use Rattle.writer.specs.Laws.Writing.{held-begin, held-in-turn, held-out-turn, held-longer}
 use borrow.Author.Needs.{needs}
 use Rattle.writer.proofs.write_held.Statement.{statement}
 use Rattle.writer.proofs.write_held.Tie as tie
 
 abbrev Inv-loop : tie.InvT-loop
 Inv-loop out₀ slots set at₀ i₀ out at i =
-    (i ≤ 31) × (at ≤ i * 10) × (at ≡ length (held-words set slots 0 i)) × (length out ≡ length out₀) × (out ≡ laid (held-words set slots 0 i) out₀)
+    (i ≤ 31) × (at ≤ i * 10) × (at ≡ length (held-words set slots 0 i)) × (length out ≡ length out₀) × (out ≡ over (held-words set slots 0 i) out₀)
 
 abbrev μ-loop : tie.MeasureT-loop
 μ-loop out₀ slots set at₀ i₀ out at i = 31 - i
@@ -71,12 +72,12 @@ loop-again c =
     let h : held-words (a .set) l 0 (v .i + 1) ≡ held-words (a .set) l 0 (v .i) ++ part 10 (v .i * 10) l = held-in-turn (a .set) l (v .i) e in
     let n : v .at + 10 ≡ length (held-words (a .set) l 0 (v .i + 1)) = held-longer (a .set) l (v .i) (v .at) e (v .inv .2) in
     let room : length (held-words (a .set) l 0 (v .i + 1)) ≤ length (a .out .now) = omega (arith, n) in
-    let o : c .if1 .out ≡ laid (held-words (a .set) l 0 (v .i + 1)) (a .out .now) =
+    let o : c .if1 .out ≡ over (held-words (a .set) l 0 (v .i + 1)) (a .out .now) =
     w .6
     ∙ put-behind (held-words (a .set) l 0 (v .i)) (part 10 (v .i * 10) l) (a .out .now) (v .out) (w .3 .last .0) (v .at) (length (v .out) - v .at)
-    (v .inv .4) (sym (v .inv .2)) (omega arith) refl (w .3 .ensures)
-    ∙ ap (λ (x : List ℕ). laid x (a .out .now)) (sym h) in
-    (omega arith, omega arith, w .7 ∙ n, ap length o ∙ length-laid (held-words (a .set) l 0 (v .i + 1)) (a .out .now) room, o))
+    (v .inv .4) (sym (v .inv .2)) refl (w .3 .ensures)
+    ∙ ap (λ (x : List ℕ). over x (a .out .now)) (sym h) in
+    (omega arith, omega arith, w .7 ∙ n, ap length o ∙ length-over (held-words (a .set) l 0 (v .i + 1)) (a .out .now) room, o))
     (λ w.
     let e : bit (a .set) (v .i) ≡ false = via (c .before .in-set .result) _ false (c .before .in-set .ensures) (w .0 .left) in
     let h : held-words (a .set) l 0 (v .i + 1) ≡ held-words (a .set) l 0 (v .i) = held-out-turn (a .set) l (v .i) e in

@@ -4,8 +4,9 @@ use mathlib.Core.Path.{_≡_, refl, ap, _∙_}
 use native.Mathlib.Omega.{arith}
 use lib.ListN.{length, set, length-set, length-take, length-drop}
 use borrow.Rule.Slice.PartMut.{putMid}
-use Rattle.writer.specs.Written.{laid, main-words}
-use Rattle.writer.specs.Laws.Writing.{main-done, length-main, length-laid}
+use Rattle.laws.specs.Over.{over, length-over}
+use Rattle.writer.specs.Written.{main-words}
+use Rattle.writer.specs.Laws.Writing.{main-done, length-main}
 use borrow.Author.Needs.{needs}
 use Rattle.writer.proofs.write_main.Statement.{statement}
 use Rattle.writer.proofs.write_main.Tie as tie
@@ -14,7 +15,7 @@ use Rattle.writer.proofs.write_main.Tie as tie
 done : (d : tie.After-copy-words) →
     let a = d .before .before .before .before .args in
     let xs = set (set (set (a .out .now) 0 (3 * 2 ^ 30 + a .count)) 1 (a .w0)) 2 (a .question) in
-    putMid 3 (length xs - 3) xs (d .copy-words .last .0) ≡ laid (main-words (a .count) (a .w0) (a .question) (a .code .now)) (a .out .now)
+    putMid 3 (length xs - 3) xs (d .copy-words .last .0) ≡ over (main-words (a .count) (a .w0) (a .question) (a .code .now)) (a .out .now)
 done d =
     let a = d .before .before .before .before .args in
     main-done (a .count) (a .w0) (a .question) (a .code .now) (a .out .now) (d .copy-words .last .0) _ (search needs) refl (d .copy-words .ensures)
@@ -46,7 +47,7 @@ copy-words-requires c κs = simp (length-take, length-drop, length-set) (omega a
 same-length : tie.Need-same-length
 same-length c =
     let a = c .before .before .before .before .before .before .args in
-    ap length (done (c .before .before)) ∙ length-laid (main-words (a .count) (a .w0) (a .question) (a .code .now)) (a .out .now)
+    ap length (done (c .before .before)) ∙ length-over (main-words (a .count) (a .w0) (a .question) (a .code .now)) (a .out .now)
     (omega (arith, length-main (a .count) (a .w0) (a .question) (a .code .now)))
 
 returns : tie.Need-returns

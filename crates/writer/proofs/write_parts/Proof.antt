@@ -5,7 +5,8 @@ use mathlib.Core.List.{_++_}
 use native.Mathlib.Omega.{arith}
 use lib.Count.{ones}
 use lib.ListN.{length}
-use Rattle.writer.specs.Written.{laid, part, held-words, main-words, words-of}
+use Rattle.laws.specs.Over.{over}
+use Rattle.writer.specs.Written.{part, held-words, main-words, words-of}
 use Rattle.writer.specs.Laws.Writing.{parts-done, length-main, held-length}
 use borrow.Author.Needs.{needs}
 use Rattle.writer.proofs.write_parts.Statement.{statement}
@@ -75,7 +76,7 @@ returns c =
       parts-done p h g (a .out .now) (m .write-main .last .0) (e .write-held .last .0) (d .write-group .last .0) (11 + a .count * 10) _ _
           (m .write-main .ensures) (length-main (a .count + a .k) (a .w0) (a .question) (a .code .now)) (omega arith) (omega arith) refl (e .write-held .ensures) refl
           (d .write-group .ensures)
-          ∙ ap (λ (y : ℕ). laid (main-words (y + a .k) (a .w0) (a .question) (a .code .now) ++ h ++ g) (a .out .now)) n,
+          ∙ ap (λ (y : ℕ). over (main-words (y + a .k) (a .w0) (a .question) (a .code .now) ++ h ++ g) (a .out .now)) n,
     )
 
 pub write-parts-spec : {M : Type 1} → statement M

@@ -13,15 +13,16 @@ use Rattle.laws.specs.Pick.{pick, here}
 use Rattle.laws.specs.Bools.{join}
 use Rattle.laws.specs.All.{All, all-map, all-two}
 use Rattle.laws.specs.Sets.{bit}
+use Rattle.laws.specs.Over.{over}
 use Rattle.format.specs.Form.{present-form}
 use Rattle.format.specs.Group.{quorum}
 use Rattle.format.specs.Numbers.{code-words}
 use Rattle.format.specs.Statement.{Statement}
+use Rattle.format.specs.Lists.{some, those}
 use Rattle.format.specs.Laws.Shape.{formed-out}
-use Rattle.rules.specs.Rules.{Rising, some}
-use Rattle.station.specs.Machine.{held-of, those}
+use Rattle.rules.specs.Rules.{Rising}
+use Rattle.station.specs.Machine.{held-of}
 use Rattle.station.specs.Words.{set-of}
-use Rattle.format.specs.Bundle.{over}
 use Rattle.station.specs.Laws.ReadBack.{length-all}
 use Rattle.format.specs.Laws.ReadBack.{Proper, length-written}
 use Rattle.format.specs.Present.{bundle-words, most-statements, most-stations, output-words, statement-words, word-0, written, all-written, bundle-of}

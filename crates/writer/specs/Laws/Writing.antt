@@ -5,9 +5,9 @@ use mathlib.Core.Bool.{Bool, true, false, not, _&&_}
 use mathlib.Core.List.{List, [], _∷_, _++_, append-assoc, append-nil}
 use lib.Count.{ones, ones-cat, ones-ones}
 use lib.Dec.{ltb, leb}
-use lib.ListN.{length, take, drop, set, getD, length-append, length-drop, length-set, drop-of-length-le}
+use lib.ListN.{length, take, drop, set, getD, length-append, length-set}
 use lib.Pow.{pow-pos, mod-pow-add}
-use lib.Seq.{drop-drop, drop-cons, set-at, append-snoc, take-at, drop-at, take-all, take-length, take-suc}
+use lib.Seq.{take-length, take-suc}
 use borrow.Rule.Slice.PartMut.{putMid}
 use borrow.Author.Tests.{eqb-true, eqb-false, ltb-true, leb-true}
 use native.Mathlib.Nat.{mod-lt, mod-eq-of-lt, add-zero, zero-add}
@@ -16,45 +16,13 @@ use native.Mathlib.Omega.{arith}
 use Rattle.laws.specs.Pick.{pick, here, skip}
 use Rattle.laws.specs.Bools.{both, never}
 use Rattle.laws.specs.Sets.{bit}
+use Rattle.laws.specs.Over.{over, over-snoc, put-behind}
 use Rattle.format.specs.Group.{quorum}
 use Rattle.format.specs.Bundle.{head-mark, mark-bit}
 use Rattle.format.specs.Numbers.{code-words}
 use Rattle.format.specs.Present.{bundle-words, most-statements, output-words, place-of, statement-words}
 use Rattle.station.specs.Present.{sites}
-use Rattle.writer.specs.Written.{laid, part, held-words, main-words, words-of, writable, lent-after, count-after, with-word, copyable, copy-after, copy-count}
-
--- ---- words over the front
-pub laid-none : (out : List ℕ) → out ≡ laid [] out
-unfolding laid
-laid-none out = refl
-
--- a store at the end of what is written
-pub laid-snoc : (p : List ℕ) (w : ℕ) (out : List ℕ) (i : ℕ) → length p ≡ i → i < length out → set (laid p out) i w ≡ laid (p ++ (w ∷ [])) out
-unfolding laid
-laid-snoc p w out i e h =
-    let d : drop (length p) out ≡ getD out i 0 ∷ drop (suc i) out = ap (λ (k : ℕ). drop k out) e ∙ drop-cons out i 0 h in
-    let l : length (p ++ (w ∷ [])) ≡ suc i = length-append p (w ∷ []) ∙ add-one (length p) ∙ ap suc e in
-    rw (d, l, set-at p (getD out i 0) (drop (suc i) out) w i e) (sym (append-snoc p w (drop (suc i) out)))
-
-pub length-laid : (ws out : List ℕ) → length ws ≤ length out → length (laid ws out) ≡ length out
-unfolding laid
-length-laid ws out h = simp (length-append, length-drop) (omega arith)
-
--- a part from `at` on, written and put back, behind words that end at `at`
-laid-behind : (p ws out : List ℕ) (at : ℕ) → length p ≡ at → at ≤ length out → take at (laid p out) ++ laid ws (drop at (laid p out)) ≡ laid (p ++ ws) out
-unfolding laid
-laid-behind p ws out at e h =
-    rw (take-at p (drop (length p) out) at e, drop-at p (drop (length p) out) at e, drop-drop, length-append)
-    (sym (append-assoc p ws (drop (length p + length ws) out)))
-
--- what a part `&mut xs[at..]` that was lent leaves in the whole, where the callee wrote ws over its front
-pub put-behind : (p ws out xs ys : List ℕ) (at k : ℕ) → xs ≡ laid p out → length p ≡ at → at ≤ length out → k ≡ length xs - at
-    → ys ≡ laid ws (take k (drop at xs)) → putMid at k xs ys ≡ laid (p ++ ws) out
-put-behind p ws out xs ys at k x e h kk y =
-    let l : length (drop at xs) ≤ k = rw length-drop (omega arith) in
-    let t : take k (drop at xs) ≡ drop at xs = take-all k (drop at xs) l in
-    let d : drop k (drop at xs) ≡ [] = drop-of-length-le (drop at xs) l in
-    rw (d, append-nil ys, y, t, x) (laid-behind p ws out at e h)
+use Rattle.writer.specs.Written.{part, held-words, main-words, words-of, writable, lent-after, count-after, with-word, copyable, copy-after, copy-count}
 
 -- ---- a part of a list
 pub length-part : (n at : ℕ) (l : List ℕ) → length (part n at l) ≡ n
@@ -62,13 +30,13 @@ unfolding part
 length-part zero at l = refl
 length-part (suc n) at l = length-append (part n at l) _ ∙ add-one (length (part n at l)) ∙ ap suc (length-part n at l)
 
-pub part-begin : (at : ℕ) (l out : List ℕ) → out ≡ laid (part 0 at l) out
-unfolding part laid
+pub part-begin : (at : ℕ) (l out : List ℕ) → out ≡ over (part 0 at l) out
+unfolding part
 part-begin at l out = refl
 
-pub part-turn : (i at : ℕ) (l out : List ℕ) → i < length out → set (laid (part i at l) out) i (getD l (at + i) 0) ≡ laid (part (i + 1) at l) out
+pub part-turn : (i at : ℕ) (l out : List ℕ) → i < length out → set (over (part i at l) out) i (getD l (at + i) 0) ≡ over (part (i + 1) at l) out
 unfolding part
-part-turn i at l out h = rw (add-one i) (laid-snoc (part i at l) (getD l (at + i) 0) out i (length-part i at l) h)
+part-turn i at l out h = rw (add-one i) (over-snoc (part i at l) (getD l (at + i) 0) out i (length-part i at l) h)
 
 -- a whole list
 part-front : (l : List ℕ) (k : ℕ) → k ≤ length l → part k 0 l ≡ take k l
@@ -114,8 +82,8 @@ module _ (h : ℕ) (slots : List ℕ) where
   held-longer k at e l =
       sym (ap length (held-in-turn k e) ∙ length-append (held-words h slots 0 k) (part 10 (k * 10) slots) ∙ omega (arith, length-part 10 (k * 10) slots))
 
-  pub held-begin : (out : List ℕ) → (0 ≡ length (held-words h slots 0 0)) × (out ≡ laid (held-words h slots 0 0) out)
-  unfolding held-words laid
+  pub held-begin : (out : List ℕ) → (0 ≡ length (held-words h slots 0 0)) × (out ≡ over (held-words h slots 0 0) out)
+  unfolding held-words
   held-begin out = (refl, refl)
 
 -- ---- as many statements as the set has numbers
@@ -149,35 +117,35 @@ held-length h l low = held-ones h l sites ∙ ap (λ (x : ℕ). ones x * 10) (mo
 
 -- ---- the main statement
 pub main-begin : (count w0 question : ℕ) (out : List ℕ) → place-of 1 ≤ length out
-    → set (set (set out 0 (head-mark * 2 ^ mark-bit + count)) 1 w0) 2 question ≡ laid ((head-mark * 2 ^ mark-bit + count) ∷ w0 ∷ question ∷ []) out
+    → set (set (set out 0 (head-mark * 2 ^ mark-bit + count)) 1 w0) 2 question ≡ over ((head-mark * 2 ^ mark-bit + count) ∷ w0 ∷ question ∷ []) out
 main-begin count w0 question out h =
     let head : ℕ = 3 * 2 ^ 30 + count in
-    ap (λ (x : List ℕ). set (set x 1 w0) 2 question) (ap (λ (x : List ℕ). set x 0 head) (laid-none out) ∙ laid-snoc [] head out 0 refl (omega arith))
-    ∙ ap (λ (x : List ℕ). set x 2 question) (laid-snoc (head ∷ []) w0 out 1 refl (omega arith))
-    ∙ laid-snoc (head ∷ w0 ∷ []) question out 2 refl (omega arith)
+    ap (λ (x : List ℕ). set (set x 1 w0) 2 question) (over-snoc [] head out 0 refl (omega arith))
+    ∙ ap (λ (x : List ℕ). set x 2 question) (over-snoc (head ∷ []) w0 out 1 refl (omega arith))
+    ∙ over-snoc (head ∷ w0 ∷ []) question out 2 refl (omega arith)
 
 pub main-done : (count w0 question : ℕ) (code out ys : List ℕ) (k : ℕ) → place-of 1 ≤ length out
     → k ≡ length (set (set (set out 0 (head-mark * 2 ^ mark-bit + count)) 1 w0) 2 question) - 3
-    → ys ≡ laid (part code-words 0 code) (take k (drop 3 (set (set (set out 0 (head-mark * 2 ^ mark-bit + count)) 1 w0) 2 question)))
-    → putMid 3 k (set (set (set out 0 (head-mark * 2 ^ mark-bit + count)) 1 w0) 2 question) ys ≡ laid (main-words count w0 question code) out
+    → ys ≡ over (part code-words 0 code) (take k (drop 3 (set (set (set out 0 (head-mark * 2 ^ mark-bit + count)) 1 w0) 2 question)))
+    → putMid 3 k (set (set (set out 0 (head-mark * 2 ^ mark-bit + count)) 1 w0) 2 question) ys ≡ over (main-words count w0 question code) out
 unfolding main-words
 main-done count w0 question code out ys k h kk y =
     put-behind ((3 * 2 ^ 30 + count) ∷ w0 ∷ question ∷ []) (part 8 0 code) out (set (set (set out 0 (3 * 2 ^ 30 + count)) 1 w0) 2 question) ys 3 k
-    (main-begin count w0 question out h) refl (omega arith) kk y
+    (main-begin count w0 question out h) refl kk y
 
 pub length-main : (count w0 question : ℕ) (code : List ℕ) → length (main-words count w0 question code) ≡ place-of 1
 unfolding main-words
 length-main count w0 question code = ap (λ (x : ℕ). suc (suc (suc x))) (length-part 8 0 code)
 
 -- ---- three parts, each behind the one before
-pub parts-done : (p h g out xs ys zs : List ℕ) (at n m : ℕ) → xs ≡ laid p out → length p ≡ place-of 1 → place-of 1 + length h ≡ at → at ≤ length out
-    → n ≡ length xs - place-of 1 → ys ≡ laid h (take n (drop (place-of 1) xs))
-    → m ≡ length (putMid (place-of 1) n xs ys) - at → zs ≡ laid g (take m (drop at (putMid (place-of 1) n xs ys)))
-    → putMid at m (putMid (place-of 1) n xs ys) zs ≡ laid (p ++ h ++ g) out
+pub parts-done : (p h g out xs ys zs : List ℕ) (at n m : ℕ) → xs ≡ over p out → length p ≡ place-of 1 → place-of 1 + length h ≡ at → at ≤ length out
+    → n ≡ length xs - place-of 1 → ys ≡ over h (take n (drop (place-of 1) xs))
+    → m ≡ length (putMid (place-of 1) n xs ys) - at → zs ≡ over g (take m (drop at (putMid (place-of 1) n xs ys)))
+    → putMid at m (putMid (place-of 1) n xs ys) zs ≡ over (p ++ h ++ g) out
 parts-done p h g out xs ys zs at n m x lp lh room nn y mm z =
     put-behind (p ++ h) g out (putMid 11 n xs ys) zs at m
-    (put-behind p h out xs ys 11 n x lp (omega arith) nn y)
-    (length-append p h ∙ omega arith) room mm z
+    (put-behind p h out xs ys 11 n x lp nn y)
+    (length-append p h ∙ omega arith) mm z
 
 -- ---- what a branch by the opposite of a call's result found
 pub not-is-true : (r b : Bool) → r ≡ b → not r ≡ true → b ≡ false
@@ -207,8 +175,8 @@ module _ (w0 question : ℕ) (code slots : List ℕ) (h : ℕ) (group : List ℕ
 
   pub is-written : writable (length out) h count k ≡ true
       → (bundle-words (count + k) ≡ count-after (length out) h k)
-      × (laid (words-of w0 question code slots h group k) out ≡ lent-after w0 question code slots h group k out)
-  unfolding count-after lent-after laid
+      × (over (words-of w0 question code slots h group k) out ≡ lent-after w0 question code slots h group k out)
+  unfolding count-after lent-after
   is-written e =
       let f : writable (length out) h (ones h) k ≡ true = rw n at e in
       (ap (λ (x : ℕ). bundle-words (x + k)) n ∙ here _ _ _ f, here _ _ _ f)
@@ -219,9 +187,9 @@ set-front [] r i w h = absurd (omega arith)
 set-front (x ∷ ws) r zero w h = refl
 set-front (x ∷ ws) r (suc i) w h = ap (λ (l : List ℕ). x ∷ l) (set-front ws r i w (omega arith))
 
-pub copied : (w0 : ℕ) (ws out xs : List ℕ) → (leb (place-of 1) (length ws) && leb (length ws) (length out)) ≡ true → xs ≡ laid (part (length ws) 0 ws) out
+pub copied : (w0 : ℕ) (ws out xs : List ℕ) → (leb (place-of 1) (length ws) && leb (length ws) (length out)) ≡ true → xs ≡ over (part (length ws) 0 ws) out
     → (length ws ≡ copy-count (length ws) (length out)) × (set xs 1 w0 ≡ copy-after w0 ws out)
-unfolding copy-count copy-after copyable pick laid with-word
+unfolding copy-count copy-after copyable pick with-word
 copied w0 ws out xs fit e =
     let long : 11 ≤ length ws = leb-true 11 (length ws) (both (leb 11 (length ws)) _ fit .0) in
     let all : xs ≡ ws ++ drop (length ws) out = e ∙ ap (λ (l : List ℕ). l ++ drop (length l) out) (part-all ws) in
