@@ -10,7 +10,7 @@ use lib.ListN.{getD, length}
 use Rattle.format.specs.declared.Fields.{Fields}
 use Rattle.format.specs.Numbers.{least-stations, code-words}
 use Rattle.format.specs.Group.{quorum}
-use Rattle.format.specs.Words.{round-of, fields-of, wide-fields}
+use Rattle.format.specs.Words.{station-bit, station-size, round-of, fields-of, wide-fields}
 
 pub data Form : Type 0 where
   first-form : Form
@@ -108,11 +108,11 @@ pub rounds-there : (form : Form) → 1 ≤ last-round form
 rounds-there first-form = omega arith
 rounds-there wide-form = omega arith
 
-pub stations-fit : (form : Form) → most-stations form < 256
+pub stations-fit : (form : Form) → most-stations form < station-size
 stations-fit first-form = omega arith
 stations-fit wide-form = omega arith
 
-pub low-in-bits : (form : Form) (round : ℕ) → round ≤ last-round form → low-bits form round < 2 ^ 16
+pub low-in-bits : (form : Form) (round : ℕ) → round ≤ last-round form → low-bits form round < 2 ^ station-bit
 low-in-bits first-form round h = omega arith
 low-in-bits wide-form round h = omega arith
 

@@ -3,6 +3,7 @@ use Prim.Native.Nat.{ℕ, suc}
 use mathlib.Core.Bool.{Bool, true, false, _&&_, _||_}
 use mathlib.Core.List.{List, [], _∷_}
 use Rattle.laws.specs.Pick.{pick}
+use Rattle.format.specs.Numbers.{none}
 use Rattle.format.specs.Statement.{Statement}
 
 unfoldable pub some : (Statement → Bool) → List Statement → Bool
@@ -23,7 +24,7 @@ unfoldable pub those : (Statement → Bool) → List Statement → List Statemen
 those p [] = []
 those p (s ∷ h) = pick (p s) (s ∷ those p h) (those p h)
 
--- the value of the first statement that a test takes, or 2
+-- the value of the first statement that a test takes, or none
 unfoldable pub leading : (Statement → Bool) → List Statement → ℕ
-leading p [] = 2
+leading p [] = none
 leading p (s ∷ h) = pick (p s) (s .value) (leading p h)

@@ -30,57 +30,75 @@ least-stations = 2
 abbrev pub code-words : ℕ
 code-words = 8
 
--- the table of returns
-abbrev pub valid : ℕ
-valid = 0
-
-abbrev pub out-of-range : ℕ
-out-of-range = 2
-
-abbrev pub malformed : ℕ
-malformed = 3
-
-abbrev pub other-question : ℕ
-other-question = 4
-
-abbrev pub wrong-code : ℕ
-wrong-code = 5
-
-abbrev pub no-certificate : ℕ
-no-certificate = 6
-
+-- ---- the table of returns, by rising number, in document 01's words
+-- 0: "kept, step not ended; also valid, coded, or module made"
 abbrev pub kept : ℕ
 kept = 0
 
-abbrev pub sent : ℕ
-sent = 20
+abbrev pub valid : ℕ
+valid = 0
 
-abbrev pub sent-decided : ℕ
-sent-decided = 21
-
-abbrev pub closed-now : ℕ
-closed-now = 22
-
-abbrev pub jumped : ℕ
-jumped = 23
-
+-- 1: "lent output below 331 words"
 abbrev pub short-output : ℕ
 short-output = 1
 
-abbrev pub too-early : ℕ
-too-early = 8
+-- 2: "n, station number, proposal or coin out of range; a station whose n or number isn't the given module's, or whose stage, set and held statements don't
+-- fit one another"; since Job 3 of document 02 too: "a jump setting outside 0 and 1"
+abbrev pub out-of-range : ℕ
+out-of-range = 2
 
+-- 3: "words, kinds, fields or lengths not as above, a station over n included; or the wrong way to code"
+abbrev pub malformed : ℕ
+malformed = 3
+
+-- 4: "a question differs from the main statement's, or that from the station's"
+abbrev pub other-question : ℕ
+other-question = 4
+
+-- 5: "a code that doesn't verify, or a statement of another station to code"
+abbrev pub wrong-code : ℕ
+wrong-code = 5
+
+-- 6: "certificate not as rules 1 to 7"
+abbrev pub no-certificate : ℕ
+no-certificate = 6
+
+-- 7: "step below the station's"
 abbrev pub too-late : ℕ
 too-late = 7
 
+-- 8: "step above it"; since Job 3 "only with jump off"
+abbrev pub too-early : ℕ
+too-early = 8
+
+-- 9: "that station is held in this step"
 abbrev pub already-held : ℕ
 already-held = 9
 
+-- 10: "the held and the new would have votes for both 0 and 1, or, in a round over 1, D-GET of both values"
 abbrev pub conflicting : ℕ
 conflicting = 10
 
+-- 11: "station closed"
 abbrev pub station-closed : ℕ
 station-closed = 11
 
+-- 12: "the pair isn't above the module's last"
 abbrev pub not-above : ℕ
 not-above = 12
+
+-- 20: "sent: bundle written, its word count with it"
+abbrev pub sent : ℕ
+sent = 20
+
+-- 21: "sent, and first decided in this call"
+abbrev pub sent-decided : ℕ
+sent-decided = 21
+
+-- 22: "closed in this call; a decision may have been made"
+abbrev pub closed-now : ℕ
+closed-now = 22
+
+-- 23, since Job 3: "a valid bundle of a later step makes the station enter that step and return 23"
+abbrev pub jumped : ℕ
+jumped = 23

@@ -6,7 +6,7 @@ use lib.Dec.{eqb, leb, ltb}
 use lib.ListN.{getD, take, drop}
 use Rattle.format.specs.declared.Fields.{Fields}
 use Rattle.format.specs.Numbers.{kind-INIT, kind-P, kind-V, D-GET, none, code-words}
-use Rattle.format.specs.Words.{kind-of, value-of, flag-of, station-of, word-of, of-group, step-of}
+use Rattle.format.specs.Words.{flag-size, kind-of, value-of, flag-of, station-of, word-of, of-group, step-of}
 use Rattle.format.specs.Form.{Form, last-round, covered-words, low-bits, with-round, round-at, statement-words}
 
 pub record Statement : Type 0 where
@@ -32,7 +32,7 @@ module _ (form : Form) where
   abbrev pub shaped : ℕ → ℕ → ℕ → ℕ → Bool
   shaped kind value flag round =
       (eqb kind kind-INIT && (eqb round 0 && ltb value none && eqb flag D-GET))
-      || (eqb kind kind-P && (leb 1 round && leb round (last-round form) && ltb value none && ltb flag 2))
+      || (eqb kind kind-P && (leb 1 round && leb round (last-round form) && ltb value none && ltb flag flag-size))
       || (eqb kind kind-V && (leb 1 round && leb round (last-round form) && leb value none && eqb flag D-GET))
 
   -- fields as they are read: what must be zero is, the station is of the group, and the rest is one of the three

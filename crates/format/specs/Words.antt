@@ -23,20 +23,36 @@ spare-bit = 24
 abbrev pub station-bit : ℕ
 station-bit = 16
 
+-- and how many numbers each holds
+abbrev pub kind-size : ℕ
+kind-size = 4
+
+abbrev pub value-size : ℕ
+value-size = 4
+
+abbrev pub flag-size : ℕ
+flag-size = 2
+
+abbrev pub spare-size : ℕ
+spare-size = 8
+
+abbrev pub station-size : ℕ
+station-size = 256
+
 abbrev pub kind-of : ℕ → ℕ
 kind-of w = w / 2 ^ kind-bit
 
 abbrev pub value-of : ℕ → ℕ
-value-of w = w / 2 ^ value-bit % 4
+value-of w = w / 2 ^ value-bit % value-size
 
 abbrev pub flag-of : ℕ → ℕ
-flag-of w = w / 2 ^ flag-bit % 2
+flag-of w = w / 2 ^ flag-bit % flag-size
 
 abbrev pub spare-of : ℕ → ℕ
-spare-of w = w / 2 ^ spare-bit % 8
+spare-of w = w / 2 ^ spare-bit % spare-size
 
 abbrev pub station-of : ℕ → ℕ
-station-of w = w / 2 ^ station-bit % 256
+station-of w = w / 2 ^ station-bit % station-size
 
 -- bits 15..0, which are the round but in the wide form
 abbrev pub low-of : ℕ → ℕ
@@ -71,7 +87,7 @@ wide-fields w round =
 -- the word of fields, each cut to its bits
 unfoldable pub word-of : Fields → ℕ
 word-of f =
-    f .kind % 4 * 2 ^ kind-bit + f .value % 4 * 2 ^ value-bit + f .flag % 2 * 2 ^ flag-bit + f .spare % 8 * 2 ^ spare-bit + f .station % 256 * 2 ^ station-bit + f .round .0 % 2 ^ station-bit
+    f .kind % kind-size * 2 ^ kind-bit + f .value % value-size * 2 ^ value-bit + f .flag % flag-size * 2 ^ flag-bit + f .spare % spare-size * 2 ^ spare-bit + f .station % station-size * 2 ^ station-bit + f .round .0 % 2 ^ station-bit
 
 -- "a station over n" is malformed, and so is station 0, since stations are "numbered 1 to n"
 abbrev pub of-group : ℕ → ℕ → Bool

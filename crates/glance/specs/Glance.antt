@@ -105,30 +105,30 @@ module _ (n question : ℕ) (ws : List ℕ) (f : Findings) (at : ℕ) (bad o : B
       ≡ glanced n question ws (further f (p + 1) (station-of (getD ws at 0)) (not good) (o || not (eqb (getD ws (at + 1) 0) question))) (left ws (p + 1))
   unfolding glanced passed fields-of pick left
   next-passed p last good here well clean inside =
-      let z : (length ws - (1 + p * 10)) / 10 ≡ suc ((length ws - (1 + (p + 1) * 10)) / 10) = omega (arith, inside, here) in
+      let z : (length ws - (1 + p * statement-words)) / statement-words ≡ suc ((length ws - (1 + (p + 1) * statement-words)) / statement-words) = omega (arith, inside, here) in
       rw (z, clean, well, here)
 
   pub glance-turn : (good : Bool) → good ≡ formed n (fields-of (getD ws at 0)) → (not bad && leb (at + statement-words) (length ws)) ≡ true → Glancing n question ws f at bad o
       → Glancing n question ws f (at + statement-words) (not good) (o || not (eqb (getD ws (at + 1) 0) question))
   glance-turn good well inside G =
-      let i = both (not bad) (leb (at + 10) (length ws)) inside in
+      let i = both (not bad) (leb (at + statement-words) (length ws)) inside in
       record {
         place = G .place + 1;
         last = station-of (getD ws at 0);
         here = omega (arith, G .here);
-        same = G .same ∙ next-passed (G .place) (G .last) good (G .here) well (not-true bad (i .0)) (leb-true (at + 10) (length ws) (i .1));
+        same = G .same ∙ next-passed (G .place) (G .last) good (G .here) well (not-true bad (i .0)) (leb-true (at + statement-words) (length ws) (i .1));
       }
 
   none-passed : (p last : ℕ) → at ≡ place-of p → (not bad && leb (at + statement-words) (length ws)) ≡ false
       → answer (further f (f .place) (f .last) bad o) ≡ answer (glanced n question ws (further f p last bad o) (left ws p))
   unfolding glanced pick left answer
-  none-passed p last here h = go bad refl ((length ws - (1 + p * 10)) / 10) refl
+  none-passed p last here h = go bad refl ((length ws - (1 + p * statement-words)) / statement-words) refl
     where
-      go : (b : Bool) → bad ≡ b → (k : ℕ) → (length ws - (1 + p * 10)) / 10 ≡ k
+      go : (b : Bool) → bad ≡ b → (k : ℕ) → (length ws - (1 + p * statement-words)) / statement-words ≡ k
           → answer (further f (f .place) (f .last) bad o) ≡ answer (glanced n question ws (further f p last bad o) k)
       go b e zero z = refl
       go true e (suc k) z = rw e
-      go false e (suc k) z = absurd (omega (arith, z, here, leb-false (at + 10) (length ws) (rw e at h)))
+      go false e (suc k) z = absurd (omega (arith, z, here, leb-false (at + statement-words) (length ws) (rw e at h)))
 
   pub glance-end : (not bad && leb (at + statement-words) (length ws)) ≡ false → Glancing n question ws f at bad o
       → answer (further f (f .place) (f .last) bad o) ≡ answer (glanced n question ws f (left ws (f .place)))

@@ -126,7 +126,7 @@ fn step_in(word: u32) -> u64 {
 // Where a site keeps its bundle of a question and step.
 fn spot(place: usize, question: u32, step: u64) -> usize
     requires { ⌜ place < most-stations ⌝ }
-    ensures { λ r. ⌜ r < 992 ⌝ }
+    ensures { λ r. ⌜ r < most-stations * 32 ⌝ }
 {
     place * 32 + (question % 2) as usize * 16 + (step % 16) as usize
 }
@@ -144,7 +144,7 @@ fn count_in(word: u32) -> usize
 
 // Whether there is a bundle in a spot, and it is of the question and step of the one in another.
 fn alike(spot: usize, other: usize, kept: &[u32; KEPT]) -> bool
-    requires { ⌜ (spot < 992) × (other < 992) ⌝ }
+    requires { ⌜ (spot < most-stations * 32) × (other < most-stations * 32) ⌝ }
 {
     let a = spot * SLOT;
     let b = other * SLOT;
@@ -153,7 +153,7 @@ fn alike(spot: usize, other: usize, kept: &[u32; KEPT]) -> bool
 
 // Keeps a bundle.
 fn keep(spot: usize, count: u32, bundle: [u32; OUTPUT_WORDS], kept: &mut [u32; KEPT])
-    requires { ⌜ spot < 992 ⌝ }
+    requires { ⌜ spot < most-stations * 32 ⌝ }
 {
     let at = spot * SLOT;
     kept[at] = count;
@@ -203,7 +203,7 @@ fn open(
     let mut bundle = [0u32; OUTPUT_WORDS];
     let o = opening::open(own, question, value, 0, &mut bundle);
     let mut counts = c;
-    if o.number != 20 {
+    if o.number != format::SENT {
         counts.refused = more(c.refused);
         return Heard {
             site: s,
@@ -257,7 +257,7 @@ fn begin(
 
 // Gives a station the bundle in a spot.
 fn give(s: Site, spot: usize, kept: &[u32; KEPT], out: &mut [u32; OUTPUT_WORDS]) -> giving::Given
-    requires { ⌜ spot < 992 ⌝ }
+    requires { ⌜ spot < most-stations * 32 ⌝ }
 {
     let own = s.own;
     let station = s.station;
@@ -273,16 +273,16 @@ fn give(s: Site, spot: usize, kept: &[u32; KEPT], out: &mut [u32; OUTPUT_WORDS])
 fn after(s: Site, c: Counts, g: giving::Given, word: u32) -> Heard {
     let own = g.after;
     let station = g.station;
-    let sent = (g.number == 20) | (g.number == 21);
+    let sent = (g.number == format::SENT) | (g.number == format::SENT_DECIDED);
     let mut site = s;
     site.own = own;
     site.station = station;
     site.step = if sent { step_in(word) } else { s.step };
-    site.decided = s.decided | (g.number == 21);
-    site.free = s.free | (s.decided & sent) | (g.number == 22);
+    site.decided = s.decided | (g.number == format::SENT_DECIDED);
+    site.free = s.free | (s.decided & sent) | (g.number == format::CLOSED_NOW);
     let mut counts = c;
     counts.given = more(c.given);
-    if (g.number != 0) & (g.number < 20) {
+    if (g.number != format::KEPT) & (g.number < format::SENT) {
         counts.refused = more(c.refused);
     }
     Heard {
@@ -295,11 +295,11 @@ fn after(s: Site, c: Counts, g: giving::Given, word: u32) -> Heard {
 // A site hears the bundle in a spot. At 20 and 21 its station wrote one, which is kept and sent from now on; any number but these, 0 and 22 is a refusal, and
 // the call returned all as it was.
 fn hear(s: Site, c: Counts, place: usize, spot: usize, kept: &mut [u32; KEPT]) -> Heard
-    requires { ⌜ (place < most-stations) × (spot < 992) ⌝ }
+    requires { ⌜ (place < most-stations) × (spot < most-stations * 32) ⌝ }
 {
     let mut bundle = [0u32; OUTPUT_WORDS];
     let g = give(s, spot, kept, &mut bundle);
-    if (g.number == 20) | (g.number == 21) {
+    if (g.number == format::SENT) | (g.number == format::SENT_DECIDED) {
         let counts = written(c, place, s.question, g.count, bundle, kept);
         return after(s, counts, g, bundle[1]);
     }
@@ -327,7 +327,7 @@ fn answer(
     lossy: bool,
     kept: &mut [u32; KEPT],
 ) -> Passed
-    requires { ⌜ (place < most-stations) × (spot < 992) ⌝ }
+    requires { ⌜ (place < most-stations) × (spot < most-stations * 32) ⌝ }
 {
     let to = h.site;
     let c = h.counts;
@@ -362,10 +362,12 @@ fn exchange(
     lossy: bool,
     kept: &mut [u32; KEPT],
 ) -> Passed
-    requires { ⌜ (place < most-stations) × ((other < most-stations) × ((spot < 992) × (old < 992))) ⌝ }
+    requires { ⌜ (place < most-stations) × ((other < most-stations) × ((spot < most-stations * 32) × (old < most-stations * 32))) ⌝ }
 {
     let h = hear(to, c, other, spot, kept);
-    if ((h.number == 7) | (h.number == 4)) & alike(old, spot, kept) {
+    if ((h.number == format::TOO_LATE) | (h.number == format::OTHER_QUESTION))
+        & alike(old, spot, kept)
+    {
         return answer(from, h, place, old, lossy, kept);
     }
     let hearer = h.site;
@@ -443,7 +445,7 @@ fn decision_of(s: Site, question: u32) -> u32 {
     let station = s.station;
     let told = status::read(own, station, question);
     if told.number != 0 {
-        return 2;
+        return format::NONE;
     }
     told.decision
 }
@@ -498,7 +500,7 @@ fn group(n: usize) -> [Site; SITES]
 fn decisions_of(sites: [Site; SITES], n: usize, question: u32) -> [u32; SITES]
     requires { ⌜ n ≤ most-stations ⌝ }
 {
-    let mut decisions = [2u32; SITES];
+    let mut decisions = [format::NONE; SITES];
     let mut i = 0;
     while i < n {
         decisions[i] = decision_of(sites[i], question);
@@ -513,7 +515,7 @@ fn all_decided(decisions: [u32; SITES], n: usize) -> bool
 {
     let mut i = 0;
     while i < n {
-        if decisions[i] == 2 {
+        if decisions[i] == format::NONE {
             return false;
         }
         i += 1;

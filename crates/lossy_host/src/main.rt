@@ -73,7 +73,10 @@ fn hear(s: Site, bundle: Bundle, coin: u32) -> Site {
     let mut site = s;
     site.own = after;
     site.station = then;
-    if (given.number == 20) | (given.number == 21) | (given.number == 23) {
+    if (given.number == format::SENT)
+        | (given.number == format::SENT_DECIDED)
+        | (given.number == format::JUMPED)
+    {
         let last = Bundle {
             words: out,
             count: given.count,

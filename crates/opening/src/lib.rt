@@ -11,6 +11,7 @@ use station::Station;
 ghost use mathlib.Core.Path.{_≡_};
 ghost use Rattle.laws.specs.Refusals.{first-failed};
 ghost use Rattle.hmac.specs.Code.{hmac-code};
+ghost use Rattle.format.specs.Numbers.{kind-INIT, D-GET};
 ghost use Rattle.station.specs.Answers.{Answers};
 ghost use Rattle.station.specs.Present.{opening, no-station};
 ghost use Rattle.opening.specs.Opens.{tests, open-refusal};
@@ -62,7 +63,7 @@ pub fn none() -> Station
 
 // The fields of the station's INIT.
 fn init(number: u32, proposal: u32) -> Fields
-    ensures { λ r. ⌜ r ≡ record { kind = 0; value = proposal; flag = 0; spare = 0; station = number; round = record { 0 = 0 } } ⌝ }
+    ensures { λ r. ⌜ r ≡ record { kind = kind-INIT; value = proposal; flag = D-GET; spare = 0; station = number; round = record { 0 = 0 } } ⌝ }
 {
     Fields {
         kind: format::INIT,

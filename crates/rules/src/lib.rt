@@ -1,6 +1,12 @@
 // Certificate groups, and which a main statement asks for (document 01, "Validity"). The contracts cite specs/.
+use format::D_GET;
 use format::Fields;
+use format::INIT;
+use format::NONE;
+use format::P;
+use format::R_GET;
 use format::Round;
+use format::V;
 ghost use mathlib.Core.Path.{_≡_};
 ghost use Prim.Native.Nat.{_-_};
 ghost use Rattle.rules.specs.Rules.{which, wanted, inits as Inits, proposals as Proposals, none-votes, d-get-group, first-group, second-group, has-second, early-toss};
@@ -58,7 +64,7 @@ fn inits(n: u32, v: u32) -> Group
     let needed = format::backing(n, v);
     Group {
         size: needed,
-        kind: 0,
+        kind: INIT,
         round: Round(0),
         value: Which::Only(v),
         flag: Which::Any,
@@ -72,7 +78,7 @@ pub fn proposals(n: u32, r: Round, value: Which, flag: Which) -> Group
     let q = format::quorum(n);
     Group {
         size: q,
-        kind: 1,
+        kind: P,
         round: r,
         value: value,
         flag: flag,
@@ -86,9 +92,9 @@ pub fn votes_for_none(n: u32, r: Round) -> Group
     let votes = format::quorum(n);
     Group {
         size: votes,
-        kind: 2,
+        kind: V,
         round: r,
-        value: Which::Only(2),
+        value: Which::Only(NONE),
         flag: Which::Any,
     }
 }
@@ -107,7 +113,7 @@ pub fn d_get_group(n: u32, value: u32, r: Round) -> Group
 fn group_of_proposal(n: u32, value: u32, flag: u32, r: Round) -> Group
     ensures { λ g. ⌜ g ≡ proposal-group n value flag (r .0) ⌝ }
 {
-    if flag == 0 {
+    if flag == D_GET {
         return d_get_group(n, value, r);
     }
     votes_for_none(n, round_before(r))
@@ -117,11 +123,11 @@ fn group_of_proposal(n: u32, value: u32, flag: u32, r: Round) -> Group
 fn group_of_vote(n: u32, value: u32, r: Round) -> Group
     ensures { λ g. ⌜ g ≡ vote-group n value (r .0) ⌝ }
 {
-    if value < 2 {
+    if value < NONE {
         return proposals(n, r, Which::Only(value), Which::Any);
     }
     if r.0 == 1 {
-        return proposals(n, Round(1), Which::Any, Which::Only(0));
+        return proposals(n, Round(1), Which::Any, Which::Only(D_GET));
     }
     proposals(n, r, Which::Any, Which::Any)
 }
@@ -131,7 +137,7 @@ pub fn first_group(n: u32, f: Fields) -> Group
     ensures { λ g. ⌜ g ≡ first-group n (f .kind) (f .value) (f .flag) (f .round .0) ⌝ }
 {
     let r = f.round;
-    if f.kind == 1 {
+    if f.kind == P {
         return group_of_proposal(n, f.value, f.flag, r);
     }
     group_of_vote(n, f.value, r)
@@ -141,7 +147,7 @@ pub fn first_group(n: u32, f: Fields) -> Group
 pub fn second_group(n: u32, value: u32, r: Round) -> Group
     ensures { λ g. ⌜ g ≡ second-group n value (r .0) ⌝ }
 {
-    if value < 2 {
+    if value < NONE {
         return d_get_group(n, value, r);
     }
     votes_for_none(n, round_before(r))
@@ -151,12 +157,12 @@ pub fn second_group(n: u32, value: u32, r: Round) -> Group
 pub fn has_second(kind: u32, value: u32, r: Round, dget: bool) -> bool
     ensures { λ b. ⌜ b ≡ has-second kind value (r .0) dget ⌝ }
 {
-    (kind == 2) & (((r.0 == 1) & (value < 2)) | ((1 < r.0) & ((value == 2) | dget)))
+    (kind == V) & (((r.0 == 1) & (value < NONE)) | ((1 < r.0) & ((value == NONE) | dget)))
 }
 
 // Whether it is an R-GET of round 1, for which there is no coin.
 pub fn early_toss(kind: u32, flag: u32, r: Round) -> bool
     ensures { λ b. ⌜ b ≡ early-toss kind flag (r .0) ⌝ }
 {
-    (kind == 1) & (r.0 == 1) & (flag == 1)
+    (kind == P) & (r.0 == 1) & (flag == R_GET)
 }

@@ -10,6 +10,8 @@ use borrow.Author.Tests.{lt-ltb}
 use Rattle.laws.specs.Pick.{pick}
 use Rattle.sha256.specs.Sha256.{limit}
 use Rattle.hmac.specs.Hmac.{keyed, prepared}
+use Rattle.format.specs.Numbers.{code-words}
+use Rattle.format.specs.Present.{covered-words, statement-words}
 
 pub short-key : (k : List ℕ) → length k ≡ 32 → keyed k .key ≡ prepared k
 unfolding keyed pick
@@ -20,20 +22,20 @@ none-left [] h = refl
 none-left (x ∷ l) h = absurd (omega arith)
 
 -- a turn: one word more
-pub stored-turn : (d code b : List ℕ) (i : ℕ) → length d ≡ 10 → length code ≡ 8 → i < 8 → b ≡ paste d 2 code i
-    → set b (2 + i) (getD code i 0) ≡ paste d 2 code (i + 1)
-stored-turn d code b i long eight low b-is = rw (b-is, add-one) (paste-suc d 2 code i 0 (omega arith) (omega arith))
+pub stored-turn : (d code b : List ℕ) (i : ℕ) → length d ≡ statement-words → length code ≡ code-words → i < code-words → b ≡ paste d covered-words code i
+    → set b (covered-words + i) (getD code i 0) ≡ paste d covered-words code (i + 1)
+stored-turn d code b i long eight low b-is = rw (b-is, add-one) (paste-suc d covered-words code i 0 (omega arith) (omega arith))
 
 -- behind the last turn: the first two words, and the eight
-pub stored-all : (d code b : List ℕ) (i : ℕ) → length d ≡ 10 → length code ≡ 8 → 8 ≤ i → i ≤ 8 → b ≡ paste d 2 code i
+pub stored-all : (d code b : List ℕ) (i : ℕ) → length d ≡ statement-words → length code ≡ code-words → code-words ≤ i → i ≤ code-words → b ≡ paste d covered-words code i
     → b ≡ getD d 0 0 ∷ getD d 1 0 ∷ code
 stored-all [] code b i long eight p q b-is = absurd (omega arith)
 stored-all (x ∷ []) code b i long eight p q b-is = absurd (omega arith)
 stored-all (x ∷ y ∷ d) code b i long eight p q b-is =
-    let e : i ≡ 8 = omega arith in
-    let n : drop 10 (x ∷ y ∷ d) ≡ [] = none-left (drop 10 (x ∷ y ∷ d)) (length-drop 10 (x ∷ y ∷ d) ∙ omega arith) in
-    let t : take 8 code ≡ code = take-all 8 code (omega arith) in
+    let e : i ≡ code-words = omega arith in
+    let n : drop statement-words (x ∷ y ∷ d) ≡ [] = none-left (drop statement-words (x ∷ y ∷ d)) (length-drop statement-words (x ∷ y ∷ d) ∙ omega arith) in
+    let t : take code-words code ≡ code = take-all code-words code (omega arith) in
     b-is
-    ∙ ap (paste (x ∷ y ∷ d) 2 code) e
+    ∙ ap (paste (x ∷ y ∷ d) covered-words code) e
     ∙ (λ j. ((x ∷ y ∷ []) ++ t j) ++ n j)
     ∙ append-nil (x ∷ y ∷ code)

@@ -12,7 +12,7 @@ use Rattle.laws.specs.Pick.{pick}
 use Rattle.laws.specs.Bools.{both, join}
 use Rattle.laws.specs.Refusals.{test, first-failed, all-passed, none-failed}
 use Rattle.format.specs.Form.{present-form}
-use Rattle.format.specs.Numbers.{kind-P, R-GET, out-of-range}
+use Rattle.format.specs.Numbers.{kind-P, R-GET, least-stations, out-of-range}
 use Rattle.format.specs.Words.{fields-of}
 use Rattle.format.specs.Statement.{Statement, step}
 use Rattle.format.specs.Laws.Layout.{formed-well}
@@ -45,7 +45,7 @@ record Passed (m : Module) (ws : List ℕ) (way : Bool) : Type 0 where
   right-way : way ≡ true
 
 range-top : (m : Module) → module-fits m ≡ true → m .n ≤ most-stations
-range-top m h = leb-true (m .n) most-stations (both (leb 2 (m .n)) _ (both (size-fits (m .n)) _ h .0) .1)
+range-top m h = leb-true (m .n) most-stations (both (leb least-stations (m .n)) _ (both (size-fits (m .n)) _ h .0) .1)
 
 passed : (code : List ℕ → List ℕ) (m : Module) (s : Statement) (ws : List ℕ) (range way : Bool) → (range ≡ true → module-fits m ≡ true)
     → coding code m s ws (first-failed (test range out-of-range ∷ coding-tests m ws way)) .number ≡ 0

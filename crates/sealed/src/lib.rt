@@ -1,5 +1,6 @@
 // The sealed module's coding: plain, and with the coin (document 01, "The sealed module"). The contracts cite specs/.
 use format::CODE_WORDS;
+use format::COVERED_WORDS;
 use format::Fields;
 use modules::Last;
 use modules::Module;
@@ -69,7 +70,7 @@ fn put_code(ws: &mut [u32], code: [u32; CODE_WORDS])
 {
     let mut i = 0;
     while i < CODE_WORDS {
-        ws[2 + i] = code[i];
+        ws[COVERED_WORDS + i] = code[i];
         i += 1;
     }
 }

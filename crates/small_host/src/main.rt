@@ -52,7 +52,7 @@ fn start(n: u32, number: u32, proposal: u32) -> Site {
     print(b"\nsite ", number);
     print(b": made ", made.number);
     print(b", opened ", opened.number);
-    let ready = (made.number == 0) & (opened.number == 20);
+    let ready = (made.number == 0) & (opened.number == format::SENT);
     let count = if ready { opened.count } else { 0 };
     let after = opened.after;
     let station = opened.station;
@@ -84,7 +84,7 @@ fn hear(s: Site, bundle: Bundle) -> Site {
     site.own = after;
     site.station = then;
     site.answered = given.number;
-    if (given.number == 20) | (given.number == 21) {
+    if (given.number == format::SENT) | (given.number == format::SENT_DECIDED) {
         let last = Bundle {
             words: out,
             count: given.count,
@@ -103,7 +103,7 @@ fn send(from: Site, to: Site, lost: u8) -> [Site; 2] {
     }
     let bundle = from.last;
     let hearer = hear(to, bundle);
-    if hearer.answered != 7 {
+    if hearer.answered != format::TOO_LATE {
         return [from, hearer];
     }
     io::write_all(STDOUT_FILENO, b" back");
@@ -128,7 +128,7 @@ fn tell(number: u32, s: Site) {
     let told = status::read(s.own, s.station, 1);
     print(b"\nsite ", number);
     print(b": read ", told.number);
-    if (told.number == 0) & (told.decision < 2) {
+    if (told.number == 0) & (told.decision < format::NONE) {
         print(b", decided ", told.decision);
     }
 }

@@ -13,7 +13,7 @@ use Rattle.laws.specs.Bools.{join}
 use Rattle.laws.specs.Refusals.{Test, test, passed-front}
 use Rattle.laws.specs.All.{All}
 use Rattle.format.specs.Form.{present-form}
-use Rattle.format.specs.Numbers.{kept, no-certificate, code-words}
+use Rattle.format.specs.Numbers.{kept, malformed, other-question, wrong-code, no-certificate, code-words}
 use Rattle.format.specs.Bundle.{count-in}
 use Rattle.format.specs.Present.{output-words, statements, statement-code, main-of, certificate-of, bundle-fits}
 use Rattle.rules.specs.declared.Which.the-variants.{Only}
@@ -50,9 +50,9 @@ module _ (mac : List ℕ → List ℕ → List ℕ) (m : Module) (t : Station) (
       front : List Test
       front =
           station-tests m t coin out
-          ++ (test (bundle-fits (m .n) ws) 3
-          ∷ test (question-fits (Only (t .identity .question)) (main-of ws) (certificate-of ws)) 4
-          ∷ test (all-verify (mac (m .key)) (statements ws 1 (suc (count-in ws)))) 5
+          ++ (test (bundle-fits (m .n) ws) malformed
+          ∷ test (question-fits (Only (t .identity .question)) (main-of ws) (certificate-of ws)) other-question
+          ∷ test (all-verify (mac (m .key)) (statements ws 1 (suc (count-in ws)))) wrong-code
           ∷ [])
 
       passed : All (λ x. x .ok ≡ true) front

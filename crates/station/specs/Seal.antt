@@ -14,7 +14,7 @@ use Rattle.laws.specs.Bools.{never, join}
 use Rattle.laws.specs.All.{All, all-append}
 use Rattle.laws.specs.Over.{over}
 use Rattle.format.specs.Form.{present-form}
-use Rattle.format.specs.Numbers.{kind-INIT, kind-P, none, D-GET, R-GET, code-words}
+use Rattle.format.specs.Numbers.{kind-INIT, kind-P, none, D-GET, R-GET, least-stations, code-words}
 use Rattle.format.specs.Statement.{Statement, step}
 use Rattle.format.specs.Laws.Shape.{init}
 use Rattle.format.specs.Laws.ReadBack.{Proper, length-written, statement-drop, statement-back}
@@ -28,7 +28,7 @@ use Rattle.station.specs.declared.Stage.{Stage}
 use Rattle.station.specs.declared.Stage.the-variants.{Gathering, Proposing, Voting}
 use Rattle.station.specs.declared.Station.{Station}
 use Rattle.station.specs.Machine.{State, Outcome, Next, next, proposing, carried, follows, copied-value}
-use Rattle.format.specs.Present.{bundle-words, most-stations, place-of, statement-words, size-fits, statement, covered, written, main-of, certificate-of, all-written, bundle-of}
+use Rattle.format.specs.Present.{bundle-words, most-stations, covered-words, place-of, statement-words, size-fits, statement, covered, written, main-of, certificate-of, all-written, bundle-of}
 use Rattle.station.specs.Returns.{unrefused, wrote, wrote-unrefused, sent-wrote}
 use Rattle.station.specs.Demand.{message}
 use Rattle.station.specs.Laws.ReadBack.{length-all}
@@ -38,7 +38,7 @@ use Rattle.station.specs.Present.{returned, opening, giving, opening-out
 
 pub range-fits : (m : Module) → InRange present-form m → module-fits m ≡ true
 range-fits m r =
-    join (size-fits (m .n)) _ (join (leb 2 (m .n)) _ (le-leb _ _ (r .at-least)) (le-leb _ _ (r .at-most)))
+    join (size-fits (m .n)) _ (join (leb least-stations (m .n)) _ (le-leb _ _ (r .at-least)) (le-leb _ _ (r .at-most)))
     (join (leb 1 (m .station)) _ (le-leb _ _ (r .low)) (le-leb _ _ (r .high)))
 
 -- ---- a bundle written over the lent words
@@ -55,8 +55,8 @@ module _ (n : ℕ) (s : Statement) (c : List Statement) (out : List ℕ) (p : Pr
   main-back top =
       statement-drop present-form (over (bundle-of s c) out) 1 ∙ ap (λ (l : List ℕ). statement l 0) main-first ∙ statement-back present-form n s _ top p
 
-  -- its words 0 and 1, with others behind them
-  pub main-front : (x : List ℕ) → take 2 (drop (place-of 0) (over (bundle-of s c) out)) ++ x ≡ written (with-code x s)
+  -- its covered words, with others behind them
+  pub main-front : (x : List ℕ) → take covered-words (drop (place-of 0) (over (bundle-of s c) out)) ++ x ≡ written (with-code x s)
   unfolding Rattle.format.specs.Bundle.bundle-of
   main-front x = refl
 

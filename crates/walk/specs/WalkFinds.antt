@@ -123,14 +123,14 @@ module _ (code : List ℕ → List ℕ) (n : ℕ) (asked : Which) (ws : List ℕ
     end-malformed = go formed-front refl
       where
         go : (b : Bool) → formed-front ≡ b → end .malformed ≡ not (formed-front && formed-rest)
-        go true a = rw a (finds-malformed code n (two n ws) (main-of ws .question) ws rest border (11 + have * 10) (border-place a) (border-malformed a))
+        go true a = rw a (finds-malformed code n (two n ws) (main-of ws .question) ws rest border (place-of 1 + have * statement-words) (border-place a) (border-malformed a))
         go false a =
             rw a
             (ap (λ (r : Findings). r .malformed) (stopped code n (two n ws) (main-of ws .question) ws border rest (front-malformed ∙ ap not a)) ∙ front-malformed ∙ ap not a)
 
     module _ (a : formed-front ≡ true) (b : formed-rest ≡ true) where
       end-finds : Finds code (two n ws) (main-of ws .question) border end rest behind
-      end-finds = finds code n (two n ws) (main-of ws .question) ws rest border (11 + have * 10) (border-place a) (border-malformed a) b
+      end-finds = finds code n (two n ws) (main-of ws .question) ws rest border (place-of 1 + have * statement-words) (border-place a) (border-malformed a) b
 
       split : (p : Statement → Bool) → (some p before || some p behind) ≡ some p (certificate-of ws)
       split p = sym (ap (λ k. some p (statements ws 11 k)) (sym whole) ∙ some-split p ws 11 have rest)

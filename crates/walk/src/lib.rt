@@ -2,6 +2,7 @@
 // The contracts cite specs/Walk.antt.
 use format::CODE_WORDS;
 use format::COUNTS;
+use format::COVERED_WORDS;
 use format::Fields;
 use format::HEAD_MARK;
 use format::HEAD_ZEROS;
@@ -71,7 +72,7 @@ fn code_matches(words: [u32; STATEMENT_WORDS], code: [u32; CODE_WORDS]) -> bool
     let mut same = true;
     let mut i: usize = 0;
     while i < CODE_WORDS {
-        same = same & (words[2 + i] == code[i]);
+        same = same & (words[COVERED_WORDS + i] == code[i]);
         i += 1;
     }
     same
@@ -85,7 +86,7 @@ fn code_fails(key: Prepared, fault: bool, words: [u32; STATEMENT_WORDS]) -> bool
     if fault {
         return false;
     }
-    let code = codes::code_words(key, &words[0..2]);
+    let code = codes::code_words(key, &words[0..COVERED_WORDS]);
     let right = code.words;
     !code_matches(words, right)
 }

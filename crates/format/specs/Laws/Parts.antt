@@ -12,7 +12,7 @@ use Rattle.laws.specs.Pick.{pick}
 use Rattle.laws.specs.Bools.{both}
 use Rattle.format.specs.Form.{Form, most-statements, head-bits, statement-words, place-of, bundle-words}
 use Rattle.format.specs.Statement.{Statement, statement, statements}
-use Rattle.format.specs.Bundle.{head-fits, count-in, laid-out}
+use Rattle.format.specs.Bundle.{head-mark, mark-bit, middle-bits, count-bits, head-fits, count-in, laid-out}
 use Rattle.laws.specs.Least.{least}
 
 module _ (form : Form) where
@@ -77,6 +77,6 @@ module _ (form : Form) where
   unfolding laid-out
   sizes ws h =
       let b = both (head-fits form (getD ws 0 0)) _ h in
-      let f = both (eqb (getD ws 0 0 / 2 ^ 30) 3 && eqb (getD ws 0 0 / 2 ^ 16 % 2 ^ 14) (head-bits form)) _ (b .0) in
+      let f = both (eqb (getD ws 0 0 / 2 ^ mark-bit) head-mark && eqb (getD ws 0 0 / 2 ^ count-bits % 2 ^ middle-bits) (head-bits form)) _ (b .0) in
       let l : length ws ≡ bundle-words form (count-in ws) = eqb-true _ _ (b .1) in
       (leb-true _ _ (f .1), omega arith)

@@ -97,12 +97,12 @@ module _ (G : Ground present-form) where
             → answer mac key n cs the-call ≡ returned its-module t out (sends k sent-main (following .first ++ following .second) (began n question lasting-after (following .stage) sent-main (following .first ++ following .second)))
             → Walk G (the-call ∷ cs) i
         ended-walk not-refused e =
-            let R = reached-good present-form mac key n eight i t (up-given G faulty cs i site o t ws coin out not-refused (presents not-refused) .reached) .certain (accepted .still-open) in
+            let R = reached-good present-form mac key n eight i t (up-given G faulty cs i site o t ws coin out not-refused (presents not-refused) .reached) .certain (accepted .cleared .still-open) in
             let few = backed-few present-form n sent-main (following .first ++ following .second) top (sent-backed present-form mac its-module t ws coin out accepted eight len R size more) in
             let c = parts-coded present-form mac eight its-module t ws coin out (log mac key n cs) (presents not-refused .line .took) (known (presents not-refused)) accepted came in
             sent-walk G faulty cs i site o t ws coin out inv-then not-refused (presents not-refused) k sent-main (following .first ++ following .second) (following .stage) lasting-after
             refl refl sent-step is-above writes (sent-proper present-form mac eight its-module t ws coin out len accepted size more) parts-proper few
-            (all-append (Coded n (reads present-form (log mac key n cs))) (following .first) (following .second) (c .0) (c .1)) (sent-sane present-form mac eight its-module t ws coin out len accepted size more) (accepted .still-open) refl
+            (all-append (Coded n (reads present-form (log mac key n cs))) (following .first) (following .second) (c .0) (c .1)) (sent-sane present-form mac eight its-module t ws coin out len accepted size more) (accepted .cleared .still-open) refl
             (λ off s a b. up-to (next-is n (t .stage) state-after coin) s a b) e
 
       -- the station has jumped
@@ -116,7 +116,7 @@ module _ (G : Ground present-form) where
           refl refl (jump-fitting present-form mac eight its-module t ws coin out jumping .in-step) is-above refl
           (jump-proper present-form mac eight its-module t ws coin out jumping) (jumping .fitting .certificate) (jump-few present-form mac eight its-module t ws coin out jumping)
           (given-coded present-form mac eight its-module t ws coin out (log mac key n cs) (presents not-refused .line .took) (known (presents not-refused)) jumping came)
-          (jump-sane present-form mac eight its-module t ws coin out jumping len) (jumping .still-open) refl (λ off s a b. never (t .lasting .jump) off (jumping .on)) e
+          (jump-sane present-form mac eight its-module t ws coin out jumping len) (jumping .cleared .still-open) refl (λ off s a b. never (t .lasting .jump) off (jumping .on)) e
 
       -- the statement is held, and the step goes on
       kept-walk : (accepted : Accepted present-form mac its-module t ws coin out) → length (state-after .held) < quorum n → answer mac key n cs the-call ≡ returned its-module t out (keeps kept state-after)

@@ -4,19 +4,21 @@ use Prim.Native.Nat.{_-_, _≤_}
 use native.Mathlib.Omega.{arith}
 use lib.ListN.{length, length-set}
 use lib.Seq.{paste, paste-zero}
+use Rattle.format.specs.Numbers.{code-words}
+use Rattle.format.specs.Present.{covered-words, statement-words}
 use Rattle.sealed.proofs.Stored.{stored-turn, stored-all}
 use borrow.Author.Needs.{needs}
 use Rattle.sealed.proofs.put_code.Statement.{statement}
 use Rattle.sealed.proofs.put_code.Tie as tie
 
 abbrev Inv-loop : tie.InvT-loop
-Inv-loop ws₀ code i₀ ws i = (i ≤ 8) × ((length ws₀ ≡ 10) × ((length code ≡ 8) × ((length ws ≡ 10) × (ws ≡ paste ws₀ 2 code i))))
+Inv-loop ws₀ code i₀ ws i = (i ≤ code-words) × ((length ws₀ ≡ statement-words) × ((length code ≡ code-words) × ((length ws ≡ statement-words) × (ws ≡ paste ws₀ covered-words code i))))
 
 abbrev μ-loop : tie.MeasureT-loop
-μ-loop ws₀ code i₀ ws i = 8 - i
+μ-loop ws₀ code i₀ ws i = code-words - i
 
 loop-holds : tie.Need-loop-holds Inv-loop μ-loop
-loop-holds c = (search needs, (search needs, (search needs, (search needs, paste-zero (c .args .ws .now) 2 (c .args .t2)))))
+loop-holds c = (search needs, (search needs, (search needs, (search needs, paste-zero (c .args .ws .now) covered-words (c .args .t2)))))
 
 mul-ws : tie.Need-mul-ws Inv-loop μ-loop
 mul-ws c = search needs

@@ -4,8 +4,9 @@ use mathlib.Core.Bool.{_&&_}
 use mathlib.Core.Path.{_≡_, refl, sym, _∙_}
 use lib.ListN.{length, take, drop}
 use native.Mathlib.Omega.{arith}
+use Rattle.format.specs.Numbers.{code-words}
 use Rattle.format.specs.Statement.{same-words}
-use Rattle.format.specs.Present.{code-at}
+use Rattle.format.specs.Present.{covered-words, statement-words, code-at}
 use Rattle.walk.specs.Laws.Codes.{same-turn, same-end}
 use borrow.Author.Needs.{needs}
 use Rattle.walk.proofs.code_matches.Statement.{statement}
@@ -13,10 +14,10 @@ use Rattle.walk.proofs.code_matches.Tie as tie
 
 abbrev Inv-loop : tie.InvT-loop
 Inv-loop words code same₀ i₀ same i =
-    (i ≤ 8) × (length code ≡ 8) × (length words ≡ 10) × (same-words (code-at words 0) code ≡ (same && same-words (take (8 - i) (drop (2 + i) words)) (drop i code)))
+    (i ≤ code-words) × (length code ≡ code-words) × (length words ≡ statement-words) × (same-words (code-at words 0) code ≡ (same && same-words (take (code-words - i) (drop (covered-words + i) words)) (drop i code)))
 
 abbrev μ-loop : tie.MeasureT-loop
-μ-loop words code same₀ i₀ same i = 8 - i
+μ-loop words code same₀ i₀ same i = code-words - i
 
 loop-holds : tie.Need-loop-holds Inv-loop μ-loop
 loop-holds c = (search needs, search needs, search needs, refl)
@@ -52,7 +53,7 @@ returns : tie.Need-returns Inv-loop μ-loop
 returns c =
     let a = c .before .before .args in
     let v = c .before .loop in
-    same-end (drop (2 + v .i) (a .t1)) (a .t2) (v .i) (v .same) (c .loop-test .left) (v .inv .0) (v .inv .1) ∙ sym (v .inv .3)
+    same-end (drop (covered-words + v .i) (a .t1)) (a .t2) (v .i) (v .same) (c .loop-test .left) (v .inv .0) (v .inv .1) ∙ sym (v .inv .3)
 
 pub code-matches-spec : {M : Type 1} → statement M
 code-matches-spec =

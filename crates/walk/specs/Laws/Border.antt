@@ -26,25 +26,25 @@ use Rattle.format.specs.Present.{place-of, statement-words, formed, statement, 
 pub formed-split : (n : ℕ) (ws : List ℕ) (at k j : ℕ) → all-formed n ws at (k + j) ≡ (all-formed n ws at k && all-formed n ws (at + k * statement-words) j)
 unfolding Rattle.format.specs.Bundle.all-formed
 formed-split n ws at zero j =
-    let e : at + 0 * 10 ≡ at = omega arith in
+    let e : at + 0 * statement-words ≡ at = omega arith in
     let z : 0 + j ≡ j = omega arith in
     rw (e, z)
 formed-split n ws at (suc k) j =
-    let e : at + suc k * 10 ≡ at + 10 + k * 10 = omega arith in
+    let e : at + suc k * statement-words ≡ at + statement-words + k * statement-words = omega arith in
     let f : suc k + j ≡ suc (k + j) = omega arith in
-    rw (e, f, formed-split n ws (at + 10) k j) (sym (and-assoc (formed n (fields-at ws at)) (all-formed n ws (at + 10) k) (all-formed n ws (at + 10 + k * 10) j)))
+    rw (e, f, formed-split n ws (at + statement-words) k j) (sym (and-assoc (formed n (fields-at ws at)) (all-formed n ws (at + statement-words) k) (all-formed n ws (at + statement-words + k * statement-words) j)))
 
 pub some-split : (p : Statement → Bool) (ws : List ℕ) (at k j : ℕ)
     → some p (statements ws at (k + j)) ≡ (some p (statements ws at k) || some p (statements ws (at + k * statement-words) j))
 unfolding some Rattle.format.specs.Statement.statements
 some-split p ws at zero j =
-    let e : at + 0 * 10 ≡ at = omega arith in
+    let e : at + 0 * statement-words ≡ at = omega arith in
     let z : 0 + j ≡ j = omega arith in
     rw (e, z)
 some-split p ws at (suc k) j =
-    let e : at + suc k * 10 ≡ at + 10 + k * 10 = omega arith in
+    let e : at + suc k * statement-words ≡ at + statement-words + k * statement-words = omega arith in
     let f : suc k + j ≡ suc (k + j) = omega arith in
-    rw (e, f, some-split p ws (at + 10) k j) (sym (or-assoc (p (statement ws at)) (some p (statements ws (at + 10) k)) (some p (statements ws (at + 10 + k * 10) j))))
+    rw (e, f, some-split p ws (at + statement-words) k j) (sym (or-assoc (p (statement ws at)) (some p (statements ws (at + statement-words) k)) (some p (statements ws (at + statement-words + k * statement-words) j))))
 
 -- ---- the rules
 least-zero : (b : ℕ) → least 0 b ≡ 0
@@ -107,8 +107,8 @@ module _ (n : ℕ) (ws : List ℕ) where
     unfolding groups-hold holds
     groups-are have e =
         let c : List Statement = statements ws 11 have in
-        let d : List Statement = statements ws (11 + have * 10) (count - have) in
-        rw (parts-take present-form ws 11 (one .size) count, parts-drop present-form ws 11 (one .size) count, e, rest-is c d, parts-length present-form ws 11 have, parts-length present-form ws (11 + have * 10) (count - have))
+        let d : List Statement = statements ws (place-of 1 + have * statement-words) (count - have) in
+        rw (parts-take present-form ws (place-of 1) (one .size) count, parts-drop present-form ws (place-of 1) (one .size) count, e, rest-is c d, parts-length present-form ws (place-of 1) have, parts-length present-form ws (place-of 1 + have * statement-words) (count - have))
 
     -- the main statement is no INIT
     module _ (k : main-of ws .kind ≡ kind-INIT → ⊥) where
@@ -127,7 +127,7 @@ module _ (n : ℕ) (ws : List ℕ) where
           let c : List Statement = statements ws 11 have in
           rw (rule-is (statements ws 11 count), groups-are have (ap (λ x. least x count) (sym size-is) ∙ e), size-is)
           (tidy (early-toss (main-of ws .kind) (main-of ws .flag) (main-of ws .round)) (in-order one 0 c) (eqb have (one .size)) (spread (main-of ws) c)
-          (eqb (count - have) (second-size (fields-at ws 1) two (some-D-GET c))) (in-order two 0 (statements ws (11 + have * 10) (count - have))))
+          (eqb (count - have) (second-size (fields-at ws 1) two (some-D-GET c))) (in-order two 0 (statements ws (place-of 1 + have * statement-words) (count - have))))
 
     -- it is one, and asks for an empty certificate
     module _ (k : main-of ws .kind ≡ kind-INIT) where
@@ -157,8 +157,8 @@ module _ (n : ℕ) (ws : List ℕ) where
       unfolding Rattle.format.specs.Statement.statements in-order some
       of-init have e =
           let d : List Statement = statements ws 11 count in
-          let rises : eqb count 0 ≡ (eqb count 0 && in-order two 0 d) = rw (parts-length present-form ws 11 count) at (empty-rises two d) in
-          rw (← e, no-toss, no-spread [], no-size, no-second false, init-rule d, parts-length present-form ws 11 count, sub-zero count)
+          let rises : eqb count 0 ≡ (eqb count 0 && in-order two 0 d) = rw (parts-length present-form ws (place-of 1) count) at (empty-rises two d) in
+          rw (← e, no-toss, no-spread [], no-size, no-second false, init-rule d, parts-length present-form ws (place-of 1) count, sub-zero count)
           (not-both (eqb count 0) (in-order two 0 d) ∙ ap not (sym rises))
 
     pub missed-is : (have : ℕ) → least (first-size (fields-at ws (place-of 0)) one) count ≡ have

@@ -29,7 +29,7 @@ two-coded p a b = refl
 
 -- what a code that does not match tells
 pub failed : (p : Prepared) (t : List ℕ) (code : Code) (r : Bool) → length t ≡ statement-words → covered (statement t 0) ≡ getD t 0 0 ∷ getD t 1 0 ∷ []
-    → code ≡ short-code p (take 2 (drop 0 t)) → r ≡ same-words (code-at t 0) (code .words)
+    → code ≡ short-code p (take covered-words (drop 0 t)) → r ≡ same-words (code-at t 0) (code .words)
     → not r ≡ not (verifies (code-from p) (statement t 0))
 unfolding Rattle.format.specs.Statement.verifies
 failed p t code r h c e m =
@@ -52,18 +52,18 @@ pub same-turn : (t code : List ℕ) (i : ℕ) (ok : Bool) → i < code-words →
     ≡ ((ok && eqb (getD t (covered-words + i) 0) (getD code i 0)) && same-words (take (code-words - (i + 1)) (drop (covered-words + (i + 1)) t)) (drop (i + 1) code))
 unfolding same-words
 same-turn t code i ok h l m =
-    let e : 8 - i ≡ suc (8 - (i + 1)) = omega arith in
-    let f : 2 + (i + 1) ≡ suc (2 + i) = omega arith in
-    let p : 2 + i < length t = omega arith in
+    let e : code-words - i ≡ suc (code-words - (i + 1)) = omega arith in
+    let f : covered-words + (i + 1) ≡ suc (covered-words + i) = omega arith in
+    let p : covered-words + i < length t = omega arith in
     let q : i < length code = omega arith in
-    rw (e, drop-cons t (2 + i) 0 p, drop-cons code i 0 q, f, add-one)
-    (sym (and-assoc ok (eqb (getD t (2 + i) 0) (getD code i 0)) (same-words (take (8 - suc i) (drop (suc (2 + i)) t)) (drop (suc i) code))))
+    rw (e, drop-cons t (covered-words + i) 0 p, drop-cons code i 0 q, f, add-one)
+    (sym (and-assoc ok (eqb (getD t (covered-words + i) 0) (getD code i 0)) (same-words (take (code-words - suc i) (drop (suc (covered-words + i)) t)) (drop (suc i) code))))
 
 pub same-end : (l code : List ℕ) (i : ℕ) (ok : Bool) → code-words ≤ i → i ≤ code-words → length code ≡ code-words
     → ok ≡ (ok && same-words (take (code-words - i) l) (drop i code))
 unfolding same-words
 same-end l code i ok p q e =
-    let z : 8 - i ≡ 0 = omega arith in
+    let z : code-words - i ≡ 0 = omega arith in
     let d : i ≡ length code = omega arith in
     rw (z, d, drop-length code) (and-true ok)
   where

@@ -77,7 +77,7 @@ module _ (code : List ℕ → List ℕ) (n : ℕ) (g : Group) (question : ℕ) (
   finds-malformed zero f at p h = h
   finds-malformed (suc k) f at p h =
       ap (λ (r : Findings). r .malformed) (onward f k h)
-      ∙ go (formed n (fields-at ws at)) refl (finds-malformed k (turned code n g question ws f) (at + 10) (next f at p))
+      ∙ go (formed n (fields-at ws at)) refl (finds-malformed k (turned code n g question ws f) (at + statement-words) (next f at p))
     where
       go : (b : Bool) → formed n (fields-at ws at) ≡ b
           → (turned code n g question ws f .malformed ≡ false
@@ -136,8 +136,8 @@ module _ (code : List ℕ → List ℕ) (n : ℕ) (g : Group) (question : ℕ) (
         ones = λ e v. or-nothing (f .one);
       }
   finds (suc k) f at p h a =
-      let b = both (formed n (fields-at ws at)) (all-formed n ws (at + 10) k) a in
+      let b = both (formed n (fields-at ws at)) (all-formed n ws (at + statement-words) k) a in
       let t : Findings = turned code n g question ws f in
-      let ih : Finds code g question t (walked code n g question ws t k) k (statements ws (at + 10) k)
-      = finds k t (at + 10) (next f at p) (bad-turn f at true p (b .0)) (b .1) in
-      rw (onward f k h) (before-turn f t (walked code n g question ws t k) (statement ws at) k (statements ws (at + 10) k) (turn-is f at p (b .0)) ih)
+      let ih : Finds code g question t (walked code n g question ws t k) k (statements ws (at + statement-words) k)
+      = finds k t (at + statement-words) (next f at p) (bad-turn f at true p (b .0)) (b .1) in
+      rw (onward f k h) (before-turn f t (walked code n g question ws t k) (statement ws at) k (statements ws (at + statement-words) k) (turn-is f at p (b .0)) ih)
