@@ -3,7 +3,6 @@ use format::FLAG;
 use format::LAST_ROUND;
 use format::NONE;
 use format::STATEMENT_WORDS;
-use format::Step;
 use modules::Module;
 use station::Stage;
 use station::Station;
@@ -12,20 +11,8 @@ ghost use mathlib.Core.Bool.{true, _&&_};
 ghost use Prim.Native.Nat.{_≤_};
 ghost use Rattle.format.specs.Present.{most-stations, size-fits};
 ghost use Rattle.modules.specs.Present.{module-fits};
-ghost use Rattle.station.specs.Machine.{stage-step};
 ghost use Rattle.station.specs.Present.{stage-fits, fits};
 ghost use Rattle.fitness.specs.Parts.{words-fit};
-
-// The step of a stage.
-pub fn step_in(stage: Stage) -> Step
-    ensures { λ r. ⌜ r .0 ≡ stage-step stage ⌝ }
-{
-    match stage {
-        Stage::Gathering => Step(0),
-        Stage::Proposing(r, _) => Step(2 * (r.0 as u64)),
-        Stage::Voting(r) => Step(2 * (r.0 as u64) + 1),
-    }
-}
 
 // Whether the stage's round is in range, and a proposing station's flag that of its own proposal, whose word 0 is w.
 fn stage_fits(stage: Stage, w: u32) -> bool
@@ -51,7 +38,7 @@ fn words_fit(t: Station, n: u32, number: u32) -> bool
     let id = t.identity;
     let question = id.question;
     let lasting = t.lasting;
-    let step = step_in(stage);
+    let step = stages::step_in(stage);
     let own = number - 1;
     let at = own as usize * STATEMENT_WORDS;
     let a = held_fitness::held_fits(&slots, heard, n, own, question, step);

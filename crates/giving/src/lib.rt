@@ -1,26 +1,18 @@
 // Giving a bundle to a station (document 01, "The station" and "Table of returns"). The contracts cite specs/.
 use modules::Module;
+use station::Answer;
 use station::Station;
 ghost use mathlib.Core.Path.{_≡_};
 ghost use Rattle.hmac.specs.Code.{hmac-code};
 ghost use Rattle.station.specs.Answers.{Answers};
 ghost use Rattle.station.specs.Present.{giving};
-ghost use Rattle.jumping.specs.Jumps.{jumping};
 ghost use Rattle.giving.specs.Gives.{ending-words, after-words};
 
-// What giving answers: the returned number, the word count, the station and the module. The output words are lent.
-pub struct Given {
-    pub number: u32,
-    pub count: usize,
-    pub station: Station,
-    pub after: Module,
-}
-
 // What a call answers that writes no bundle: no word is counted.
-fn no_bundle(number: u32, t: Station, m: Module) -> Given
+fn no_bundle(number: u32, t: Station, m: Module) -> Answer
     ensures { λ r. ⌜ r ≡ record { number = number; count = 0; station = t; after = m } ⌝ }
 {
-    Given {
+    Answer {
         number,
         count: 0,
         station: t,
@@ -29,7 +21,7 @@ fn no_bundle(number: u32, t: Station, m: Module) -> Given
 }
 
 // The step has ended: the station closes, or goes on.
-fn end_step(m: Module, k: Station, coin: u32, out: &mut [u32]) -> Given
+fn end_step(m: Module, k: Station, coin: u32, out: &mut [u32]) -> Answer
     ensures { λ r. ⌜ Answers (ending-words m k coin (now (out .entry))) (r .number) (r .count) (r .station) (r .after) (now (out .exit)) ⌝ }
 {
     let stage = k.stage;
@@ -46,19 +38,11 @@ fn end_step(m: Module, k: Station, coin: u32, out: &mut [u32]) -> Given
         );
     }
     let x = ending::next(stage, m.n, held.heard, &slots, coin);
-    let r = moving::go_on(m, k, x, l, out);
-    let station = r.station;
-    let after = r.after;
-    Given {
-        number: r.number,
-        count: r.count,
-        station,
-        after,
-    }
+    moving::go_on(m, k, x, l, out)
 }
 
 // What follows a bundle that was kept.
-fn taken(m: Module, k: Station, coin: u32, out: &mut [u32]) -> Given
+fn taken(m: Module, k: Station, coin: u32, out: &mut [u32]) -> Answer
     ensures { λ r. ⌜ Answers (after-words m k coin (now (out .entry))) (r .number) (r .count) (r .station) (r .after) (now (out .exit)) ⌝ }
 {
     let held = k.held;
@@ -68,23 +52,8 @@ fn taken(m: Module, k: Station, coin: u32, out: &mut [u32]) -> Given
     end_step(m, k, coin, out)
 }
 
-// A bundle of a later step, given to a station that jumps.
-fn jump_on(m: Module, t: Station, ws: &[u32], coin: u32, out: &mut [u32]) -> Given
-    ensures { λ r. ⌜ Answers (jumping m t (now (ws .entry)) coin (now (out .entry))) (r .number) (r .count) (r .station) (r .after) (now (out .exit)) ⌝ }
-{
-    let j = jumping::jump(m, t, ws, coin, out);
-    let station = j.station;
-    let after = j.after;
-    Given {
-        number: j.number,
-        count: j.count,
-        station,
-        after,
-    }
-}
-
 // Gives a bundle to a station.
-pub fn give(m: Module, t: Station, ws: &[u32], coin: u32, out: &mut [u32]) -> Given
+pub fn give(m: Module, t: Station, ws: &[u32], coin: u32, out: &mut [u32]) -> Answer
     ensures { λ r. ⌜ Answers (giving hmac-code m t (now (ws .entry)) coin (now (out .entry))) (r .number) (r .count) (r .station) (r .after) (now (out .exit)) ⌝ }
 {
     let number = refusal::refusal(m, t, ws, coin, out.len());
@@ -98,7 +67,7 @@ pub fn give(m: Module, t: Station, ws: &[u32], coin: u32, out: &mut [u32]) -> Gi
         lasting.jump,
         format::read_fields(format::word_at(ws, 1)),
     ) {
-        return jump_on(m, t, ws, coin, out);
+        return jumping::jump(m, t, ws, coin, out);
     }
     let k = keeping::keep(t, ws);
     let r = taken(m, k, coin, out);

@@ -256,7 +256,7 @@ fn begin(
 }
 
 // Gives a station the bundle in a spot.
-fn give(s: Site, spot: usize, kept: &[u32; KEPT], out: &mut [u32; OUTPUT_WORDS]) -> giving::Given
+fn give(s: Site, spot: usize, kept: &[u32; KEPT], out: &mut [u32; OUTPUT_WORDS]) -> station::Answer
     requires { ⌜ spot < most-stations * 32 ⌝ }
 {
     let own = s.own;
@@ -270,7 +270,7 @@ fn give(s: Site, spot: usize, kept: &[u32; KEPT], out: &mut [u32; OUTPUT_WORDS])
 }
 
 // A site after a giving that was answered `g`, with a bundle whose main statement has this first word if it was 20 or 21.
-fn after(s: Site, c: Counts, g: giving::Given, word: u32) -> Heard {
+fn after(s: Site, c: Counts, g: station::Answer, word: u32) -> Heard {
     let own = g.after;
     let station = g.station;
     let sent = (g.number == format::SENT) | (g.number == format::SENT_DECIDED);

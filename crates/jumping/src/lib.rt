@@ -1,19 +1,12 @@
 // Jumping (document 02, Job 3): the station enters the step of a given bundle, by that bundle's certificate. The contracts cite specs/.
 use format::Fields;
 use modules::Module;
+use station::Answer;
 use station::Stage;
 use station::Station;
 ghost use mathlib.Core.Path.{_≡_};
 ghost use Rattle.station.specs.Answers.{Answers};
 ghost use Rattle.jumping.specs.Jumps.{value-by, copied-fields, stage-by, jumping};
-
-// What jumping answers: the returned number, the word count, the station and the module. The output words are lent.
-pub struct Jumped {
-    pub number: u32,
-    pub count: usize,
-    pub station: Station,
-    pub after: Module,
-}
 
 // The value of the station's own statement: that of the given one, but for an R-GET proposal, whose value is the call's coin.
 fn own_value(f: Fields, coin: u32) -> u32
@@ -52,14 +45,14 @@ fn stage_of(f: Fields) -> Stage
 }
 
 // Enters the step of the given bundle, or answers 12 and changes nothing.
-pub fn jump(m: Module, t: Station, ws: &[u32], coin: u32, out: &mut [u32]) -> Jumped
+pub fn jump(m: Module, t: Station, ws: &[u32], coin: u32, out: &mut [u32]) -> Answer
     ensures { λ r. ⌜ Answers (jumping m t (now (ws .entry)) coin (now (out .entry))) (r .number) (r .count) (r .station) (r .after) (now (out .exit)) ⌝ }
 {
     let identity = t.identity;
     let given = format::read_fields(format::word_at(ws, 1));
     let f = own_fields(m.station, given, coin);
     if !modules::is_above(m, identity.question, format::step_of(f)) {
-        return Jumped {
+        return Answer {
             number: format::NOT_ABOVE,
             count: 0,
             station: t,
@@ -71,7 +64,7 @@ pub fn jump(m: Module, t: Station, ws: &[u32], coin: u32, out: &mut [u32]) -> Ju
     let s = sending::send_copy(m, identity.question, f, lasting, stage, ws, out);
     let station = s.station;
     let after = s.after;
-    Jumped {
+    Answer {
         number: format::JUMPED,
         count: s.count,
         station,

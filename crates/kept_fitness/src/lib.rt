@@ -15,7 +15,7 @@ ghost use Rattle.format.specs.Group.{quorum};
 ghost use Rattle.format.specs.Lists.{every};
 ghost use Rattle.format.specs.Present.{statement-words, size-fits, statements, all-formed};
 ghost use Rattle.rules.specs.Rules.{holds};
-ghost use Rattle.station.specs.Machine.{round-in, no-group, value-group, kept-for-value as KeptForValue, kept-for-none as KeptForNone};
+ghost use Rattle.station.specs.Machine.{no-group, value-group, kept-for-value as KeptForValue, kept-for-none as KeptForNone};
 ghost use Rattle.station.specs.Fit.{zeros};
 ghost use Rattle.station.specs.Present.{held-in, sites, kept-words, group-fits};
 ghost use Rattle.kept_fitness.specs.Parts.{groups-fit};
@@ -44,17 +44,6 @@ fn value_group(n: u32, stage: Stage, v: u32) -> Group
     }
 }
 
-// The round before the stage's.
-fn round_before_in(stage: Stage) -> Round
-    ensures { λ b. ⌜ b .0 ≡ round-in stage - 1 ⌝ }
-{
-    match stage {
-        Stage::Gathering => Round(0),
-        Stage::Proposing(r, _) => rules::round_before(r),
-        Stage::Voting(r) => rules::round_before(r),
-    }
-}
-
 // The group that is to be kept for a value: that of the lowest-numbered station that supplies it.
 fn kept_for_value(slots: &[u32; SLOTS_WORDS], heard: u32, n: u32, stage: Stage) -> Group
     ensures { λ g. ⌜ g ≡ KeptForValue n stage (held-in heard (now (slots .entry)) 0 sites) ⌝ }
@@ -76,7 +65,7 @@ fn kept_for_none(slots: &[u32; SLOTS_WORDS], heard: u32, n: u32, stage: Stage) -
     if found == 0 {
         return no_group();
     }
-    rules::votes_for_none(n, round_before_in(stage))
+    rules::votes_for_none(n, stages::round_before_in(stage))
 }
 
 // Whether the words are, from the first on, as many statements as the group asks for and as it asks for them.

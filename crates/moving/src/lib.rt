@@ -5,6 +5,7 @@ use format::Fields;
 use format::Round;
 use modules::Module;
 use sending::Sent;
+use station::Answer;
 use station::Groups;
 use station::KEPT_WORDS;
 use station::Lasting;
@@ -12,15 +13,7 @@ use station::Station;
 ghost use mathlib.Core.Path.{_≡_};
 ghost use Rattle.station.specs.Answers.{Answers};
 ghost use Rattle.sending.specs.Sent.{sent-count, sent-lent, sent-bundle, sent-station, sent-after};
-ghost use Rattle.moving.specs.Moves.{group-by, count-by, answer as Answer, moving};
-
-// What going on answers: the returned number, the word count, the station and the module. The output words are lent.
-pub struct Moved {
-    pub number: u32,
-    pub count: usize,
-    pub station: Station,
-    pub after: Module,
-}
+ghost use Rattle.moving.specs.Moves.{group-by, count-by, answer as the-answer, moving};
 
 // The kept group that can stand in the certificate.
 fn group_by(kept: Kept, groups: Groups) -> [u32; KEPT_WORDS]
@@ -52,7 +45,7 @@ fn count_by(kept: Kept, n: u32, v: u32) -> u32
 
 // 21 where this call decides first, else 20.
 fn answer(old: u32, d: u32) -> u32
-    ensures { λ r. ⌜ r ≡ Answer old d ⌝ }
+    ensures { λ r. ⌜ r ≡ the-answer old d ⌝ }
 {
     if (old < format::NONE) | (d == format::NONE) {
         return format::SENT;
@@ -104,7 +97,7 @@ fn own_fields(number: u32, kind: u32, value: u32, flag: u32, round: Round) -> Fi
 }
 
 // Sends what follows, or answers 12 and changes nothing.
-pub fn go_on(m: Module, k: Station, x: Following, l: Lasting, out: &mut [u32]) -> Moved
+pub fn go_on(m: Module, k: Station, x: Following, l: Lasting, out: &mut [u32]) -> Answer
     ensures { λ r. ⌜ Answers (moving m k x l (now (out .entry))) (r .number) (r .count) (r .station) (r .after) (now (out .exit)) ⌝ }
 {
     let identity = k.identity;
@@ -112,7 +105,7 @@ pub fn go_on(m: Module, k: Station, x: Following, l: Lasting, out: &mut [u32]) -
     let round = x.round;
     let f = own_fields(m.station, x.kind, x.value, x.flag, round);
     if !modules::is_above(m, identity.question, format::step_of(f)) {
-        return Moved {
+        return Answer {
             number: format::NOT_ABOVE,
             count: 0,
             station: k,
@@ -122,7 +115,7 @@ pub fn go_on(m: Module, k: Station, x: Following, l: Lasting, out: &mut [u32]) -
     let s = send_next(m, k, x, f, l, out);
     let station = s.station;
     let after = s.after;
-    Moved {
+    Answer {
         number: answer(old.decision, l.decision),
         count: s.count,
         station,

@@ -3,6 +3,7 @@ use format::Fields;
 use format::Round;
 use format::Step;
 use modules::Module;
+use station::Answer;
 use station::Identity;
 use station::KEPT_WORDS;
 use station::SLOTS_WORDS;
@@ -15,14 +16,6 @@ ghost use Rattle.format.specs.Numbers.{kind-INIT, D-GET};
 ghost use Rattle.station.specs.Answers.{Answers};
 ghost use Rattle.station.specs.Present.{opening, no-station};
 ghost use Rattle.opening.specs.Opens.{tests, open-refusal};
-
-// What opening answers: the returned number, the word count, the station and the module. The output words are lent.
-pub struct Opened {
-    pub number: u32,
-    pub count: usize,
-    pub station: Station,
-    pub after: Module,
-}
 
 // The number of the first test that fails, in the table's order, or 0.
 fn first(room: bool, range: bool, later: bool) -> u32
@@ -76,12 +69,12 @@ fn init(number: u32, proposal: u32) -> Fields
 }
 
 // Opens a station on a question, with jump off (0) or on (1): its INIT is sent, and it gathers.
-pub fn open(m: Module, question: u32, proposal: u32, jump: u32, out: &mut [u32]) -> Opened
+pub fn open(m: Module, question: u32, proposal: u32, jump: u32, out: &mut [u32]) -> Answer
     ensures { λ r. ⌜ Answers (opening hmac-code m question proposal jump (now (out .entry))) (r .number) (r .count) (r .station) (r .after) (now (out .exit)) ⌝ }
 {
     let number = refusal(m, question, proposal, jump, out.len());
     if number != 0 {
-        return Opened {
+        return Answer {
             number,
             count: 0,
             station: none(),
@@ -106,7 +99,7 @@ pub fn open(m: Module, question: u32, proposal: u32, jump: u32, out: &mut [u32])
     );
     let station = s.station;
     let after = s.after;
-    Opened {
+    Answer {
         number: format::SENT,
         count: s.count,
         station,

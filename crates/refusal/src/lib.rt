@@ -39,7 +39,7 @@ fn conflicts(slots: &[u32; SLOTS_WORDS], heard: u32, stage: Stage, value: u32, f
 pub fn jumps(stage: Stage, jump: bool, f: Fields) -> bool
     ensures { λ r. ⌜ r ≡ jumps-by stage jump f ⌝ }
 {
-    let own = fitness::step_in(stage);
+    let own = stages::step_in(stage);
     let step = format::step_of(f);
     jump & (own.0 < step.0)
 }
@@ -68,7 +68,7 @@ fn step_refusal(slots: &[u32; SLOTS_WORDS], heard: u32, stage: Stage, jump: bool
     requires { ⌜ 1 ≤ f .station ⌝ }
     ensures { λ r. ⌜ r ≡ step-refused stage jump heard (held-in heard (now (slots .entry)) 0 sites) f ⌝ }
 {
-    let own = fitness::step_in(stage);
+    let own = stages::step_in(stage);
     let step = format::step_of(f);
     let held = held::in_set(heard, f.station - 1);
     let clash = conflicts(slots, heard, stage, f.value, f.flag);

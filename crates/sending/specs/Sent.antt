@@ -2,10 +2,9 @@
 use Prim.Native.Nat.{ℕ}
 use mathlib.Core.List.{List, _++_}
 use lib.Dec.{eqb}
-use lib.ListN.{length, take, drop, replicate}
+use lib.ListN.{length, take, drop}
 use Rattle.laws.specs.Pick.{pick}
 use Rattle.format.specs.declared.Fields.{Fields}
-use Rattle.format.specs.Numbers.{code-words}
 use Rattle.format.specs.Words.{word-of}
 use Rattle.format.specs.Present.{statement-words}
 use Rattle.hmac.specs.Code.{hmac-code}
@@ -26,7 +25,7 @@ sent-count set k out = count-after (length out) set k
 -- the lent words with the statement of these fields, not coded yet: zeros stand where its code will; behind it the held statements of the set, and k
 -- statements of a kept group
 unfoldable pub drafted : ℕ → Fields → List ℕ → ℕ → List ℕ → ℕ → List ℕ → List ℕ
-drafted question f slots set group k out = lent-after (word-of f) question (replicate code-words 0) slots set group k out
+drafted question f slots set group k out = lent-after (word-of f) question slots set group k out
 
 -- the module's call on the statement's words, by the way that is for it: with its value as the coin where it is an R-GET, else plain
 unfoldable pub asked : Module → Fields → List ℕ → Coded

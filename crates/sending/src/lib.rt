@@ -79,8 +79,7 @@ pub fn send(
         × (now (out .exit) ≡ sent-lent m question f (now (slots .entry)) set (now (group .entry)) k (now (out .entry))) ⌝ }
 {
     let w0 = format::write_fields(f);
-    let blank_code = [0u32; format::CODE_WORDS];
-    let count = writer::write_bundle(out, w0, question, &blank_code, slots, set, group, k);
+    let count = writer::write_bundle(out, w0, question, slots, set, group, k);
     let after = code_main(m, f, count, out);
     let station = begin(m, question, lasting, stage, out, count);
     Sent {

@@ -2,6 +2,7 @@
 use format::MOST_STATIONS;
 use format::Round;
 use format::STATEMENT_WORDS;
+use modules::Module;
 
 // A slot of a statement for each station that a group may have, and as many statements as the largest quorum.
 pub const SLOTS_WORDS: usize = MOST_STATIONS as usize * STATEMENT_WORDS;
@@ -48,4 +49,12 @@ pub struct Station {
     pub lasting: Lasting,
     pub held: Held,
     pub groups: Groups,
+}
+
+// What a call on a station answers: the returned number, the word count, the station and the module. The output words are lent.
+pub struct Answer {
+    pub number: u32,
+    pub count: usize,
+    pub station: Station,
+    pub after: Module,
 }

@@ -5,7 +5,6 @@ use modules::Module;
 use station::Stage;
 use station::Station;
 ghost use mathlib.Core.Path.{_≡_};
-ghost use Rattle.station.specs.Machine.{round-in};
 ghost use Rattle.status.specs.Status.{decision-on, nothing, status};
 
 // What reading answers: the returned number; the decision on the question asked for, or none (2); the stage, its round, and whether the station is closed.
@@ -15,17 +14,6 @@ pub struct Status {
     pub stage: Stage,
     pub round: Round,
     pub closed: bool,
-}
-
-// The round of a stage.
-fn round_in(stage: Stage) -> Round
-    ensures { λ r. ⌜ r ≡ record { 0 = round-in stage } ⌝ }
-{
-    match stage {
-        Stage::Gathering => Round(0),
-        Stage::Proposing(r, _) => r,
-        Stage::Voting(r) => r,
-    }
 }
 
 // The station's decision, if it is on this question.
@@ -62,7 +50,7 @@ pub fn read(m: Module, t: Station, question: u32) -> Status
     }
     let stage = t.stage;
     let decision = decision_on(t, question);
-    let round = round_in(stage);
+    let round = stages::round_in(stage);
     Status {
         number: 0,
         decision,

@@ -246,7 +246,7 @@ pub fn shown_step(w: World, s: u32) -> Step
     let stations = w.stations;
     let t = station_at(stations, s);
     let stage = t.stage;
-    fitness::step_in(stage)
+    stages::step_in(stage)
 }
 
 // The decision that an event on station s prints.

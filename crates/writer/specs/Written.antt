@@ -4,7 +4,7 @@ use mathlib.Core.Bool.{Bool, _&&_}
 use mathlib.Core.List.{List, [], _∷_, _++_}
 use lib.Count.{ones}
 use lib.Dec.{ltb, leb}
-use lib.ListN.{length, getD, set}
+use lib.ListN.{length, getD, set, replicate}
 use Rattle.laws.specs.Pick.{pick}
 use Rattle.laws.specs.Sets.{bit}
 use Rattle.laws.specs.Over.{over}
@@ -25,23 +25,23 @@ held-words set slots i zero = []
 held-words set slots i (suc k) =
     pick (bit set i) (part statement-words (i * statement-words) slots ++ held-words set slots (suc i) k) (held-words set slots (suc i) k)
 
--- the head word and the main statement's ten words
-unfoldable pub main-words : ℕ → ℕ → ℕ → List ℕ → List ℕ
-main-words count w0 question code = (head-mark * 2 ^ mark-bit + count) ∷ w0 ∷ question ∷ part code-words 0 code
+-- the head word and the main statement's ten words: zeros stand where its code will
+unfoldable pub main-words : ℕ → ℕ → ℕ → List ℕ
+main-words count w0 question = (head-mark * 2 ^ mark-bit + count) ∷ w0 ∷ question ∷ replicate code-words 0
 
 -- head and main statement, the held statements of the set, and behind them k statements of a kept group
-unfoldable pub words-of : ℕ → ℕ → List ℕ → List ℕ → ℕ → List ℕ → ℕ → List ℕ
-words-of w0 question code slots set group k =
-    main-words (ones set + k) w0 question code ++ held-words set slots 0 sites ++ part (k * statement-words) 0 group
+unfoldable pub words-of : ℕ → ℕ → List ℕ → ℕ → List ℕ → ℕ → List ℕ
+words-of w0 question slots set group k =
+    main-words (ones set + k) w0 question ++ held-words set slots 0 sites ++ part (k * statement-words) 0 group
 
 -- what is lent has room for every bundle, the set names stations only, and a bundle has room for the statements
 unfoldable pub writable : ℕ → ℕ → ℕ → ℕ → Bool
 writable lent set count k = leb output-words lent && ltb set (2 ^ sites) && leb k (quorum sites) && leb (count + k) most-statements
 
 -- the lent words behind the call, and the word count: where the bundle cannot be written no word is changed
-unfoldable pub lent-after : ℕ → ℕ → List ℕ → List ℕ → ℕ → List ℕ → ℕ → List ℕ → List ℕ
-lent-after w0 question code slots set group k out =
-    pick (writable (length out) set (ones set) k) (over (words-of w0 question code slots set group k) out) out
+unfoldable pub lent-after : ℕ → ℕ → List ℕ → ℕ → List ℕ → ℕ → List ℕ → List ℕ
+lent-after w0 question slots set group k out =
+    pick (writable (length out) set (ones set) k) (over (words-of w0 question slots set group k) out) out
 
 unfoldable pub count-after : ℕ → ℕ → ℕ → ℕ
 count-after lent set k = pick (writable lent set (ones set) k) (bundle-words (ones set + k)) 0

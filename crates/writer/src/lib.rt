@@ -66,14 +66,15 @@ fn write_group(out: &mut [u32], group: &[u32; KEPT_WORDS], k: usize)
     copy_words(out, &group[..], 0, k * STATEMENT_WORDS);
 }
 
-// Writes the head word and the main statement at the front of the lent words.
-fn write_main(out: &mut [u32], count: u32, w0: u32, question: u32, code: &[u32; CODE_WORDS])
+// Writes the head word and the main statement at the front of the lent words: zeros stand where its code will.
+fn write_main(out: &mut [u32], count: u32, w0: u32, question: u32)
     requires { ⌜ (count ≤ most-statements) × (place-of 1 ≤ length (now out)) ⌝ }
-    ensures { λ _. ⌜ now (out .exit) ≡ over (main-words count w0 question (now (code .entry))) (now (out .entry)) ⌝ }
+    ensures { λ _. ⌜ now (out .exit) ≡ over (main-words count w0 question) (now (out .entry)) ⌝ }
 {
     out[0] = HEAD + count;
     out[1] = w0;
     out[2] = question;
+    let code = [0u32; CODE_WORDS];
     copy_words(&mut out[3..], &code[..], 0, CODE_WORDS);
 }
 
@@ -92,7 +93,6 @@ fn write_parts(
     out: &mut [u32],
     w0: u32,
     question: u32,
-    code: &[u32; CODE_WORDS],
     slots: &[u32; SLOTS_WORDS],
     set: u32,
     count: u32,
@@ -100,35 +100,34 @@ fn write_parts(
     k: u32,
 ) -> usize
     requires { ⌜ (output-words ≤ length (now out)) × (set < 2 ^ sites) × (k ≤ quorum sites) × (count + k ≤ most-statements) × (count ≡ ones set) ⌝ }
-    ensures { λ r. ⌜ (r ≡ bundle-words (count + k)) × (now (out .exit) ≡ over (words-of w0 question (now (code .entry)) (now (slots .entry)) set (now (group .entry)) k) (now (out .entry))) ⌝ }
+    ensures { λ r. ⌜ (r ≡ bundle-words (count + k)) × (now (out .exit) ≡ over (words-of w0 question (now (slots .entry)) set (now (group .entry)) k) (now (out .entry))) ⌝ }
 {
     let at = CERTIFICATE_AT + (count as usize) * STATEMENT_WORDS;
     let n = k as usize;
-    write_main(out, count + k, w0, question, code);
+    write_main(out, count + k, w0, question);
     write_held(&mut out[CERTIFICATE_AT..], slots, set);
     write_group(&mut out[at..], group, n);
     at + n * STATEMENT_WORDS
 }
 
-// Writes a bundle: the main statement, behind it the held statements of the set, and behind these the first k statements of a kept group. It
+// Writes a bundle: the main statement, not coded yet, behind it the held statements of the set, and behind these the first k statements of a kept group. It
 // answers the word count, and changes nothing where the bundle cannot be written.
 pub fn write_bundle(
     out: &mut [u32],
     w0: u32,
     question: u32,
-    code: &[u32; CODE_WORDS],
     slots: &[u32; SLOTS_WORDS],
     set: u32,
     group: &[u32; KEPT_WORDS],
     k: u32,
 ) -> usize
-    ensures { λ r. ⌜ (r ≡ count-after (length (now (out .entry))) set k) × (now (out .exit) ≡ lent-after w0 question (now (code .entry)) (now (slots .entry)) set (now (group .entry)) k (now (out .entry))) ⌝ }
+    ensures { λ r. ⌜ (r ≡ count-after (length (now (out .entry))) set k) × (now (out .exit) ≡ lent-after w0 question (now (slots .entry)) set (now (group .entry)) k (now (out .entry))) ⌝ }
 {
     let count = held::number_of(set);
     if !writable(out.len(), set, count, k) {
         return 0;
     }
-    write_parts(out, w0, question, code, slots, set, count, group, k)
+    write_parts(out, w0, question, slots, set, count, group, k)
 }
 
 // Writes a given bundle with another word 0 of its main statement. It answers the word count, and changes nothing where there is no main statement or no

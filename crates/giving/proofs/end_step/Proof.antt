@@ -43,7 +43,7 @@ same-length c = search needs
 
 returns-2 : tie.Need-returns-2
 returns-2 c =
-    let g = c .before .before .before .before in
+    let g = c .before .before in
     let x = g .before .before in
     let i = x .before .before in
     let d = i .before .before in

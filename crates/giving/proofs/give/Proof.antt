@@ -55,8 +55,8 @@ read-fields-requires c κs = search needs
 jumps-requires : tie.Need-jumps-requires
 jumps-requires c κs = search needs
 
-jump-on-requires : tie.Need-jump-on-requires
-jump-on-requires c κs = search needs
+jump-requires : tie.Need-jump-requires
+jump-requires c κs = search needs
 
 same-length : tie.Need-same-length
 same-length c = search needs
@@ -74,7 +74,7 @@ returns-2 c =
     give-jump (a .m) (a .t) (a .ws .now) (a .coin) (a .out .now) (lengths s) (λ i. e .before .before .shared-slice-known .given i .fits) _ _ _ _ _
     (none-found (a .m) (a .t) (a .ws .now) (a .coin) (a .out .now) _ (e .refusal .ensures) (w .before .before .if1 .left))
     (sym (jumps-found (a .m) (a .t) (a .ws .now) (a .coin) (a .out .now) _ _ _ (w .word-at .ensures) (f .read-fields .ensures) (b .jumps .ensures)) ∙ i .if2 .taken)
-    (j .jump-on .ensures) (λ i. c .slice-known2 .given i .fits)
+    (j .jump .ensures) (λ i. c .slice-known2 .given i .fits)
 
 keep-requires : tie.Need-keep-requires
 keep-requires c κs = search needs
@@ -132,7 +132,7 @@ give-spec =
     word-at-requires
     read-fields-requires
     jumps-requires
-    jump-on-requires
+    jump-requires
     same-length
     returns-2
     keep-requires

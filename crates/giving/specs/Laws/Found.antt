@@ -10,6 +10,7 @@ use Rattle.format.specs.Numbers.{closed-now, kept}
 use Rattle.format.specs.Group.{quorum}
 use Rattle.format.specs.Present.{last-round}
 use Rattle.modules.specs.declared.Module.{Module}
+use Rattle.station.specs.declared.Answer.{Answer}
 use Rattle.station.specs.declared.Lasting.{Lasting}
 use Rattle.station.specs.declared.Station.{Station}
 use Rattle.station.specs.Machine.{closes, lasting-at}
@@ -18,15 +19,14 @@ use Rattle.station.specs.Answers.{Answers}
 use Rattle.station.specs.Present.{held-by}
 use Rattle.ending.specs.declared.Following.{Following}
 use Rattle.ending.specs.After.{next-by}
-use Rattle.giving.specs.declared.Given.{Given}
 use Rattle.moving.specs.Moves.{with-no-bundle, moving}
 use Rattle.moving.specs.Laws.Found.{answers-by, answers-same}
 use Rattle.giving.specs.Gives.{shut-words, ending-words, after-words}
 
 -- where no bundle is written
-pub answers-none : (y : Returned) (r : Given) (number : ℕ) (t : Station) (m : Module) (lent : List ℕ) → r ≡ record { number = number; count = 0; station = t; after = m }
+pub answers-none : (y : Returned) (r : Answer) (number : ℕ) (t : Station) (m : Module) (lent : List ℕ) → r ≡ record { number = number; count = 0; station = t; after = m }
     → Answers y number 0 t m lent → Answers y (r .number) (r .count) (r .station) (r .after) lent
-answers-none y r number t m lent e a = subst (λ (z : Given). Answers y (z .number) (z .count) (z .station) (z .after) lent) (sym e) a
+answers-none y r number t m lent e a = subst (λ (z : Answer). Answers y (z .number) (z .count) (z .station) (z .after) lent) (sym e) a
 
 -- the end of a step
 module _ (m : Module) (k : Station) (coin : ℕ) (out : List ℕ) where

@@ -6,12 +6,11 @@ use mathlib.Core.Path.{_≡_, refl, ap, _∙_}
 use native.Mathlib.Omega.{arith}
 use lib.Count.{ones}
 use lib.Dec.{leb}
-use lib.ListN.{length, take, replicate}
+use lib.ListN.{length, take}
 use borrow.Author.Tests.{eq-eqb, ne-eqb, leb-true}
 use Rattle.laws.specs.Pick.{pick, here, skip}
 use Rattle.laws.specs.Bools.{both}
 use Rattle.format.specs.declared.Fields.{Fields}
-use Rattle.format.specs.Numbers.{code-words}
 use Rattle.format.specs.Words.{word-of}
 use Rattle.format.specs.Present.{bundle-words, place-of}
 use Rattle.hmac.specs.Code.{hmac-code}
@@ -47,14 +46,14 @@ main-fits lent set k h = go (writable lent set (ones set) k) refl h
 -- what the calls of `send` answer, put together
 pub sent-all : (m : Module) (q : ℕ) (f : Fields) (l : Lasting) (g : Stage) (slots : List ℕ) (set : ℕ) (group : List ℕ) (k : ℕ) (out : List ℕ) (w0 : ℕ) (count : ℕ)
     (t : Station) (after : Module) (xs ys : List ℕ)
-    → w0 ≡ word-of f → (count ≡ count-after (length out) set k) × (xs ≡ lent-after w0 q (replicate code-words 0) slots set group k out)
+    → w0 ≡ word-of f → (count ≡ count-after (length out) set k) × (xs ≡ lent-after w0 q slots set group k out)
     → (after ≡ coded-after m f count xs) × (ys ≡ coded-lent m f count xs) → t ≡ sent-station m q l g (take count ys)
     → (count ≡ sent-count set k out) × (t ≡ sent-station m q l g (sent-bundle m q f slots set group k out)) × (after ≡ sent-after m q f slots set group k out)
     × (ys ≡ sent-lent m q f slots set group k out)
 unfolding sent-count sent-bundle sent-after sent-lent drafted
 sent-all m q f l g slots set group k out w0 count t after xs ys ew ecx eay et =
-    let x : xs ≡ lent-after (word-of f) q (replicate 8 0) slots set group k out = rw (← ew) (ecx .1) in
-    let y : ys ≡ coded-lent m f (count-after (length out) set k) (lent-after (word-of f) q (replicate 8 0) slots set group k out) = rw (← x, ← ecx .0) (eay .1) in
+    let x : xs ≡ lent-after (word-of f) q slots set group k out = rw (← ew) (ecx .1) in
+    let y : ys ≡ coded-lent m f (count-after (length out) set k) (lent-after (word-of f) q slots set group k out) = rw (← x, ← ecx .0) (eay .1) in
     (ecx .0, rw (← y, ← ecx .0) et, rw (← x, ← ecx .0) (eay .0), y)
 
 -- the same of `send_copy`

@@ -20,7 +20,7 @@ returns c =
     let n = w .before in
     let a = n .before .before .args in
     let e : writable (length (a .out .now)) (a .set) (n .number-of .result) (a .k) ≡ false = not-is-true (w .writable .result) _ (w .writable .ensures) (c .if1 .taken) in
-    not-written (a .w0) (a .question) (a .code .now) (a .slots .now) (a .set) (a .group .now) (a .k) (a .out .now) (n .number-of .result) (n .number-of .ensures) e
+    not-written (a .w0) (a .question) (a .slots .now) (a .set) (a .group .now) (a .k) (a .out .now) (n .number-of .result) (n .number-of .ensures) e
 
 write-parts-requires : tie.Need-write-parts-requires
 write-parts-requires c κs =
@@ -41,7 +41,7 @@ returns-2 c =
     let n = w .before in
     let a = n .before .before .args in
     let e : writable (length (a .out .now)) (a .set) (n .number-of .result) (a .k) ≡ true = not-is-false (w .writable .result) _ (w .writable .ensures) (p .before .before .if1 .left) in
-    let o = is-written (a .w0) (a .question) (a .code .now) (a .slots .now) (a .set) (a .group .now) (a .k) (a .out .now) (n .number-of .result) (n .number-of .ensures) e in
+    let o = is-written (a .w0) (a .question) (a .slots .now) (a .set) (a .group .now) (a .k) (a .out .now) (n .number-of .result) (n .number-of .ensures) e in
     (p .write-parts .ensures .0 ∙ o .0, p .write-parts .ensures .1 ∙ o .1)
 
 pub write-bundle-spec : {M : Type 1} → statement M

@@ -15,10 +15,10 @@ use Rattle.writer.proofs.write_main.Tie as tie
 done : (d : tie.After-copy-words) →
     let a = d .before .before .before .before .args in
     let xs = set (set (set (a .out .now) 0 (3 * 2 ^ 30 + a .count)) 1 (a .w0)) 2 (a .question) in
-    putMid 3 (length xs - 3) xs (d .copy-words .last .0) ≡ over (main-words (a .count) (a .w0) (a .question) (a .code .now)) (a .out .now)
+    putMid 3 (length xs - 3) xs (d .copy-words .last .0) ≡ over (main-words (a .count) (a .w0) (a .question)) (a .out .now)
 done d =
     let a = d .before .before .before .before .args in
-    main-done (a .count) (a .w0) (a .question) (a .code .now) (a .out .now) (d .copy-words .last .0) _ (search needs) refl (d .copy-words .ensures)
+    main-done (a .count) (a .w0) (a .question) (a .out .now) (d .copy-words .last .0) _ (search needs) refl (d .copy-words .ensures)
 
 add-out : tie.Need-add-out
 add-out c = search needs
@@ -41,14 +41,17 @@ part-copy-words-start c = simp length-set (omega arith)
 part-copy-words-end : tie.Need-part-copy-words-end
 part-copy-words-end c = search needs
 
+slice-aggregate-copy-words : tie.Need-slice-aggregate-copy-words
+slice-aggregate-copy-words c = search needs
+
 copy-words-requires : tie.Need-copy-words-requires
 copy-words-requires c κs = simp (length-take, length-drop, length-set) (omega arith)
 
 same-length : tie.Need-same-length
 same-length c =
     let a = c .before .before .before .before .before .before .args in
-    ap length (done (c .before .before)) ∙ length-over (main-words (a .count) (a .w0) (a .question) (a .code .now)) (a .out .now)
-    (omega (arith, length-main (a .count) (a .w0) (a .question) (a .code .now)))
+    ap length (done (c .before .before)) ∙ length-over (main-words (a .count) (a .w0) (a .question)) (a .out .now)
+    (omega (arith, length-main (a .count) (a .w0) (a .question)))
 
 returns : tie.Need-returns
 returns c = done (c .before .before)
@@ -64,6 +67,7 @@ write-main-spec =
     sub-copy-words
     part-copy-words-start
     part-copy-words-end
+    slice-aggregate-copy-words
     copy-words-requires
     same-length
     returns)

@@ -67,16 +67,16 @@ returns c =
     let e = d .before .before .before .before in
     let m = e .before .before .before .before in
     let a = m .before .before .before .args in
-    let p = main-words (a .count + a .k) (a .w0) (a .question) (a .code .now) in
+    let p = main-words (a .count + a .k) (a .w0) (a .question) in
     let h = held-words (a .set) (a .slots .now) 0 31 in
     let g = part (a .k * 10) 0 (a .group .now) in
     let n : a .count ≡ ones (a .set) = m .before .before .before .pre .4 in
     let x : length h ≡ ones (a .set) * 10 = held-length (a .set) (a .slots .now) (m .before .before .before .pre .1) in (
       omega arith,
       parts-done p h g (a .out .now) (m .write-main .last .0) (e .write-held .last .0) (d .write-group .last .0) (11 + a .count * 10) _ _
-          (m .write-main .ensures) (length-main (a .count + a .k) (a .w0) (a .question) (a .code .now)) (omega arith) (omega arith) refl (e .write-held .ensures) refl
+          (m .write-main .ensures) (length-main (a .count + a .k) (a .w0) (a .question)) (omega arith) (omega arith) refl (e .write-held .ensures) refl
           (d .write-group .ensures)
-          ∙ ap (λ (y : ℕ). over (main-words (y + a .k) (a .w0) (a .question) (a .code .now) ++ h ++ g) (a .out .now)) n,
+          ∙ ap (λ (y : ℕ). over (main-words (y + a .k) (a .w0) (a .question) ++ h ++ g) (a .out .now)) n,
     )
 
 pub write-parts-spec : {M : Type 1} → statement M

@@ -47,9 +47,6 @@ part-is n at l p rest e d =
     let room : n ≤ length (drop at l) = rw (d, length-append p rest) (omega arith) in
     part-take n at l room ∙ ap (take n) d ∙ take-at p rest n e
 
-pub part-whole : (n : ℕ) (l : List ℕ) → length l ≡ n → part n 0 l ≡ l
-part-whole n l e = part-is n 0 l l [] e (sym (append-nil l))
-
 -- ---- the held statements
 -- the slot of a statement's station has its words
 abbrev pub InSlot : List ℕ → Statement → Type 0
@@ -133,14 +130,13 @@ module _ (n : ℕ) (first second : List Statement) (slots group : List ℕ) (C :
   number : ones (set-of first) + length second ≡ length (first ++ second)
   number = omega (arith, ones-set first (C .rising), length-append first second)
 
-  pub words-bundle : (s : Statement) → length (s .code) ≡ code-words
-      → words-of (word-0 s) (s .question) (s .code) slots (set-of first) group (length second) ≡ bundle-of s (first ++ second)
+  pub words-bundle : (s : Statement) → s .code ≡ replicate code-words 0
+      → words-of (word-0 s) (s .question) slots (set-of first) group (length second) ≡ bundle-of s (first ++ second)
   unfolding words-of main-words Rattle.format.specs.Bundle.bundle-of
   words-bundle s e =
-      let m : part 8 0 (s .code) ≡ s .code = part-whole 8 (s .code) e in
       let h : held-words (set-of first) slots 0 sites ≡ all-written first = held-written first slots (C .rising) low (C .slotted) in
       let g : part (length second * 10) 0 group ≡ all-written second = group-written n second group (C .rest) (C .more-proper) (C .kept) in
-      (λ i. ((3 * 2 ^ 30 + number i) ∷ word-0 s ∷ s .question ∷ m i) ++ h i ++ g i)
+      (λ i. ((3 * 2 ^ 30 + number i) ∷ word-0 s ∷ s .question ∷ sym e i) ++ h i ++ g i)
       ∙ append-assoc ((3 * 2 ^ 30 + length (first ++ second)) ∷ written s) (all-written first) (all-written second)
       ∙ ap (λ (x : List ℕ). (3 * 2 ^ 30 + length (first ++ second)) ∷ (written s ++ x)) (sym (all-written-append first second))
 
@@ -155,8 +151,8 @@ module _ (n : ℕ) (first second : List Statement) (slots group : List ℕ) (C :
       (le-leb (ones (set-of first) + length second) 32 f)
 
   -- the lent words and the word count, as the table of returns has them
-  pub lent-bundle : (s : Statement) → length (s .code) ≡ code-words → (out : List ℕ) → output-words ≤ length out
-      → lent-after (word-0 s) (s .question) (s .code) slots (set-of first) group (length second) out ≡ over (bundle-of s (first ++ second)) out
+  pub lent-bundle : (s : Statement) → s .code ≡ replicate code-words 0 → (out : List ℕ) → output-words ≤ length out
+      → lent-after (word-0 s) (s .question) slots (set-of first) group (length second) out ≡ over (bundle-of s (first ++ second)) out
   unfolding lent-after
   lent-bundle s e out room =
       sym (here (writable (length out) (set-of first) (ones (set-of first)) (length second)) _ _ (can-write (length out) room))

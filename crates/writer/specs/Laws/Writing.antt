@@ -5,7 +5,7 @@ use mathlib.Core.Bool.{Bool, true, false, not, _&&_}
 use mathlib.Core.List.{List, [], _∷_, _++_, append-assoc, append-nil}
 use lib.Count.{ones, ones-cat, ones-ones}
 use lib.Dec.{ltb, leb}
-use lib.ListN.{length, take, drop, set, getD, length-append, length-set}
+use lib.ListN.{length, take, drop, set, getD, replicate, length-append, length-set}
 use lib.Pow.{pow-pos, mod-pow-add}
 use lib.Seq.{take-length, take-suc}
 use borrow.Rule.Slice.PartMut.{putMid}
@@ -124,18 +124,18 @@ main-begin count w0 question out h =
     ∙ ap (λ (x : List ℕ). set x 2 question) (over-snoc (head ∷ []) w0 out 1 refl (omega arith))
     ∙ over-snoc (head ∷ w0 ∷ []) question out 2 refl (omega arith)
 
-pub main-done : (count w0 question : ℕ) (code out ys : List ℕ) (k : ℕ) → place-of 1 ≤ length out
+pub main-done : (count w0 question : ℕ) (out ys : List ℕ) (k : ℕ) → place-of 1 ≤ length out
     → k ≡ length (set (set (set out 0 (head-mark * 2 ^ mark-bit + count)) 1 w0) 2 question) - 3
-    → ys ≡ over (part code-words 0 code) (take k (drop 3 (set (set (set out 0 (head-mark * 2 ^ mark-bit + count)) 1 w0) 2 question)))
-    → putMid 3 k (set (set (set out 0 (head-mark * 2 ^ mark-bit + count)) 1 w0) 2 question) ys ≡ over (main-words count w0 question code) out
-unfolding main-words
-main-done count w0 question code out ys k h kk y =
-    put-behind ((3 * 2 ^ 30 + count) ∷ w0 ∷ question ∷ []) (part 8 0 code) out (set (set (set out 0 (3 * 2 ^ 30 + count)) 1 w0) 2 question) ys 3 k
+    → ys ≡ over (part code-words 0 (replicate code-words 0)) (take k (drop 3 (set (set (set out 0 (head-mark * 2 ^ mark-bit + count)) 1 w0) 2 question)))
+    → putMid 3 k (set (set (set out 0 (head-mark * 2 ^ mark-bit + count)) 1 w0) 2 question) ys ≡ over (main-words count w0 question) out
+unfolding main-words part
+main-done count w0 question out ys k h kk y =
+    put-behind ((3 * 2 ^ 30 + count) ∷ w0 ∷ question ∷ []) (replicate 8 0) out (set (set (set out 0 (3 * 2 ^ 30 + count)) 1 w0) 2 question) ys 3 k
     (main-begin count w0 question out h) refl kk y
 
-pub length-main : (count w0 question : ℕ) (code : List ℕ) → length (main-words count w0 question code) ≡ place-of 1
+pub length-main : (count w0 question : ℕ) → length (main-words count w0 question) ≡ place-of 1
 unfolding main-words
-length-main count w0 question code = ap (λ (x : ℕ). suc (suc (suc x))) (length-part 8 0 code)
+length-main count w0 question = refl
 
 -- ---- three parts, each behind the one before
 pub parts-done : (p h g out xs ys zs : List ℕ) (at n m : ℕ) → xs ≡ over p out → length p ≡ place-of 1 → place-of 1 + length h ≡ at → at ≤ length out
@@ -165,9 +165,9 @@ writable-out lent h count k e =
     let d = both (leb 331 lent) _ (b .0) in
     (leb-true 331 lent (d .0), ltb-true h (2 ^ sites) (d .1), leb-true k 16 (b .1), leb-true (count + k) 32 (a .1))
 
-module _ (w0 question : ℕ) (code slots : List ℕ) (h : ℕ) (group : List ℕ) (k : ℕ) (out : List ℕ) (count : ℕ) (n : count ≡ ones h) where
+module _ (w0 question : ℕ) (slots : List ℕ) (h : ℕ) (group : List ℕ) (k : ℕ) (out : List ℕ) (count : ℕ) (n : count ≡ ones h) where
   pub not-written : writable (length out) h count k ≡ false
-      → (0 ≡ count-after (length out) h k) × (out ≡ lent-after w0 question code slots h group k out)
+      → (0 ≡ count-after (length out) h k) × (out ≡ lent-after w0 question slots h group k out)
   unfolding count-after lent-after
   not-written e =
       let f : writable (length out) h (ones h) k ≡ false = rw n at e in
@@ -175,7 +175,7 @@ module _ (w0 question : ℕ) (code slots : List ℕ) (h : ℕ) (group : List ℕ
 
   pub is-written : writable (length out) h count k ≡ true
       → (bundle-words (count + k) ≡ count-after (length out) h k)
-      × (over (words-of w0 question code slots h group k) out ≡ lent-after w0 question code slots h group k out)
+      × (over (words-of w0 question slots h group k) out ≡ lent-after w0 question slots h group k out)
   unfolding count-after lent-after
   is-written e =
       let f : writable (length out) h (ones h) k ≡ true = rw n at e in

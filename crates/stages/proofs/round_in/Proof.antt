@@ -1,7 +1,7 @@
 -- Each arm is a case of the definition.
 use borrow.Author.Needs.{needs}
-use Rattle.status.proofs.round_in.Statement.{statement}
-use Rattle.status.proofs.round_in.Tie as tie
+use Rattle.stages.proofs.round_in.Statement.{statement}
+use Rattle.stages.proofs.round_in.Tie as tie
 
 enum-told : tie.Need-enum-told
 enum-told c = search needs

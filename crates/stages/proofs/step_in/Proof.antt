@@ -2,8 +2,8 @@
 use Rattle.laws.specs.Pick.{pick}
 use Rattle.format.specs.Words.{step-of}
 use borrow.Author.Needs.{needs}
-use Rattle.fitness.proofs.step_in.Statement.{statement}
-use Rattle.fitness.proofs.step_in.Tie as tie
+use Rattle.stages.proofs.step_in.Statement.{statement}
+use Rattle.stages.proofs.step_in.Tie as tie
 
 enum-told : tie.Need-enum-told
 enum-told c = search needs
