@@ -1,6 +1,6 @@
 -- A list of calls that an attacker would write, within the premises of demand 3: n is 3, and site 3 is faulty. It never codes an INIT, and yet makes a
 -- proposal of 1 and a none vote that rests on it. Site 1 takes that vote, and decides a round later than site 2. All is computed from the definitions.
-use Prim.Native.Nat.{ℕ, _+_, _*_, _^_, _≤_}
+use Prim.Native.Nat.{ℕ, _+_, _-_, _*_, _^_, _≤_}
 use mathlib.Core.Bool.{Bool, true, false, _&&_}
 use mathlib.Core.List.{List, [], _∷_, _++_}
 use mathlib.Core.Path.{_≡_, refl, ap}
@@ -10,13 +10,15 @@ use Rattle.laws.specs.Count.{count}
 use Rattle.format.specs.Form.{present-form}
 use Rattle.format.specs.Numbers.{kind-P, kind-V, none, D-GET, R-GET}
 use Rattle.format.specs.Group.{backing}
+use Rattle.format.specs.Words.{value-bit, station-bit}
+use Rattle.format.specs.Bundle.{head-mark, mark-bit}
 use Rattle.format.specs.Present.{statement-words, words-at, main-of}
 use Rattle.rules.specs.declared.Which.the-variants.{Any}
 use Rattle.certificate.specs.Present.{check-by}
 use Rattle.station.specs.Machine.{undecided}
 use Rattle.station.specs.declared.Stage.the-variants.{Gathering}
 use Rattle.station.specs.declared.Station.{Station}
-use Rattle.station.specs.Present.{kept-words}
+use Rattle.station.specs.Present.{kept-words, slots-words}
 use Rattle.agreement.specs.Maths.Votes.{votes}
 use Rattle.agreement.specs.Demand.{opens, gives, codes, tosses, Call, call, member}
 use Rattle.agreement.specs.Toy as Toy
@@ -49,7 +51,7 @@ forged =
       stage = Gathering;
       closed = false;
       lasting = undecided false;
-      held = record { heard = 4; slots = replicate 20 0 ++ ((2 ^ 28 + 3 * 2 ^ 16) ∷ 2 ∷ replicate 288 0) };
+      held = record { heard = 4; slots = replicate (2 * statement-words) 0 ++ ((2 ^ value-bit + 3 * 2 ^ station-bit) ∷ 2 ∷ replicate (slots-words - (2 * statement-words + 2)) 0) };
       groups = record { value = replicate kept-words 0; none = replicate kept-words 0 };
     }
 
@@ -95,7 +97,7 @@ calls-9 = call 3 (codes (of-3 kind-V none D-GET 1)) ∷ calls-8
 
 -- 20: site 1 is given that vote; its certificate mixes site 1's own P 0 with site 3's P 1. Site 1 takes it, decides nothing, and sends P 0 of round 2
 abbrev pub unbacked-none : List ℕ
-unbacked-none = (3 * 2 ^ 30 + 2) ∷ (lent calls-9 ++ (words-at (bundle calls-5) 1 ++ lent calls-4))
+unbacked-none = (head-mark * 2 ^ mark-bit + 2) ∷ (lent calls-9 ++ (words-at (bundle calls-5) 1 ++ lent calls-4))
 
 abbrev pub calls-10 : List Call
 calls-10 = give 1 unbacked-none 1 calls-9

@@ -11,6 +11,7 @@ use Rattle.laws.specs.Count.{count}
 use Rattle.format.specs.Form.{present-form}
 use Rattle.format.specs.Numbers.{kind-P, kind-V, none, D-GET, conflicting}
 use Rattle.format.specs.Group.{backing}
+use Rattle.format.specs.Bundle.{head-mark, mark-bit}
 use Rattle.format.specs.Present.{words-at}
 use Rattle.agreement.specs.Demand.{opens, gives, codes, Call, call, found, member}
 use Rattle.agreement.specs.Theorem.{demand-3-by}
@@ -21,7 +22,7 @@ use Rattle.agreement.specs.Present.{proposed, answer, log, lineage, Soun
 
 -- a none vote of round 1 of station 3, over a proposal of station 1 with 1 and one of its own with 0
 abbrev pub unbacked-none : List ℕ → List ℕ → List ℕ → List ℕ
-unbacked-none vote of-1 of-itself = (3 * 2 ^ 30 + 2) ∷ (vote ++ (words-at of-1 1 ++ of-itself))
+unbacked-none vote of-1 of-itself = (head-mark * 2 ^ mark-bit + 2) ∷ (vote ++ (words-at of-1 1 ++ of-itself))
 
 -- ---- the list
 -- 20, 20: sites 1 and 2 open on question 1 with 1 and jump on

@@ -14,7 +14,7 @@ use Rattle.format.specs.Form.{Form, most-stations, head-bits, fields-at, bundle
 use Rattle.format.specs.Statement.{Statement, statements, verifies, well-formed, formed}
 use Rattle.format.specs.Lists.{every}
 use Rattle.hmac.specs.Code.{hmac-code}
-use Rattle.format.specs.Bundle.{head-fits, count-in, laid-out, main-of, certificate-of, all-formed, bundle-fits}
+use Rattle.format.specs.Bundle.{head-mark, mark-bit, middle-bits, count-bits, head-fits, count-in, laid-out, main-of, certificate-of, all-formed, bundle-fits}
 use Rattle.format.specs.Laws.Layout.{formed-well}
 use Rattle.rules.specs.declared.Which.the-variants.{Any}
 use Rattle.certificate.specs.Check.{one-question, check-tests, check-by, judged, checked}
@@ -38,8 +38,8 @@ module _ (form : Form) where
   bundle-out n ws h =
       let a = both (head-fits form (getD ws 0 0) && eqb (length ws) (bundle-words form (count-in ws))) _ h in
       let b = both (head-fits form (getD ws 0 0)) _ (a .0) in
-      let c = both (eqb (getD ws 0 0 / 2 ^ 30) 3 && eqb (getD ws 0 0 / 2 ^ 16 % 2 ^ 14) (head-bits form)) _ (b .0) in
-      let d = both (eqb (getD ws 0 0 / 2 ^ 30) 3) _ (c .0) in
+      let c = both (eqb (getD ws 0 0 / 2 ^ mark-bit) head-mark && eqb (getD ws 0 0 / 2 ^ count-bits % 2 ^ middle-bits) (head-bits form)) _ (b .0) in
+      let d = both (eqb (getD ws 0 0 / 2 ^ mark-bit) head-mark) _ (c .0) in
       record {
         head-kind = eqb-true _ _ (d .0);
         head-middle = eqb-true _ _ (d .1);
@@ -53,8 +53,8 @@ module _ (form : Form) where
   bundle-in n ws b =
       join (head-fits form (getD ws 0 0) && eqb (length ws) (bundle-words form (count-in ws))) _
       (join (head-fits form (getD ws 0 0)) _
-      (join (eqb (getD ws 0 0 / 2 ^ 30) 3 && eqb (getD ws 0 0 / 2 ^ 16 % 2 ^ 14) (head-bits form)) _
-      (join (eqb (getD ws 0 0 / 2 ^ 30) 3) _ (eq-eqb _ _ (b .head-kind)) (eq-eqb _ _ (b .head-middle)))
+      (join (eqb (getD ws 0 0 / 2 ^ mark-bit) head-mark && eqb (getD ws 0 0 / 2 ^ count-bits % 2 ^ middle-bits) (head-bits form)) _
+      (join (eqb (getD ws 0 0 / 2 ^ mark-bit) head-mark) _ (eq-eqb _ _ (b .head-kind)) (eq-eqb _ _ (b .head-middle)))
       (le-leb _ _ (b .few)))
       (eq-eqb _ _ (b .size)))
       (b .fields)

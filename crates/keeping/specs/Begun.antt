@@ -22,10 +22,10 @@ use Rattle.rules.specs.Rules.{holds, in-order}
 use Rattle.station.specs.Machine.{State, stage-step, keeping, insert, held-of, began, supplies-for-value, supplies-for-none, kept-for-value, kept-for-none, no-group}
 use Rattle.station.specs.Present as W
 use Rattle.format.specs.Laws.ReadBack.{Proper}
-use Rattle.format.specs.Present.{most-statements, most-stations, statements, main-of, certificate-of, bundle-of}
+use Rattle.format.specs.Present.{most-statements, most-stations, statements, main-of, certificate-of, bundle-of, statement-words}
 use Rattle.station.specs.Laws.Bundles.{main-is, certificate-is, bundle-there}
 use Rattle.station.specs.Fit.{zeros}
-use Rattle.station.specs.Present.{empty-station, state-of, held-in, held-by, kept-words, slots-words, slots-fit, group-fits, Lengths}
+use Rattle.station.specs.Present.{empty-station, state-of, held-in, held-by, kept-words, slots-words, slots-fit, group-fits, Lengths, sites}
 use Rattle.station.specs.declared.Lasting.{Lasting}
 use Rattle.laws.specs.Below.{Below}
 use Rattle.held.specs.Laws.Sets.{no-bit}
@@ -67,16 +67,16 @@ none-fit : (n question st k i : ℕ) → slots-fit n question st 0 (replicate sl
 unfolding Rattle.station.specs.Fit.slots-fit
 none-fit n question st zero i = refl
 none-fit n question st (suc k) i =
-    join (pick (bit 0 i) _ _) _ (sym (skip _ _ _ _ (no-bit i) refl) ∙ zeros-there 310 10 (i * 10)) (none-fit n question st k (suc i))
+    join (pick (bit 0 i) _ _) _ (sym (skip _ _ _ _ (no-bit i) refl) ∙ zeros-there slots-words statement-words (i * statement-words)) (none-fit n question st k (suc i))
 
 no-group-fits : (n question : ℕ) → group-fits n question no-group (replicate kept-words 0) ≡ true
 unfolding holds in-order Rattle.format.specs.Bundle.all-formed Rattle.format.specs.Statement.statements every
-no-group-fits n question = zeros-there 160 160 0
+no-group-fits n question = zeros-there kept-words kept-words 0
 
 module _ (n number question : ℕ) (l : Lasting) (g : Stage) where
   nothing-held : held-by (blank n number question l g) ≡ []
   unfolding blank
-  nothing-held = none-held (replicate 310 0) 31 0
+  nothing-held = none-held (replicate slots-words 0) sites 0
 
   blank-lengths : Lengths (blank n number question l g)
   unfolding blank
@@ -84,7 +84,7 @@ module _ (n number question : ℕ) (l : Lasting) (g : Stage) where
 
   blank-low : LowWords (blank n number question l g)
   unfolding blank
-  blank-low = record { slots = zeros-low 310; for-value = zeros-low 160; for-none = zeros-low 160 }
+  blank-low = record { slots = zeros-low slots-words; for-value = zeros-low kept-words; for-none = zeros-low kept-words }
 
   no-for-value : kept-for-value n g (held-by (blank n number question l g)) ≡ no-group
   unfolding kept-for-value some pick
@@ -101,9 +101,9 @@ module _ (n number question : ℕ) (l : Lasting) (g : Stage) where
         same-n = refl;
         same-number = refl;
         no-more = omega arith;
-        slots = none-fit n question (stage-step g) 31 0;
-        for-value = ap (λ (x : Group). group-fits n question x (replicate 160 0)) no-for-value ∙ no-group-fits n question;
-        for-none = ap (λ (x : Group). group-fits n question x (replicate 160 0)) no-for-none ∙ no-group-fits n question;
+        slots = none-fit n question (stage-step g) sites 0;
+        for-value = ap (λ (x : Group). group-fits n question x (replicate kept-words 0)) no-for-value ∙ no-group-fits n question;
+        for-none = ap (λ (x : Group). group-fits n question x (replicate kept-words 0)) no-for-none ∙ no-group-fits n question;
       }
 
   blank-state : state-of (blank n number question l g) ≡ empty question l g
@@ -116,8 +116,8 @@ module _ (n number question : ℕ) (l : Lasting) (g : Stage) where
         closed = false;
         lasting = l;
         held = nothing-held i;
-        for-value = statements (replicate 160 0) 0 (no-for-value i .size);
-        for-none = statements (replicate 160 0) 0 (no-for-none i .size);
+        for-value = statements (replicate kept-words 0) 0 (no-for-value i .size);
+        for-none = statements (replicate kept-words 0) 0 (no-for-none i .size);
       }
 
   group-kept : (b : Bool) (c : List Statement) → pick (b && true) c [] ≡ pick b c []

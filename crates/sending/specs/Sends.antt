@@ -28,9 +28,10 @@ use Rattle.sealed.specs.Present.{coding-plain, coding-coin}
 use Rattle.station.specs.declared.Stage.{Stage}
 use Rattle.station.specs.Machine.{own, began}
 use Rattle.station.specs.Words.{set-of}
+use Rattle.format.specs.Bundle.{head-mark, mark-bit}
 use Rattle.station.specs.Present as W
 use Rattle.format.specs.Laws.ReadBack.{Proper, length-written}
-use Rattle.format.specs.Present.{bundle-words, most-stations, most-statements, output-words, written, statement-code, all-written, bundle-of}
+use Rattle.format.specs.Present.{bundle-words, most-stations, most-statements, output-words, written, statement-code, all-written, bundle-of, place-of, statement-words}
 use Rattle.station.specs.Laws.Bundles.{ws-length}
 use Rattle.station.specs.Seal.{main-words}
 use Rattle.station.specs.declared.Lasting.{Lasting}
@@ -108,12 +109,12 @@ module _ (m : Module) (question kind value flag round : ℕ) (l : Lasting) (g : 
       let w = all-written c in
       let same-length : length (bundle-of uncoded c) ≡ length (bundle-of s c)
       = ap suc (length-append (written uncoded) w ∙ omega (arith, length-written present-form (m .n) uncoded proper-uncoded, length-written present-form (m .n) s p) ∙ sym (length-append (written s) w)) in
-      ap (λ (l : List ℕ). (3 * 2 ^ 30 + length c) ∷ (written s ++ l)) (behind (drop (length (bundle-of uncoded c)) out))
-      ∙ ap (λ (k : ℕ). (3 * 2 ^ 30 + length c) ∷ (written s ++ (w ++ drop k out))) same-length
-      ∙ ap (λ (l : List ℕ). (3 * 2 ^ 30 + length c) ∷ l) (sym (append-assoc (written s) w (drop (length (bundle-of s c)) out)))
+      ap (λ (l : List ℕ). (head-mark * 2 ^ mark-bit + length c) ∷ (written s ++ l)) (behind (drop (length (bundle-of uncoded c)) out))
+      ∙ ap (λ (k : ℕ). (head-mark * 2 ^ mark-bit + length c) ∷ (written s ++ (w ++ drop k out))) same-length
+      ∙ ap (λ (l : List ℕ). (head-mark * 2 ^ mark-bit + length c) ∷ l) (sym (append-assoc (written s) w (drop (length (bundle-of s c)) out)))
     where
-      behind : (r : List ℕ) → drop 10 (written uncoded ++ all-written c ++ r) ≡ all-written c ++ r
-      behind r = ap (drop 10) (append-assoc (written uncoded) (all-written c) r) ∙ drop-at (written uncoded) (all-written c ++ r) 10 (length-written present-form (m .n) uncoded proper-uncoded)
+      behind : (r : List ℕ) → drop statement-words (written uncoded ++ all-written c ++ r) ≡ all-written c ++ r
+      behind r = ap (drop statement-words) (append-assoc (written uncoded) (all-written c) r) ∙ drop-at (written uncoded) (all-written c ++ r) statement-words (length-written present-form (m .n) uncoded proper-uncoded)
 
   pub coded-lent-is : coded-lent m f count draft ≡ over (bundle-of s c) out
   unfolding coded-lent pick
@@ -149,7 +150,7 @@ module _ (m : Module) (question kind value flag round : ℕ) (l : Lasting) (g : 
   own-f = own-fields m kind value flag round
 
   abbrev blank-code : List ℕ
-  blank-code = replicate 8 0
+  blank-code = replicate code-words 0
 
   draft : drafted question own-f slots (set-of first) group (length second) out ≡ over (bundle-of (with-code blank-code own-s) c) out
   unfolding drafted
@@ -196,7 +197,7 @@ module _ (m : Module) (question kind value flag round : ℕ) (l : Lasting) (g : 
 
   can : copyable (length ws) (length out) ≡ true
   unfolding copyable
-  can = join (leb 11 (length ws)) _ (le-leb 11 (length ws) (omega (arith, long))) (le-leb (length ws) (length out) (omega (arith, long)))
+  can = join (leb (place-of 1) (length ws)) _ (le-leb (place-of 1) (length ws) (omega (arith, long))) (le-leb (length ws) (length out) (omega (arith, long)))
 
   pub copy-count-is : copy-count (length ws) (length out) ≡ bundle-words (length c)
   unfolding copy-count pick
@@ -206,7 +207,7 @@ module _ (m : Module) (question kind value flag round : ℕ) (l : Lasting) (g : 
   unfolding copy-after pick with-word Rattle.format.specs.Bundle.bundle-of
   copied-draft =
       rw can (ap (λ (l : List ℕ). over (set l 1 (word-of copy-f)) out) whole)
-      ∙ ap (λ (z : ℕ). over ((3 * 2 ^ 30 + length c) ∷ ((word-of copy-f ∷ z ∷ given .code) ++ all-written c)) out) asked-for
+      ∙ ap (λ (z : ℕ). over ((head-mark * 2 ^ mark-bit + length c) ∷ ((word-of copy-f ∷ z ∷ given .code) ++ all-written c)) out) asked-for
 
   pub copy-lent-is : copy-lent m copy-f ws out ≡ over (bundle-of copy-s c) out
   unfolding copy-lent

@@ -9,7 +9,7 @@ use lib.ListN.{replicate}
 use Rattle.laws.specs.Pick.{pick}
 use Rattle.laws.specs.Refusals.{test, first-failed}
 use Rattle.laws.specs.All.{All}
-use Rattle.format.specs.Numbers.{kind-INIT, kind-P, kind-V, none, D-GET, R-GET, no-certificate, kept, sent, sent-decided, jumped, too-late, too-early, conflicting, not-above}
+use Rattle.format.specs.Numbers.{kind-INIT, kind-P, kind-V, none, D-GET, R-GET, code-words, no-certificate, kept, sent, sent-decided, jumped, too-late, too-early, conflicting, not-above}
 use Rattle.format.specs.Group.{quorum, backing}
 use Rattle.format.specs.Words.{fields-of, word-of, step-of}
 use Rattle.format.specs.Statement.{Statement, step}
@@ -27,7 +27,7 @@ use Rattle.station.specs.Calls.{unless}
 
 -- ---- statements of question 1, by round, station, value and flag
 abbrev pub says : ℕ → ℕ → ℕ → ℕ → ℕ → Statement
-says kind r s v f = record { kind = kind; value = v; flag = f; station = s; round = r; question = 1; code = replicate 8 0 }
+says kind r s v f = record { kind = kind; value = v; flag = f; station = s; round = r; question = 1; code = replicate code-words 0 }
 
 abbrev pub init : ℕ → ℕ → Statement
 init s v = says kind-INIT 0 s v D-GET

@@ -11,7 +11,7 @@ use Rattle.laws.specs.Pick.{pick}
 use Rattle.laws.specs.Bools.{never}
 use Rattle.laws.specs.Least.{least, least-fits}
 use Rattle.format.specs.declared.Fields.{Fields}
-use Rattle.format.specs.Present.{place-of, formed, statement, words-at, fields-at}
+use Rattle.format.specs.Present.{statement-words, place-of, formed, statement, words-at, fields-at}
 use Rattle.rules.specs.declared.Group.{Group}
 use Rattle.rules.specs.Rules.{first-group, second-group}
 use Rattle.walk.specs.declared.Findings.{Findings}
@@ -101,5 +101,5 @@ pub glance-counted : (n question : ℕ) (ws : List ℕ) (count : ℕ) (f : Findi
     → answer (glanced n question ws f (left ws (f .place))) ≡ answer (glanced n question ws f (1 + count - f .place))
 unfolding left
 glance-counted n question ws count f h =
-    let k : (length ws - (1 + f .place * 10)) / 10 ≡ 1 + count - f .place = omega (arith, h) in
+    let k : (length ws - (1 + f .place * statement-words)) / statement-words ≡ 1 + count - f .place = omega (arith, h) in
     rw k

@@ -26,16 +26,16 @@ one-copied ws at t i h room e =
 
 pub all-copied : (l t : List ℕ) (i : ℕ) → statement-words ≤ i → i ≤ statement-words → length t ≡ statement-words → take i t ≡ take i l → t ≡ take statement-words l
 all-copied l t i p q h e =
-    let z : i ≡ 10 = omega arith in
-    sym (take-all 10 t (omega (arith, h))) ∙ rw z at e
+    let z : i ≡ statement-words = omega arith in
+    sym (take-all statement-words t (omega (arith, h))) ∙ rw z at e
 
 word-read : (ws : List ℕ) (at i : ℕ) → i < statement-words → getD (words-at ws at) i 0 ≡ getD ws (at + i) 0
-word-read ws at i h = getD-take 10 (drop at ws) i 0 h ∙ getD-drop at ws i 0
+word-read ws at i h = getD-take statement-words (drop at ws) i 0 h ∙ getD-drop at ws i 0
 
 behind-two : (l : List ℕ) → take code-words (drop covered-words (take statement-words l)) ≡ take code-words (drop covered-words l)
 behind-two [] = refl
 behind-two (x ∷ []) = refl
-behind-two (x ∷ y ∷ l) = take-take 8 8 l (omega arith)
+behind-two (x ∷ y ∷ l) = take-take code-words code-words l (omega arith)
 
 pub word-0-read : (ws : List ℕ) (at : ℕ) → getD (words-at ws at) 0 0 ≡ getD ws at 0
 word-0-read ws at =
@@ -50,7 +50,7 @@ fields-read ws at = ap fields-of (word-0-read ws at)
 
 pub statement-read : (ws : List ℕ) (at : ℕ) → statement (words-at ws at) 0 ≡ statement ws at
 statement-read ws at =
-    let c : code-at (words-at ws at) 0 ≡ code-at ws at = behind-two (drop at ws) ∙ ap (take 8) (drop-drop 2 at ws) in
+    let c : code-at (words-at ws at) 0 ≡ code-at ws at = behind-two (drop at ws) ∙ ap (take code-words) (drop-drop covered-words at ws) in
     rw (word-0-read ws at, word-1-read ws at, c)
 
 -- a short key, prepared

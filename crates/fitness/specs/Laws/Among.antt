@@ -21,8 +21,8 @@ use Rattle.station.specs.Present.{sites, held-in, slot-fits, slots-fit}
 module _ (n question step set : ℕ) (slots : List ℕ) where
   own-slot : (i : ℕ) → slot-fits n question step i slots ≡ true → statement slots (i * statement-words) .station ≡ suc i
   own-slot i h =
-      let w = getD slots (i * 10) 0 in
-      let a = both (formed n (fields-of w) && eqb (station-of w) (i + 1) && eqb (getD slots (i * 10 + 1) 0) question) _ h in
+      let w = getD slots (i * statement-words) 0 in
+      let a = both (formed n (fields-of w) && eqb (station-of w) (i + 1) && eqb (getD slots (i * statement-words + 1) 0) question) _ h in
       let b = both (formed n (fields-of w) && eqb (station-of w) (i + 1)) _ (a .0) in
       eqb-true _ _ (both (formed n (fields-of w)) _ (b .0) .1) ∙ add-one i
 
@@ -30,19 +30,19 @@ module _ (n question step set : ℕ) (slots : List ℕ) where
   unfolding Rattle.station.specs.Fit.slots-fit Rattle.station.specs.Words.held-in pick some
   below-slots zero i j h l = refl
   below-slots (suc k) i j h l =
-      let a = both (pick (bit set i) (slot-fits n question step i slots) (zeros slots (i * 10) 10)) _ h in
+      let a = both (pick (bit set i) (slot-fits n question step i slots) (zeros slots (i * statement-words) statement-words)) _ h in
       go (bit set i) (a .0) (below-slots k (suc i) j (a .1) (omega arith))
     where
       go : (b : Bool) → pick b (slot-fits n question step i slots) (zeros slots (i * statement-words) statement-words) ≡ true → held-of (suc j) (held-in set slots (suc i) k) ≡ false
           → held-of (suc j) (pick b (statement slots (i * statement-words) ∷ held-in set slots (suc i) k) (held-in set slots (suc i) k)) ≡ false
-      go true f ih = rw (ne-eqb (statement slots (i * 10) .station) (suc j) (λ z. omega (arith, own-slot i f))) ih
+      go true f ih = rw (ne-eqb (statement slots (i * statement-words) .station) (suc j) (λ z. omega (arith, own-slot i f))) ih
       go false f ih = ih
 
   among : (k i j : ℕ) → slots-fit n question step set slots i k ≡ true → i ≤ j → j < i + k → bit set j ≡ held-of (suc j) (held-in set slots i k)
   unfolding Rattle.station.specs.Fit.slots-fit Rattle.station.specs.Words.held-in pick some
   among zero i j h lo hi = absurd (omega arith)
   among (suc k) i j h lo hi =
-      let a = both (pick (bit set i) (slot-fits n question step i slots) (zeros slots (i * 10) 10)) _ h in
+      let a = both (pick (bit set i) (slot-fits n question step i slots) (zeros slots (i * statement-words) statement-words)) _ h in
       go (bit set i) refl (eqb j i) refl (a .0) (below-slots k (suc i) j (a .1)) (λ z. among k (suc i) j (a .1) z (omega arith))
     where
       go : (b : Bool) → bit set i ≡ b → (c : Bool) → eqb j i ≡ c → pick b (slot-fits n question step i slots) (zeros slots (i * statement-words) statement-words) ≡ true
@@ -50,9 +50,9 @@ module _ (n question step set : ℕ) (slots : List ℕ) where
           → bit set j ≡ held-of (suc j) (pick b (statement slots (i * statement-words) ∷ held-in set slots (suc i) k) (held-in set slots (suc i) k))
       go true x true y f under ih =
           let z : j ≡ i = eqb-true j i y in
-          rw (eq-eqb (statement slots (i * 10) .station) (suc j) (own-slot i f ∙ ap suc (sym z))) (ap (bit set) z ∙ x)
+          rw (eq-eqb (statement slots (i * statement-words) .station) (suc j) (own-slot i f ∙ ap suc (sym z))) (ap (bit set) z ∙ x)
       go true x false y f under ih =
-          rw (ne-eqb (statement slots (i * 10) .station) (suc j) (λ z. omega (arith, own-slot i f, eqb-false j i y))) (ih (omega (arith, eqb-false j i y)))
+          rw (ne-eqb (statement slots (i * statement-words) .station) (suc j) (λ z. omega (arith, own-slot i f, eqb-false j i y))) (ih (omega (arith, eqb-false j i y)))
       go false x true y f under ih = let z : j ≡ i = eqb-true j i y in ap (bit set) z ∙ x ∙ sym (under (omega arith))
       go false x false y f under ih = ih (omega (arith, eqb-false j i y))
 

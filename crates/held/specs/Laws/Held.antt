@@ -53,12 +53,12 @@ module _ (p : Statement → Bool) (set : ℕ) (slots : List ℕ) where
   unfolding Rattle.station.specs.Words.held-in those pick
   held-found x zero i h = refl
   held-found x (suc m) i h =
-      rw (h i (omega arith) (omega arith)) (go (bit set i) (p (statement slots (i * 10))) refl (held-found x m (suc i) (λ j a b. h j (omega arith) (omega arith))))
+      rw (h i (omega arith) (omega arith)) (go (bit set i) (p (statement slots (i * statement-words))) refl (held-found x m (suc i) (λ j a b. h j (omega arith) (omega arith))))
     where
       go : (b c : Bool) → p (statement slots (i * statement-words)) ≡ c → held-in x slots (suc i) m ≡ those p (held-in set slots (suc i) m)
           → pick (b && c) (statement slots (i * statement-words) ∷ held-in x slots (suc i) m) (held-in x slots (suc i) m)
           ≡ those p (pick b (statement slots (i * statement-words) ∷ held-in set slots (suc i) m) (held-in set slots (suc i) m))
-      go true true e ih = rw e (ap (λ (c : List Statement). statement slots (i * 10) ∷ c) ih)
+      go true true e ih = rw e (ap (λ (c : List Statement). statement slots (i * statement-words) ∷ c) ih)
       go true false e ih = rw e ih
       go false c e ih = ih
 
@@ -74,7 +74,7 @@ module _ (p : Statement → Bool) (set : ℕ) (slots : List ℕ) where
   some-from : (m i : ℕ) → ltb 0 (gathered found i m) ≡ some p (held-in set slots i m)
   unfolding gathered Rattle.station.specs.Words.held-in some pick
   some-from zero i = refl
-  some-from (suc m) i = go (bit set i) (p (statement slots (i * 10))) refl (some-from m (suc i))
+  some-from (suc m) i = go (bit set i) (p (statement slots (i * statement-words))) refl (some-from m (suc i))
     where
       twice : (x : ℕ) (t : Bool) → ltb 0 x ≡ t → ltb 0 (2 * x + 0) ≡ t
       twice x true e = lt-ltb 0 (2 * x + 0) (omega (arith, ltb-true 0 x e))
@@ -95,10 +95,10 @@ module _ (p : Statement → Bool) (set : ℕ) (slots : List ℕ) where
   all-from : (m i : ℕ) → eqb (gathered found i m) (gathered (λ j. bit set j && such Any Any (statement slots (j * statement-words))) i m) ≡ every p (held-in set slots i m)
   unfolding gathered Rattle.station.specs.Words.held-in every pick
   all-from zero i = refl
-  all-from (suc m) i = go (bit set i) (p (statement slots (i * 10))) refl (all-from m (suc i))
+  all-from (suc m) i = go (bit set i) (p (statement slots (i * statement-words))) refl (all-from m (suc i))
     where
       all : ℕ
-      all = gathered (λ j. bit set j && such Any Any (statement slots (j * 10))) (suc i) m
+      all = gathered (λ j. bit set j && such Any Any (statement slots (j * statement-words))) (suc i) m
 
       twice : (x y b : ℕ) (t : Bool) → eqb x y ≡ t → eqb (2 * x + b) (2 * y + b) ≡ t
       twice x y b true e = eq-eqb (2 * x + b) (2 * y + b) (omega (arith, eqb-true x y e))
@@ -121,16 +121,16 @@ module _ (p : Statement → Bool) (set : ℕ) (slots : List ℕ) where
       × (leading p (held-in set slots i m) ≡ statement slots ((i + trailingZeros (suc m) (gathered found i m)) * statement-words) .value)
   unfolding gathered Rattle.station.specs.Words.held-in leading pick trailingZeros
   first-from zero i h = absurd (omega arith)
-  first-from (suc m) i h = go (bit set i) (p (statement slots (i * 10))) refl h (first-from m (suc i))
+  first-from (suc m) i h = go (bit set i) (p (statement slots (i * statement-words))) refl h (first-from m (suc i))
     where
       rest : ℕ
       rest = gathered found (suc i) m
 
       First : ℕ → List Statement → Type 0
-      First n l = (under (n % 2) (trailingZeros (suc m) (n / 2)) < suc m) × (leading p l ≡ statement slots ((i + under (n % 2) (trailingZeros (suc m) (n / 2))) * 10) .value)
+      First n l = (under (n % 2) (trailingZeros (suc m) (n / 2)) < suc m) × (leading p l ≡ statement slots ((i + under (n % 2) (trailingZeros (suc m) (n / 2))) * statement-words) .value)
 
       Rest : Type 0
-      Rest = 0 < rest → (trailingZeros (suc m) rest < m) × (leading p (held-in set slots (suc i) m) ≡ statement slots ((suc i + trailingZeros (suc m) rest) * 10) .value)
+      Rest = 0 < rest → (trailingZeros (suc m) rest < m) × (leading p (held-in set slots (suc i) m) ≡ statement slots ((suc i + trailingZeros (suc m) rest) * statement-words) .value)
 
       -- it is further on
       later : Rest → 0 < 2 * rest + 0 → First (2 * rest + 0) (held-in set slots (suc i) m)
@@ -155,13 +155,13 @@ module _ (p : Statement → Bool) (set : ℕ) (slots : List ℕ) where
   unfolding scan
   scan-first h =
       let r = first-from sites 0 h in
-      (r .0, r .1 ∙ ap (λ (k : ℕ). statement slots (k * 10) .value) (zero-add (trailingZeros 32 (gathered found 0 sites))))
+      (r .0, r .1 ∙ ap (λ (k : ℕ). statement slots (k * statement-words) .value) (zero-add (trailingZeros 32 (gathered found 0 sites))))
 
 -- ---- scans put together
 module _ (set : ℕ) (slots : List ℕ) where
   pub scan-nothing : (p : Statement → Bool) → ((s : Statement) → p s ≡ false) → 0 ≡ scan p set slots
   unfolding scan
-  scan-nothing p h = sym (gathered-none (found p set slots) sites 0 (λ j. go (bit set j) (p (statement slots (j * 10))) (h (statement slots (j * 10)))))
+  scan-nothing p h = sym (gathered-none (found p set slots) sites 0 (λ j. go (bit set j) (p (statement slots (j * statement-words))) (h (statement slots (j * statement-words)))))
     where
       go : (b c : Bool) → c ≡ false → (b && c) ≡ false
       go true c e = e
@@ -186,7 +186,7 @@ module _ (set : ℕ) (slots : List ℕ) where
   unfolding scan
   scan-values =
       gathered-two (found (such (Only 0) Any) set slots) (found (such (Only 1) Any) set slots) (found (λ s. ltb (s .value) 2) set slots) sites 0
-      (λ j. go (bit set j) (statement slots (j * 10) .value))
+      (λ j. go (bit set j) (statement slots (j * statement-words) .value))
     where
       one : (v : ℕ) (a b c : Bool) → ltb v 2 ≡ a → eqb v 0 ≡ b → eqb v 1 ≡ c → one-if a ≡ one-if (b && true) + one-if (c && true)
       one v true true true p q r = absurd (omega (arith, eqb-true v 0 q, eqb-true v 1 r))

@@ -72,7 +72,7 @@ module _ (set k : ℕ) where
             ≡ take (k - ones (set % 2 ^ i)) (pick b (statement slots (i * statement-words) ∷ held-in set slots (suc i) m) (held-in set slots (suc i) m))
         go true x true y ih =
             let e : k - ones (set % 2 ^ i) ≡ suc (k - ones (set % 2 ^ suc i)) = omega (arith, ltb-true (ones (set % 2 ^ i)) k y, more-there i x) in
-            rw e (ap (λ (c : List Statement). statement slots (i * 10) ∷ c) ih)
+            rw e (ap (λ (c : List Statement). statement slots (i * statement-words) ∷ c) ih)
         go true x false y ih =
             let e : k - ones (set % 2 ^ i) ≡ 0 = omega (arith, ltb-false (ones (set % 2 ^ i)) k y) in
             let f : k - ones (set % 2 ^ suc i) ≡ 0 = omega (arith, ltb-false (ones (set % 2 ^ i)) k y, more-there i x) in
@@ -109,7 +109,7 @@ module _ (set : ℕ) (slots : List ℕ) (own : Own set slots) where
       go : (b : Bool) → bit set i ≡ b → set-of (held-in set slots (suc i) k) ≡ set / 2 ^ suc i * 2 ^ suc i
           → set-of (pick b (statement slots (i * statement-words) ∷ held-in set slots (suc i) k) (held-in set slots (suc i) k)) ≡ set / 2 ^ i * 2 ^ i
       go true e ih =
-          let s : statement slots (i * 10) .station - 1 ≡ i = omega (arith, own i (omega arith) e) in
+          let s : statement slots (i * statement-words) .station - 1 ≡ i = omega (arith, own i (omega arith) e) in
           let d : set / 2 ^ i % 2 ≡ 1 = eqb-true (set / 2 ^ i % 2) 1 e in
           let w : set / 2 ^ i * 2 ^ i ≡ set / 2 ^ suc i * 2 * 2 ^ i + 1 * 2 ^ i = from 1 (omega (arith, half set i)) in
           rw s (omega (arith, above))
@@ -128,8 +128,8 @@ own-slot n h top r a j few e =
     let f = find (λ s. (slot-of h (s .station) ≡ written s) × Proper present-form n s) (suc j) h
     (all-two (λ s. slot-of h (s .station) ≡ written s) (Proper present-form n) h (slot-held present-form 0 h r) a) (sym (bit-set h r j) ∙ e) in
     let w : slot-of h (suc j) ≡ written (f .one) = ap (slot-of h) (sym (f .of-station)) ∙ f .has .0 in
-    let d : statement (slots-of h 1 sites) (j * 10) ≡ f .one
-    = statement-drop present-form (slots-of h 1 sites) (j * 10)
+    let d : statement (slots-of h 1 sites) (j * statement-words) ≡ f .one
+    = statement-drop present-form (slots-of h 1 sites) (j * statement-words)
     ∙ ap (λ (l : List ℕ). statement l 0) (slot-at present-form n h j a few ∙ ap (λ (l : List ℕ). l ++ slots-of h (suc (suc j)) (sites - suc j)) w)
     ∙ statement-back present-form n (f .one) (slots-of h (suc (suc j)) (sites - suc j)) top (f .has .1) in
     ap (λ (s : Statement). s .station) d ∙ f .of-station
@@ -150,5 +150,5 @@ lowest-set n p h k top r a =
     own : Own (lowest found k) slots
     own j l e =
         let b = both (bit found j) (ltb (ones (found % 2 ^ j)) k) (sym (lowest-bit found k j l) ∙ e) in
-        let d = both (bit (set-of h) j) (p (statement slots (j * 10))) (sym (scan-bit p (set-of h) slots j l) ∙ b .0) in
+        let d = both (bit (set-of h) j) (p (statement slots (j * statement-words))) (sym (scan-bit p (set-of h) slots j l) ∙ b .0) in
         own-slot n h top r a j l (d .0)

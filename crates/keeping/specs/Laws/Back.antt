@@ -16,11 +16,12 @@ use Rattle.format.specs.Form.{present-form}
 use Rattle.format.specs.Group.{quorum}
 use Rattle.format.specs.Words.{fields-of, station-of}
 use Rattle.format.specs.Statement.{Statement}
-use Rattle.format.specs.Bundle.{count-in}
+use Rattle.format.specs.Bundle.{count-in, head-mark, mark-bit}
 use Rattle.format.specs.Laws.Layout.{covered-read}
 use Rattle.certificate.specs.Present.{IsBundle}
 use Rattle.format.specs.Laws.Parts.{parts-length}
-use Rattle.format.specs.Present.{statement-words, formed, statement, statements, word-0, written, main-of, certificate-of, all-formed, all-written, bundle-of}
+use Rattle.format.specs.Present.{statement-words, formed, statement, statements, word-0, written, main-of, certificate-of, all-formed, all-written, bundle-of, place-of}
+use Rattle.format.specs.Numbers.{code-words}
 use Rattle.station.specs.Words.{set-of}
 use Rattle.station.specs.Fit.{zeros}
 use Rattle.station.specs.Present.{held-in, slot-of, slots-of, group-words, sites, kept-words, slots-words, slot-fits, slots-fit}
@@ -36,7 +37,7 @@ written-back n ws at low room f =
     let one : drop at ws ≡ getD ws at 0 ∷ drop (at + 1) ws = drop-cons ws at 0 (omega arith) ∙ ap (λ (k : ℕ). getD ws at 0 ∷ drop k ws) e in
     let two : drop (at + 1) ws ≡ getD ws (at + 1) 0 ∷ drop (at + 2) ws
     = drop-cons ws (at + 1) 0 (omega arith) ∙ ap (λ (k : ℕ). getD ws (at + 1) 0 ∷ drop k ws) g in
-    ap (λ (z : ℕ). z ∷ getD ws (at + 1) 0 ∷ take 8 (drop (at + 2) ws)) w ∙ sym (ap (take 10) (one ∙ ap (λ (l : List ℕ). getD ws at 0 ∷ l) two))
+    ap (λ (z : ℕ). z ∷ getD ws (at + 1) 0 ∷ take code-words (drop (at + 2) ws)) w ∙ sym (ap (take statement-words) (one ∙ ap (λ (l : List ℕ). getD ws at 0 ∷ l) two))
 
 pub all-back : (n : ℕ) (ws : List ℕ) → Below ws → (k at : ℕ) → at + k * statement-words ≤ length ws → all-formed n ws at k ≡ true
     → all-written (statements ws at k) ≡ take (k * statement-words) (drop at ws)
@@ -44,25 +45,25 @@ unfolding Rattle.format.specs.Bundle.all-formed Rattle.format.specs.Statement.
 all-back n ws low zero at room h = refl
 all-back n ws low (suc k) at room h =
     let b = both (formed n (fields-of (getD ws at 0))) _ h in
-    let e : suc k * 10 ≡ 10 + k * 10 = omega arith in
-    let one : written (statement ws at) ≡ take 10 (drop at ws) = written-back n ws at low (omega arith) (b .0) in
-    let more : all-written (statements ws (at + 10) k) ≡ take (k * 10) (drop 10 (drop at ws))
-    = all-back n ws low k (at + 10) (omega arith) (b .1) ∙ ap (take (k * 10)) (sym (drop-drop 10 at ws)) in
-    rw (e, take-add 10 (k * 10) (drop at ws)) (λ i. one i ++ more i)
+    let e : suc k * statement-words ≡ statement-words + k * statement-words = omega arith in
+    let one : written (statement ws at) ≡ take statement-words (drop at ws) = written-back n ws at low (omega arith) (b .0) in
+    let more : all-written (statements ws (at + statement-words) k) ≡ take (k * statement-words) (drop statement-words (drop at ws))
+    = all-back n ws low k (at + statement-words) (omega arith) (b .1) ∙ ap (take (k * statement-words)) (sym (drop-drop statement-words at ws)) in
+    rw (e, take-add statement-words (k * statement-words) (drop at ws)) (λ i. one i ++ more i)
 
 -- the words of a bundle, which is read and written again
 pub bundle-back : (n : ℕ) (ws : List ℕ) → Below ws → IsBundle n ws → ws ≡ bundle-of (main-of ws) (certificate-of ws)
 unfolding Rattle.format.specs.Bundle.bundle-of Rattle.format.specs.Bundle.all-formed
 bundle-back n ws low B =
     let b = both (formed n (fields-of (getD ws 1 0))) _ (B .fields) in
-    let head : getD ws 0 0 ≡ 3 * 2 ^ 30 + length (certificate-of ws) = omega (arith, B .head-kind, B .head-middle, parts-length present-form ws 11 (count-in ws)) in
-    let one : written (main-of ws) ≡ take 10 (drop 1 ws) = written-back n ws 1 low (omega (arith, B .size)) (b .0) in
-    let few : length (drop 11 ws) ≤ count-in ws * 10 = rw length-drop (omega (arith, B .size)) in
-    let rest : all-written (certificate-of ws) ≡ drop 10 (drop 1 ws)
-    = all-back n ws low (count-in ws) 11 (omega (arith, B .size)) (b .1) ∙ take-all (count-in ws * 10) (drop 11 ws) few ∙ sym (drop-drop 10 1 ws) in
+    let head : getD ws 0 0 ≡ head-mark * 2 ^ mark-bit + length (certificate-of ws) = omega (arith, B .head-kind, B .head-middle, parts-length present-form ws (place-of 1) (count-in ws)) in
+    let one : written (main-of ws) ≡ take statement-words (drop 1 ws) = written-back n ws 1 low (omega (arith, B .size)) (b .0) in
+    let few : length (drop (place-of 1) ws) ≤ count-in ws * statement-words = rw length-drop (omega (arith, B .size)) in
+    let rest : all-written (certificate-of ws) ≡ drop statement-words (drop 1 ws)
+    = all-back n ws low (count-in ws) (place-of 1) (omega (arith, B .size)) (b .1) ∙ take-all (count-in ws * statement-words) (drop (place-of 1) ws) few ∙ sym (drop-drop statement-words 1 ws) in
     drop-cons ws 0 0 (omega (arith, B .size))
-    ∙ (λ i. head i ∷ sym (take-append-drop 10 (drop 1 ws)) i)
-    ∙ (λ i. (3 * 2 ^ 30 + length (certificate-of ws)) ∷ (sym one i ++ sym rest i))
+    ∙ (λ i. head i ∷ sym (take-append-drop statement-words (drop 1 ws)) i)
+    ∙ (λ i. (head-mark * 2 ^ mark-bit + length (certificate-of ws)) ∷ (sym one i ++ sym rest i))
 
 pub zeros-back : (ws : List ℕ) (k at : ℕ) → at + k ≤ length ws → zeros ws at k ≡ true → take k (drop at ws) ≡ replicate k 0
 unfolding zeros
@@ -77,18 +78,18 @@ zeros-back ws (suc k) at room h =
 pub group-back : (n : ℕ) (ws : List ℕ) (k : ℕ) → Below ws → length ws ≡ kept-words → k ≤ quorum sites → all-formed n ws 0 k ≡ true → zeros ws (k * statement-words) (kept-words - k * statement-words) ≡ true
     → ws ≡ group-words (statements ws 0 k)
 group-back n ws k low long few f z =
-    let front : all-written (statements ws 0 k) ≡ take (k * 10) ws = all-back n ws low k 0 (omega arith) f in
-    let l : length (drop (k * 10) ws) ≤ 160 - k * 10 = rw length-drop (omega arith) in
-    let back : drop (k * 10) ws ≡ replicate (160 - k * 10) 0
-    = sym (take-all (160 - k * 10) (drop (k * 10) ws) l) ∙ zeros-back ws (160 - k * 10) (k * 10) (omega arith) z in
-    sym (take-append-drop (k * 10) ws) ∙ rw (front, back, parts-length present-form ws 0 k)
+    let front : all-written (statements ws 0 k) ≡ take (k * statement-words) ws = all-back n ws low k 0 (omega arith) f in
+    let l : length (drop (k * statement-words) ws) ≤ kept-words - k * statement-words = rw length-drop (omega arith) in
+    let back : drop (k * statement-words) ws ≡ replicate (kept-words - k * statement-words) 0
+    = sym (take-all (kept-words - k * statement-words) (drop (k * statement-words) ws) l) ∙ zeros-back ws (kept-words - k * statement-words) (k * statement-words) (omega arith) z in
+    sym (take-append-drop (k * statement-words) ws) ∙ rw (front, back, parts-length present-form ws 0 k)
 
 -- ---- the set and the slots
 module _ (n question st set : ℕ) (slots : List ℕ) where
   slot-facts : (i : ℕ) → slot-fits n question st i slots ≡ true → (formed n (fields-of (getD slots (i * statement-words) 0)) ≡ true) × (station-of (getD slots (i * statement-words) 0) ≡ i + 1)
   slot-facts i h =
-      let w = getD slots (i * 10) 0 in
-      let a = both (formed n (fields-of w) && eqb (station-of w) (i + 1) && eqb (getD slots (i * 10 + 1) 0) question) _ h in
+      let w = getD slots (i * statement-words) 0 in
+      let a = both (formed n (fields-of w) && eqb (station-of w) (i + 1) && eqb (getD slots (i * statement-words + 1) 0) question) _ h in
       let b = both (formed n (fields-of w) && eqb (station-of w) (i + 1)) _ (a .0) in
       let c = both (formed n (fields-of w)) _ (b .0) in
       (c .0, eqb-true _ _ (c .1))
@@ -99,7 +100,7 @@ module _ (n question st set : ℕ) (slots : List ℕ) where
   unfolding Rattle.station.specs.Fit.slots-fit
   fit-at zero i j h lo hi = absurd (omega arith)
   fit-at (suc k) i j h lo hi =
-      let a = both (pick (bit set i) (slot-fits n question st i slots) (zeros slots (i * 10) 10)) _ h in
+      let a = both (pick (bit set i) (slot-fits n question st i slots) (zeros slots (i * statement-words) statement-words)) _ h in
       go (eqb j i) refl (a .0) (λ z. fit-at k (suc i) j (a .1) z (omega arith))
     where
       go : (b : Bool) → eqb j i ≡ b → pick (bit set i) (slot-fits n question st i slots) (zeros slots (i * statement-words) statement-words) ≡ true
@@ -126,8 +127,8 @@ module _ (n question st set : ℕ) (slots : List ℕ) where
     where
       go : (b : Bool) → pick b (slot-fits n question st i slots) (zeros slots (i * statement-words) statement-words) ≡ true
           → take statement-words (drop (i * statement-words) slots) ≡ pick b (written (statement slots (i * statement-words))) (replicate statement-words 0)
-      go true f = sym (written-back n slots (i * 10) low (omega arith) (slot-facts i f .0))
-      go false f = zeros-back slots 10 (i * 10) (omega arith) f
+      go true f = sym (written-back n slots (i * statement-words) low (omega arith) (slot-facts i f .0))
+      go false f = zeros-back slots statement-words (i * statement-words) (omega arith) f
 
 -- slots that are, one by one, the words of an array
 pub slots-are : (h : List Statement) (ws : List ℕ) (k i : ℕ) → ((j : ℕ) → i ≤ j → j < i + k → slot-of h (suc j) ≡ take statement-words (drop (j * statement-words) ws))
@@ -135,13 +136,13 @@ pub slots-are : (h : List Statement) (ws : List ℕ) (k i : ℕ) → ((j : ℕ) 
 unfolding Rattle.station.specs.Words.slots-of
 slots-are h ws zero i s = refl
 slots-are h ws (suc k) i s =
-    let e : suc k * 10 ≡ 10 + k * 10 = omega arith in
-    let f : suc i * 10 ≡ i * 10 + 10 = omega arith in
-    let one : slot-of h (suc i) ≡ take 10 (drop (i * 10) ws) = s i (omega arith) (omega arith) in
-    let more : slots-of h (suc (suc i)) k ≡ take (k * 10) (drop 10 (drop (i * 10) ws))
+    let e : suc k * statement-words ≡ statement-words + k * statement-words = omega arith in
+    let f : suc i * statement-words ≡ i * statement-words + statement-words = omega arith in
+    let one : slot-of h (suc i) ≡ take statement-words (drop (i * statement-words) ws) = s i (omega arith) (omega arith) in
+    let more : slots-of h (suc (suc i)) k ≡ take (k * statement-words) (drop statement-words (drop (i * statement-words) ws))
     = slots-are h ws k (suc i) (λ j lo hi. s j (omega arith) (omega arith))
-    ∙ ap (λ (z : ℕ). take (k * 10) (drop z ws)) f ∙ ap (take (k * 10)) (sym (drop-drop 10 (i * 10) ws)) in
-    rw (e, take-add 10 (k * 10) (drop (i * 10) ws)) (λ i. one i ++ more i)
+    ∙ ap (λ (z : ℕ). take (k * statement-words) (drop z ws)) f ∙ ap (take (k * statement-words)) (sym (drop-drop statement-words (i * statement-words) ws)) in
+    rw (e, take-add statement-words (k * statement-words) (drop (i * statement-words) ws)) (λ i. one i ++ more i)
 
 pub all-slots : (h : List Statement) (ws : List ℕ) → length ws ≡ slots-words → ((j : ℕ) → j < sites → slot-of h (suc j) ≡ take statement-words (drop (j * statement-words) ws)) → slots-of h 1 sites ≡ ws
-all-slots h ws long s = slots-are h ws sites 0 (λ j lo hi. s j (omega arith)) ∙ take-all 310 ws (omega arith)
+all-slots h ws long s = slots-are h ws sites 0 (λ j lo hi. s j (omega arith)) ∙ take-all slots-words ws (omega arith)

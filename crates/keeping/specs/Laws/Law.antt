@@ -27,6 +27,7 @@ use Rattle.station.specs.Present as W
 use Rattle.rules.specs.Rules.{Rising}
 use Rattle.format.specs.Laws.ReadBack.{Proper}
 use Rattle.format.specs.Present.{most-stations, place-of, statement-words, formed, written, main-of, certificate-of, all-formed}
+use Rattle.format.specs.Numbers.{code-words}
 use Rattle.laws.specs.All.{All}
 use Rattle.station.specs.Laws.Slots.{bit-set}
 use Rattle.station.specs.Laws.Insert.{insert-all, insert-rising}
@@ -49,7 +50,7 @@ module _ (n number : ℕ) (t : Station) (ws : List ℕ) (top : n ≤ most-statio
   formed-all = both (formed n (fields-of (getD ws 1 0))) _ (B .fields)
 
   main-proper : Proper present-form n (main-of ws)
-  main-proper = record { formed = formed-well present-form n ws 1 (formed-all .0); eight = length-take-le 8 (drop 3 ws) (rw length-drop (omega (arith, B .size))) }
+  main-proper = record { formed = formed-well present-form n ws 1 (formed-all .0); eight = length-take-le code-words (drop 3 ws) (rw length-drop (omega (arith, B .size))) }
 
   main : Formed present-form n (main-of ws)
   main = formed-out present-form n (main-of ws) (formed-well present-form n ws 1 (formed-all .0))
@@ -61,7 +62,7 @@ module _ (n number : ℕ) (t : Station) (ws : List ℕ) (top : n ≤ most-statio
   of-station = omega (arith, main .low)
 
   in-sites : (leb 1 (main-of ws .station) && leb (main-of ws .station) most-stations) ≡ true
-  in-sites = join (leb 1 (main-of ws .station)) _ (le-leb _ _ (main .low)) (le-leb (main-of ws .station) 31 (omega (arith, main .high)))
+  in-sites = join (leb 1 (main-of ws .station)) _ (le-leb _ _ (main .low)) (le-leb (main-of ws .station) sites (omega (arith, main .high)))
 
   -- the bit is clear, and is set
   fresh : bit (t .held .heard) (main-of ws .station - 1) ≡ false
@@ -80,9 +81,9 @@ module _ (n number : ℕ) (t : Station) (ws : List ℕ) (top : n ≤ most-statio
   slots-after : with-slot (t .held .slots) (main-of ws .station) ws ≡ slots-of (insert (main-of ws) (held-by t)) 1 sites
   unfolding with-slot
   slots-after =
-      sym (skip _ _ _ _ (not-f _ (join (leb 1 (main-of ws .station) && leb (main-of ws .station) 31) _ in-sites (le-leb 11 (length ws) (omega (arith, long))))) refl)
-      ∙ sym (all-slots (insert (main-of ws) (held-by t)) (paste (t .held .slots) ((main-of ws .station - 1) * 10) (drop 1 ws) 10)
-      (length-paste (t .held .slots) ((main-of ws .station - 1) * 10) (drop 1 ws) 10 (omega (arith, L .slots, main .low, main .high)) ten ∙ L .slots) each)
+      sym (skip _ _ _ _ (not-f _ (join (leb 1 (main-of ws .station) && leb (main-of ws .station) sites) _ in-sites (le-leb (place-of 1) (length ws) (omega (arith, long))))) refl)
+      ∙ sym (all-slots (insert (main-of ws) (held-by t)) (paste (t .held .slots) ((main-of ws .station - 1) * statement-words) (drop 1 ws) statement-words)
+      (length-paste (t .held .slots) ((main-of ws .station - 1) * statement-words) (drop 1 ws) statement-words (omega (arith, L .slots, main .low, main .high)) ten ∙ L .slots) each)
     where
       ten : statement-words ≤ length (drop 1 ws)
       ten = rw length-drop (omega (arith, long))
@@ -97,7 +98,7 @@ module _ (n number : ℕ) (t : Station) (ws : List ℕ) (top : n ≤ most-statio
       each : (j : ℕ) → j < sites
           → slot-of (insert (main-of ws) (held-by t)) (suc j) ≡ take statement-words (drop (j * statement-words) (paste (t .held .slots) ((main-of ws .station - 1) * statement-words) (drop 1 ws) statement-words))
       each j few =
-          let w : written (main-of ws) ≡ take 10 (drop 1 ws) = written-back n ws 1 low (omega (arith, long)) (formed-all .0) in
+          let w : written (main-of ws) ≡ take statement-words (drop 1 ws) = written-back n ws 1 low (omega (arith, long)) (formed-all .0) in
           slot-insert (main-of ws) (suc j) (held-by t) new
           ∙ rw (numbered j, w, slot-same n number t L A F j few)
           (sym (put-slot (t .held .slots) (drop 1 ws) (main-of ws .station - 1) j (L .slots) ten (omega (arith, main .high, main .low)) few))

@@ -55,9 +55,9 @@ fit-out n number t h shut =
     let c = both (ltb (t .held .heard) (2 ^ sites) && ltb (ones (t .held .heard)) (quorum n) && bit (t .held .heard) (number - 1)) _ (b .0) in
     let d = both (ltb (t .held .heard) (2 ^ sites) && ltb (ones (t .held .heard)) (quorum n)) _ (c .0) in
     let e = both (ltb (t .held .heard) (2 ^ sites)) _ (d .0) in
-    let u = both (stage-fits (t .stage) (getD (t .held .slots) ((number - 1) * 10) 0) && leb (t .lasting .decision) none
+    let u = both (stage-fits (t .stage) (getD (t .held .slots) ((number - 1) * statement-words) 0) && leb (t .lasting .decision) none
     && group-fits n (t .identity .question) (kept-for-value n (t .stage) (held-by t)) (t .groups .value)) _ (b .1) in
-    let v = both (stage-fits (t .stage) (getD (t .held .slots) ((number - 1) * 10) 0) && leb (t .lasting .decision) none) _ (u .0) in
+    let v = both (stage-fits (t .stage) (getD (t .held .slots) ((number - 1) * statement-words) 0) && leb (t .lasting .decision) none) _ (u .0) in
     record {
       same-n = eqb-true _ _ (i .0);
       same-number = eqb-true _ _ (i .1);
@@ -84,17 +84,17 @@ module _ (n number : ℕ) (t : Station) (L : Lengths t) (A : LowWords t) (F : Fi
       ∙ sym (slot-words n (t .identity .question) (stage-step (t .stage)) (t .held .heard) (t .held .slots) i (A .slots) (L .slots) (F .slots) few)
     where
       P : Statement → Type 0
-      P s = (slot-of (held-by t) (s .station) ≡ written s) × (s ≡ statement (t .held .slots) ((s .station - 1) * 10))
+      P s = (slot-of (held-by t) (s .station) ≡ written s) × (s ≡ statement (t .held .slots) ((s .station - 1) * statement-words))
 
       all-P : All P (held-by t)
       all-P =
-          all-two (λ s. slot-of (held-by t) (s .station) ≡ written s) (λ s. s ≡ statement (t .held .slots) ((s .station - 1) * 10)) (held-by t)
+          all-two (λ s. slot-of (held-by t) (s .station) ≡ written s) (λ s. s ≡ statement (t .held .slots) ((s .station - 1) * statement-words)) (held-by t)
           (slot-held present-form 0 (held-by t) rising)
           (read-slots present-form n (t .identity .question) (stage-step (t .stage)) (t .held .heard) (t .held .slots) sites 0 (omega (arith, L .slots)) (F .slots) .placed)
 
       of : At P (suc i) → slot-of (held-by t) (suc i) ≡ written (statement (t .held .slots) (i * statement-words))
       of f =
-          let e : (f .one .station - 1) * 10 ≡ i * 10 = omega (arith, f .of-station) in
+          let e : (f .one .station - 1) * statement-words ≡ i * statement-words = omega (arith, f .of-station) in
           ap (slot-of (held-by t)) (sym (f .of-station)) ∙ f .has .0 ∙ ap written (f .has .1) ∙ ap (λ (k : ℕ). written (statement (t .held .slots) k)) e
 
       go : (b : Bool) → bit (t .held .heard) i ≡ b → slot-of (held-by t) (suc i) ≡ pick b (written (statement (t .held .slots) (i * statement-words))) (replicate statement-words 0)

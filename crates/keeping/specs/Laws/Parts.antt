@@ -23,7 +23,7 @@ use Rattle.laws.specs.Least.{least, least-fits}
 use Rattle.rules.specs.Rules.{Rising}
 use Rattle.station.specs.Machine.{insert, held-of, takes}
 use Rattle.station.specs.Words.{set-of}
-use Rattle.station.specs.Present.{slot-of, group-words, sites, slots-words}
+use Rattle.station.specs.Present.{slot-of, group-words, sites, slots-words, kept-words}
 use Rattle.laws.specs.Below.{Below}
 use Rattle.keeping.specs.Laws.Back.{all-back}
 use Rattle.keeping.specs.Kept.{words-kept, group-from}
@@ -65,9 +65,9 @@ slot-insert m i (s ∷ h) e = go (ltb (m .station) (s .station)) (eqb (s .statio
 -- ten words of a list that lie in its front do not depend on what is behind the front
 front-part : (a x y : List ℕ) (k : ℕ) → k + statement-words ≤ length a → take statement-words (drop k (a ++ x)) ≡ take statement-words (drop k (a ++ y))
 front-part a x y k h =
-    let l : 10 ≤ length (drop k a) = rw length-drop (omega arith) in
-    let one : (z : List ℕ) → take 10 (drop k (a ++ z)) ≡ take 10 (drop k a)
-    = λ z. ap (take 10) (drop-append-le k a z (omega arith)) ∙ take-append-le 10 (drop k a) z l in
+    let l : statement-words ≤ length (drop k a) = rw length-drop (omega arith) in
+    let one : (z : List ℕ) → take statement-words (drop k (a ++ z)) ≡ take statement-words (drop k a)
+    = λ z. ap (take statement-words) (drop-append-le k a z (omega arith)) ∙ take-append-le statement-words (drop k a) z l in
     one x ∙ sym (one y)
 
 -- slot j of the slots with ten words put into slot i
@@ -77,29 +77,29 @@ unfolding pick
 put-slot d w i j long ten p q = go (eqb i j) refl
   where
     front : length (take (i * statement-words) d) ≡ i * statement-words
-    front = length-take-le (i * 10) d (omega arith)
+    front = length-take-le (i * statement-words) d (omega arith)
 
     together : paste d (i * statement-words) w statement-words ≡ take (i * statement-words) d ++ (take statement-words w ++ drop (i * statement-words + statement-words) d)
-    together = append-assoc (take (i * 10) d) (take 10 w) (drop (i * 10 + 10) d)
+    together = append-assoc (take (i * statement-words) d) (take statement-words w) (drop (i * statement-words + statement-words) d)
 
     same : take statement-words (drop (i * statement-words) (paste d (i * statement-words) w statement-words)) ≡ take statement-words w
     same =
-        ap (λ (l : List ℕ). take 10 (drop (i * 10) l)) together
-        ∙ ap (take 10) (drop-at (take (i * 10) d) (take 10 w ++ drop (i * 10 + 10) d) (i * 10) front)
-        ∙ take-at (take 10 w) (drop (i * 10 + 10) d) 10 (length-take-le 10 w ten)
+        ap (λ (l : List ℕ). take statement-words (drop (i * statement-words) l)) together
+        ∙ ap (take statement-words) (drop-at (take (i * statement-words) d) (take statement-words w ++ drop (i * statement-words + statement-words) d) (i * statement-words) front)
+        ∙ take-at (take statement-words w) (drop (i * statement-words + statement-words) d) statement-words (length-take-le statement-words w ten)
 
     before : j < i → take statement-words (drop (j * statement-words) (paste d (i * statement-words) w statement-words)) ≡ take statement-words (drop (j * statement-words) d)
     before l =
-        ap (λ (x : List ℕ). take 10 (drop (j * 10) x)) together
-        ∙ front-part (take (i * 10) d) (take 10 w ++ drop (i * 10 + 10) d) (drop (i * 10) d) (j * 10) (omega (arith, front))
-        ∙ ap (λ (x : List ℕ). take 10 (drop (j * 10) x)) (take-append-drop (i * 10) d)
+        ap (λ (x : List ℕ). take statement-words (drop (j * statement-words) x)) together
+        ∙ front-part (take (i * statement-words) d) (take statement-words w ++ drop (i * statement-words + statement-words) d) (drop (i * statement-words) d) (j * statement-words) (omega (arith, front))
+        ∙ ap (λ (x : List ℕ). take statement-words (drop (j * statement-words) x)) (take-append-drop (i * statement-words) d)
 
     behind : i < j → take statement-words (drop (j * statement-words) (paste d (i * statement-words) w statement-words)) ≡ take statement-words (drop (j * statement-words) d)
     behind l =
-        let r : ℕ = j * 10 - (i * 10 + 10) in
-        let e : j * 10 ≡ i * 10 + 10 + (j * 10 - (i * 10 + 10)) = omega arith in
-        let at : (x : List ℕ) → drop (j * 10) x ≡ drop r (drop (i * 10 + 10) x) = λ x. ap (λ (k : ℕ). drop k x) e ∙ sym (drop-drop r (i * 10 + 10) x) in
-        ap (take 10) (at (paste d (i * 10) w 10) ∙ ap (drop r) (drop-paste d (i * 10) w 10 (omega arith) ten) ∙ sym (at d))
+        let r : ℕ = j * statement-words - (i * statement-words + statement-words) in
+        let e : j * statement-words ≡ i * statement-words + statement-words + (j * statement-words - (i * statement-words + statement-words)) = omega arith in
+        let at : (x : List ℕ) → drop (j * statement-words) x ≡ drop r (drop (i * statement-words + statement-words) x) = λ x. ap (λ (k : ℕ). drop k x) e ∙ sym (drop-drop r (i * statement-words + statement-words) x) in
+        ap (take statement-words) (at (paste d (i * statement-words) w statement-words) ∙ ap (drop r) (drop-paste d (i * statement-words) w statement-words (omega arith) ten) ∙ sym (at d))
 
     go : (b : Bool) → eqb i j ≡ b → take statement-words (drop (j * statement-words) (paste d (i * statement-words) w statement-words)) ≡ pick b (take statement-words w) (take statement-words (drop (j * statement-words) d))
     go true e = let z : j ≡ i = sym (eqb-true i j e) in rw z same
@@ -116,16 +116,16 @@ formed-few n ws zero c at l h = refl
 formed-few n ws (suc k) zero at l h = absurd (omega arith)
 formed-few n ws (suc k) (suc c) at l h =
     let b = both (formed n (fields-of (getD ws at 0))) _ h in
-    join (formed n (fields-of (getD ws at 0))) _ (b .0) (formed-few n ws k c (at + 10) (omega arith) (b .1))
+    join (formed n (fields-of (getD ws at 0))) _ (b .0) (formed-few n ws k c (at + statement-words) (omega arith) (b .1))
 
 least-ten : (a b : ℕ) → least (a * statement-words) (b * statement-words) ≡ least a b * statement-words
 unfolding least pick
-least-ten a b = go (ltb (a * 10) (b * 10)) refl (ltb a b) refl
+least-ten a b = go (ltb (a * statement-words) (b * statement-words)) refl (ltb a b) refl
   where
     go : (x : Bool) → ltb (a * statement-words) (b * statement-words) ≡ x → (y : Bool) → ltb a b ≡ y → pick x (a * statement-words) (b * statement-words) ≡ pick y a b * statement-words
     go true e true f = refl
-    go true e false f = absurd (omega (arith, ltb-true (a * 10) (b * 10) e, ltb-false a b f))
-    go false e true f = absurd (omega (arith, ltb-false (a * 10) (b * 10) e, ltb-true a b f))
+    go true e false f = absurd (omega (arith, ltb-true (a * statement-words) (b * statement-words) e, ltb-false a b f))
+    go false e true f = absurd (omega (arith, ltb-false (a * statement-words) (b * statement-words) e, ltb-true a b f))
     go false e false f = refl
 
 least-room : (a b : ℕ) → a ≤ b → least a b ≡ a
@@ -142,12 +142,12 @@ pub group-kept : (n q c : ℕ) (ws : List ℕ) → Below ws → q ≤ quorum sit
 unfolding group-from words-kept
 group-kept n q c ws low few long f =
     let in-c : least q c ≤ c = least-fits q c in
-    let l : length ws - 11 ≡ c * 10 = omega arith in
-    let e : least (least (q * 10) 160) (length ws - 11) ≡ least q c * 10
-    = rw (least-room (q * 10) 160 (omega arith), l) (least-ten q c) in
-    let w : all-written (statements ws 11 (least q c)) ≡ take (least q c * 10) (drop 11 ws)
-    = all-back n ws low (least q c) 11 (omega arith) (formed-few n ws (least q c) c 11 in-c f) in
-    rw (e, parts-take present-form ws 11 q c, parts-length present-form ws 11 (least q c), w)
+    let l : length ws - place-of 1 ≡ c * statement-words = omega arith in
+    let e : least (least (q * statement-words) kept-words) (length ws - place-of 1) ≡ least q c * statement-words
+    = rw (least-room (q * statement-words) kept-words (omega arith), l) (least-ten q c) in
+    let w : all-written (statements ws (place-of 1) (least q c)) ≡ take (least q c * statement-words) (drop (place-of 1) ws)
+    = all-back n ws low (least q c) (place-of 1) (omega arith) (formed-few n ws (least q c) c (place-of 1) in-c f) in
+    rw (e, parts-take present-form ws (place-of 1) q c, parts-length present-form ws (place-of 1) (least q c), w)
 
 -- ---- whose certificate is kept: that of the lowest-numbered station of those that supply it
 module _ (p : Statement → Bool) (m : Statement) (low : 1 ≤ m .station) where

@@ -15,7 +15,7 @@ use Rattle.laws.specs.Fill.{put}
 use Rattle.laws.specs.Least.{least, least-fits}
 use Rattle.format.specs.Lists.{some}
 use Rattle.format.specs.Present.{most-stations, place-of, statement-words}
-use Rattle.station.specs.Present.{kept-words, slots-words}
+use Rattle.station.specs.Present.{kept-words, slots-words, sites}
 use Rattle.keeping.specs.Kept.{words-kept}
 
 -- a number that passed the test is a station's
@@ -24,7 +24,7 @@ is-station s e = let b = both (leb 1 s) _ (not-false _ e) in (leb-true _ _ (b .0
 
 pub has-main : (s have : ℕ) → not (leb 1 s && leb s most-stations && leb (place-of 1) have) ≡ false → (1 ≤ s) × (s ≤ most-stations) × (place-of 1 ≤ have)
 has-main s have e =
-    let a = both (leb 1 s && leb s 31) _ (not-false _ e) in
+    let a = both (leb 1 s && leb s sites) _ (not-false _ e) in
     let b = both (leb 1 s) _ (a .0) in
     (leb-true _ _ (b .0), leb-true _ _ (b .1), leb-true _ _ (a .1))
 
@@ -48,7 +48,7 @@ least-low a b = go (ltb a b) refl
 
 pub kept-room : (q have : ℕ) → (words-kept q have ≤ kept-words) × (words-kept q have ≤ have - place-of 1)
 unfolding words-kept
-kept-room q have = (omega (arith, least-low (least (q * 10) 160) (have - 11), least-fits (q * 10) 160), least-fits (least (q * 10) 160) (have - 11))
+kept-room q have = (omega (arith, least-low (least (q * statement-words) kept-words) (have - place-of 1), least-fits (q * statement-words) kept-words), least-fits (least (q * statement-words) kept-words) (have - place-of 1))
 
 pub none-kept : (q have : ℕ) → have < place-of 1 → 0 ≡ words-kept q have
 none-kept q have h = omega (arith, kept-room q have .1)
@@ -57,5 +57,5 @@ none-kept q have h = omega (arith, kept-room q have .1)
 pub group-turn : (ws b : List ℕ) (count i : ℕ) → i < count → count ≤ kept-words → count ≤ length ws - place-of 1 → b ≡ take i (drop (place-of 1) ws) ++ replicate (kept-words - i) 0
     → set b i (getD ws (place-of 1 + i) 0) ≡ take (i + 1) (drop (place-of 1) ws) ++ replicate (kept-words - (i + 1)) 0
 group-turn ws b count i h few room e =
-    let l : i < length (drop 11 ws) = rw length-drop (omega arith) in
-    put 160 (drop 11 ws) b i (getD ws (11 + i) 0) l (omega arith) e (sym (getD-drop 11 ws i 0))
+    let l : i < length (drop (place-of 1) ws) = rw length-drop (omega arith) in
+    put kept-words (drop (place-of 1) ws) b i (getD ws (place-of 1 + i) 0) l (omega arith) e (sym (getD-drop (place-of 1) ws i 0))

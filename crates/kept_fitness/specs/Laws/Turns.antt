@@ -21,7 +21,7 @@ use Rattle.format.specs.Present.{statement-words, formed, statement, statements
 
 pub parts-start : (ws : List ℕ) (at have : ℕ) → statements ws at have ≡ statements ws (at + 0 * statement-words) (have - 0)
 parts-start ws at have =
-    let e : at + 0 * 10 ≡ at = omega arith in
+    let e : at + 0 * statement-words ≡ at = omega arith in
     rw (e, sub-zero)
 
 pub parts-turn : (ws : List ℕ) (at have i : ℕ) → i < have
@@ -29,7 +29,7 @@ pub parts-turn : (ws : List ℕ) (at have i : ℕ) → i < have
 unfolding Rattle.format.specs.Statement.statements
 parts-turn ws at have i h =
     let e : have - i ≡ suc (have - (i + 1)) = omega arith in
-    let f : at + (i + 1) * 10 ≡ at + i * 10 + 10 = omega arith in
+    let f : at + (i + 1) * statement-words ≡ at + i * statement-words + statement-words = omega arith in
     rw (e, f)
 
 pub parts-end : (ws : List ℕ) (at have i : ℕ) → have ≤ i → statements ws at (have - i) ≡ []
@@ -44,9 +44,9 @@ pub order-turn : (g : Group) (last : ℕ) (ws : List ℕ) (at have i : ℕ) (f :
     (in-order g (f .station) (statements ws (at + (i + 1) * statement-words) (have - (i + 1))))
 unfolding in-order fields-of
 order-turn g last ws at have i f h e =
-    let s : Statement = statement ws (at + i * 10) in
+    let s : Statement = statement ws (at + i * statement-words) in
     rw (e, parts-turn ws at have i h)
-    (and-pick (wanted g (s .kind) (s .value) (s .flag) (s .round) && ltb last (s .station)) (in-order g (s .station) (statements ws (at + (i + 1) * 10) (have - (i + 1)))))
+    (and-pick (wanted g (s .kind) (s .value) (s .flag) (s .round) && ltb last (s .station)) (in-order g (s .station) (statements ws (at + (i + 1) * statement-words) (have - (i + 1)))))
 
 pub order-end : (g : Group) (last : ℕ) (ws : List ℕ) (at have i : ℕ) → have ≤ i → true ≡ in-order g last (statements ws at (have - i))
 unfolding in-order
@@ -62,7 +62,7 @@ pub every-turn : (p : Statement → Bool) (ws : List ℕ) (at have i : ℕ) → 
     ≡ pick (not (p (statement ws (at + i * statement-words)))) false (every p (statements ws (at + (i + 1) * statement-words) (have - (i + 1))))
 unfolding every
 every-turn p ws at have i h =
-    rw (parts-turn ws at have i h) (and-pick (p (statement ws (at + i * 10))) (every p (statements ws (at + (i + 1) * 10) (have - (i + 1)))))
+    rw (parts-turn ws at have i h) (and-pick (p (statement ws (at + i * statement-words))) (every p (statements ws (at + (i + 1) * statement-words) (have - (i + 1)))))
 
 pub every-end : (p : Statement → Bool) (ws : List ℕ) (at have i : ℕ) → have ≤ i → true ≡ every p (statements ws at (have - i))
 unfolding every
@@ -70,7 +70,7 @@ every-end p ws at have i h = rw (parts-end ws at have i h)
 
 pub formed-start : (n : ℕ) (ws : List ℕ) (at k : ℕ) → all-formed n ws at k ≡ all-formed n ws (at + 0 * statement-words) (k - 0)
 formed-start n ws at k =
-    let e : at + 0 * 10 ≡ at = omega arith in
+    let e : at + 0 * statement-words ≡ at = omega arith in
     rw (e, sub-zero)
 
 pub formed-turn : (n : ℕ) (ws : List ℕ) (at k i : ℕ) → i < k
@@ -79,8 +79,8 @@ pub formed-turn : (n : ℕ) (ws : List ℕ) (at k i : ℕ) → i < k
 unfolding Rattle.format.specs.Bundle.all-formed
 formed-turn n ws at k i h =
     let e : k - i ≡ suc (k - (i + 1)) = omega arith in
-    let f : at + (i + 1) * 10 ≡ at + i * 10 + 10 = omega arith in
-    rw (e, f) (and-pick (formed n (fields-of (getD ws (at + i * 10) 0))) (all-formed n ws (at + i * 10 + 10) (k - (i + 1))))
+    let f : at + (i + 1) * statement-words ≡ at + i * statement-words + statement-words = omega arith in
+    rw (e, f) (and-pick (formed n (fields-of (getD ws (at + i * statement-words) 0))) (all-formed n ws (at + i * statement-words + statement-words) (k - (i + 1))))
 
 pub formed-end : (n : ℕ) (ws : List ℕ) (at k i : ℕ) → k ≤ i → true ≡ all-formed n ws at (k - i)
 unfolding Rattle.format.specs.Bundle.all-formed

@@ -59,18 +59,18 @@ sent-all m q f l g slots set group k out w0 count t after xs ys ew ecx eay et =
 -- the same of `send_copy`
 pub copy-fits : (have lent : ℕ) → copy-count have lent ≤ lent
 unfolding copy-count copyable pick
-copy-fits have lent = go (leb 11 have && leb have lent) refl
+copy-fits have lent = go (leb (place-of 1) have && leb have lent) refl
   where
-    go : (b : Bool) → (leb 11 have && leb have lent) ≡ b → pick b have 0 ≤ lent
-    go true e = leb-true have lent (both (leb 11 have) _ e .1)
+    go : (b : Bool) → (leb (place-of 1) have && leb have lent) ≡ b → pick b have 0 ≤ lent
+    go true e = leb-true have lent (both (leb (place-of 1) have) _ e .1)
     go false e = omega arith
 
 pub copy-main-fits : (have lent : ℕ) → (copy-count have lent ≡ 0 → ⊥) → place-of 1 ≤ lent
 unfolding copy-count copyable pick
-copy-main-fits have lent h = go (leb 11 have && leb have lent) refl h
+copy-main-fits have lent h = go (leb (place-of 1) have && leb have lent) refl h
   where
-    go : (b : Bool) → (leb 11 have && leb have lent) ≡ b → (pick b have 0 ≡ 0 → ⊥) → place-of 1 ≤ lent
-    go true e h = let a = both (leb 11 have) _ e in omega (arith, leb-true 11 have (a .0), leb-true have lent (a .1))
+    go : (b : Bool) → (leb (place-of 1) have && leb have lent) ≡ b → (pick b have 0 ≡ 0 → ⊥) → place-of 1 ≤ lent
+    go true e h = let a = both (leb (place-of 1) have) _ e in omega (arith, leb-true (place-of 1) have (a .0), leb-true have lent (a .1))
     go false e h = absurd (h refl)
 
 pub copied-all : (m : Module) (q : ℕ) (f : Fields) (l : Lasting) (g : Stage) (ws out : List ℕ) (w0 : ℕ) (count : ℕ) (t : Station) (after : Module) (xs ys : List ℕ)

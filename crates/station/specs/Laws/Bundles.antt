@@ -14,7 +14,7 @@ use Rattle.format.specs.Form.{Form, most-stations, most-statements, head-bits, 
 use Rattle.format.specs.Numbers.{least-stations}
 use Rattle.format.specs.Group.{backing-most}
 use Rattle.format.specs.Statement.{Statement, statement, statements, written, verifies, formed}
-use Rattle.format.specs.Bundle.{count-in, main-of, certificate-of, all-formed, all-written, bundle-of}
+use Rattle.format.specs.Bundle.{head-mark, mark-bit, count-bits, count-in, main-of, certificate-of, all-formed, all-written, bundle-of}
 use Rattle.rules.specs.Rules.{Backed, rule-1, rule-2, rule-3, rule-4, rule-5, rule-6, rule-7, some-D-GET}
 use Rattle.certificate.specs.Valid.{IsBundle, Valid}
 use Rattle.station.specs.Laws.ReadBack.{statements-drop, statements-back, length-all}
@@ -24,7 +24,7 @@ use Rattle.station.specs.Laws.Sane.{all-formed-drop, all-formed-back}
 module _ (form : Form) where
   module _ (n : ℕ) (s : Statement) (c : List Statement) (top : n ≤ most-stations form) (p : Proper form n s) (a : All (Proper form n) c) (few : length c ≤ most-statements form) where
     abbrev ws : List ℕ
-    ws = (3 * 2 ^ 30 + head-bits form * 2 ^ 16 + length c) ∷ (written form s ++ all-written form c)
+    ws = (head-mark * 2 ^ mark-bit + head-bits form * 2 ^ count-bits + length c) ∷ (written form s ++ all-written form c)
 
     count-is : count-in ws ≡ length c
     count-is = omega (arith, count-fits form)

@@ -37,7 +37,7 @@ use Rattle.station.specs.Laws.Sane.{Kept, InRounds, FlagOf, Sane}
 
 module _ (form : Form) where
   code-eight : (ws : List ℕ) (at : ℕ) → at + statement-words form ≤ length ws → length (take code-words (drop (at + covered-words form) ws)) ≡ code-words
-  code-eight ws at h = length-take-le 8 (drop (at + covered-words form) ws) (rw length-drop (omega arith))
+  code-eight ws at h = length-take-le code-words (drop (at + covered-words form) ws) (rw length-drop (omega arith))
 
   -- ---- the held statements
   module _ (n question st set : ℕ) (slots : List ℕ) where
@@ -136,7 +136,7 @@ module _ (form : Form) where
         as-asked = holds-out g c (d .0);
         proper =
             all-map (λ s p. record { formed = p .0; eight = p .1 }) c
-            (all-two (λ s. well-formed form n s ≡ true) (λ s. length (s .code) ≡ 8) c (all-well form n ws 0 (g .size) (d .1)) (eights ws (g .size) 0 (omega (arith, words-mono form (g .size) (quorum (sites form)) few))));
+            (all-two (λ s. well-formed form n s ≡ true) (λ s. length (s .code) ≡ code-words) c (all-well form n ws 0 (g .size) (d .1)) (eights ws (g .size) 0 (omega (arith, words-mono form (g .size) (quorum (sites form)) few))));
         alike = all-map (λ s e. eqb-true _ _ e) c (every-out (λ s. eqb (s .question) question) c (b .1));
       }
 

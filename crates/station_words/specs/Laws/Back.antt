@@ -213,7 +213,7 @@ module _ (ws : List ℕ) (is : is-station ws ≡ true) where
   abbrev front-words : List ℕ
   front-words = getD ws 0 0 ∷ getD ws 1 0 ∷ getD ws 2 0 ∷ getD ws 3 0 ∷ getD ws 4 0 ∷ getD ws 5 0 ∷ getD ws 6 0 ∷ getD ws 7 0 ∷ getD ws 8 0 ∷ []
 
-  nine : ws ≡ front-words ++ drop 9 ws
+  nine : ws ≡ front-words ++ drop slots-at ws
   nine =
       drop-cons ws 0 0 (omega (arith, long))
       ∙ ap (λ (x : List ℕ). getD ws 0 0 ∷ x) (drop-cons ws 1 0 (omega (arith, long))
@@ -228,33 +228,33 @@ module _ (ws : List ℕ) (is : is-station ws ≡ true) where
   -- the last word is all that is behind the statements
   last-again : drop jump-at ws ≡ getD ws jump-at 0 ∷ []
   last-again =
-      drop-cons ws 639 0 (omega (arith, long))
-      ∙ ap (λ (x : List ℕ). getD ws 639 0 ∷ x) (ap (λ (k : ℕ). drop k ws) (sym long) ∙ drop-length ws)
+      drop-cons ws jump-at 0 (omega (arith, long))
+      ∙ ap (λ (x : List ℕ). getD ws jump-at 0 ∷ x) (ap (λ (k : ℕ). drop k ws) (sym long) ∙ drop-length ws)
 
   -- the statements and the last word
   statements-again : part slots-at slots-words ws ++ part value-at kept-words ws ++ part none-at kept-words ws ++ (getD ws jump-at 0 ∷ []) ≡ drop slots-at ws
   unfolding part
   statements-again =
-      let a = take 310 (drop 9 ws) in
-      let b = take 160 (drop 319 ws) in
-      let c = take 160 (drop 479 ws) in
-      let j = getD ws 639 0 ∷ [] in
-      let from-c : c ++ j ≡ drop 479 ws = ap (λ (x : List ℕ). c ++ x) (sym last-again ∙ sym (drop-drop 160 479 ws)) ∙ take-append-drop 160 (drop 479 ws) in
-      let from-b : b ++ (c ++ j) ≡ drop 319 ws = ap (λ (x : List ℕ). b ++ x) (from-c ∙ sym (drop-drop 160 319 ws)) ∙ take-append-drop 160 (drop 319 ws) in
+      let a = take slots-words (drop slots-at ws) in
+      let b = take kept-words (drop value-at ws) in
+      let c = take kept-words (drop none-at ws) in
+      let j = getD ws jump-at 0 ∷ [] in
+      let from-c : c ++ j ≡ drop none-at ws = ap (λ (x : List ℕ). c ++ x) (sym last-again ∙ sym (drop-drop kept-words none-at ws)) ∙ take-append-drop kept-words (drop none-at ws) in
+      let from-b : b ++ (c ++ j) ≡ drop value-at ws = ap (λ (x : List ℕ). b ++ x) (from-c ∙ sym (drop-drop kept-words value-at ws)) ∙ take-append-drop kept-words (drop value-at ws) in
       append-assoc (a ++ b) c j
       ∙ append-assoc a b (c ++ j)
-      ∙ ap (λ (x : List ℕ). a ++ x) (from-b ∙ sym (drop-drop 310 9 ws))
-      ∙ take-append-drop 310 (drop 9 ws)
+      ∙ ap (λ (x : List ℕ). a ++ x) (from-b ∙ sym (drop-drop slots-words slots-at ws))
+      ∙ take-append-drop slots-words (drop slots-at ws)
 
   pub words-back : words-of (station-in ws) ≡ ws
   unfolding words-of settings-of sets-of statements-of station-in
   words-back =
       let g = stage-again (getD ws 3 0) (getD ws 4 0) (getD ws 5 0) (tests .0) .0 in
       let c = truth-again (getD ws 6 0) (tests .1) in
-      let j = truth-again (getD ws 639 0) (tests .2) in
+      let j = truth-again (getD ws jump-at 0) (tests .2) in
       let s = part slots-at slots-words ws ++ part value-at kept-words ws ++ part none-at kept-words ws in
       (λ i. (getD ws 0 0 ∷ getD ws 1 0 ∷ getD ws 2 0 ∷ (g i ++ (c i ∷ getD ws 7 0 ∷ []))) ++ (getD ws 8 0 ∷ []) ++ s ++ (j i ∷ []))
-      ∙ append-assoc front-words s (getD ws 639 0 ∷ [])
+      ∙ append-assoc front-words s (getD ws jump-at 0 ∷ [])
       ∙ ap (λ (x : List ℕ). front-words ++ x) statements-again
       ∙ sym nine
 
