@@ -1,10 +1,11 @@
 -- The run of valley over an input that comes in pieces: what the library's calls promise.
 use Prim.Native.Nat.{ℕ, zero, suc, _+_, _%_, _^_}
 use mathlib.Core.Bool.{Bool, true, false}
-use mathlib.Core.List.{List, [], _∷_, _++_}
+use mathlib.Core.List.{List, [], _∷_}
 use lib.Dec.{eqb, ltb}
-use lib.ListN.{length, take, drop, set, replicate}
+use lib.ListN.{length, take, set, replicate}
 use Rattle.laws.specs.Pick.{pick}
+use Rattle.laws.specs.Over.{over}
 use Rattle.lines.specs.Read.{newline, read-line}
 use Rattle.world.specs.declared.Phase.the-variants.{First}
 use Rattle.console.specs.declared.Run.{Run}
@@ -43,7 +44,7 @@ pub record Takes : Type 0 where
 
 -- the printed bytes stand at the front of the lent ones, and those behind them are untouched
 abbrev pub prints : ℕ → List ℕ → Run → List ℕ → Takes
-prints used printed r out = record { used = used; count = length printed; run = r; lent = printed ++ drop (length printed) out }
+prints used printed r out = record { used = used; count = length printed; run = r; lent = over printed out }
 
 abbrev pub one-more : Takes → Takes
 one-more t = record { used = suc (t .used); count = t .count; run = t .run; lent = t .lent }

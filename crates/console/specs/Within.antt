@@ -1,13 +1,14 @@
 -- What a call takes stands in the piece, and what it prints stands in the lent bytes: the bounds that a caller needs.
 use Prim.Native.Nat.{ℕ, zero, suc, _+_, _-_, _≤_, _<_}
 use mathlib.Core.Bool.{Bool, true, false}
-use mathlib.Core.List.{List, [], _∷_, _++_}
+use mathlib.Core.List.{List, [], _∷_}
 use mathlib.Core.Path.{_≡_, refl, sym, subst}
 use native.Mathlib.Omega.{arith}
 use lib.Dec.{eqb, ltb}
 use lib.ListN.{length, take, drop, length-append, length-drop}
 use lib.Seq.{length-take-le}
 use Rattle.laws.specs.Pick.{pick}
+use Rattle.laws.specs.Over.{over}
 use Rattle.lines.specs.Read.{newline}
 use Rattle.console.specs.declared.Run.{Run}
 use Rattle.world.specs.Valley.{missing}
@@ -19,7 +20,7 @@ pub record Bounds (piece : List ℕ) (t : Takes) : Type 0 where
   pub within : t .used ≤ length piece
   pub lent : t .count ≤ length (t .lent)
 
-fits : (printed out : List ℕ) → length printed ≤ length (printed ++ drop (length printed) out)
+fits : (printed out : List ℕ) → length printed ≤ length (over printed out)
 fits printed out = omega (arith, length-append printed (drop (length printed) out))
 
 pub bounds : (piece : List ℕ) (r : Run) (out : List ℕ) → Bounds piece (taking r piece out)

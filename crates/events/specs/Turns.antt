@@ -1,8 +1,9 @@
 -- What the parts of a turn promise.
 use Prim.Native.Nat.{ℕ, suc}
-use mathlib.Core.List.{List, _++_}
+use mathlib.Core.List.{List}
 use mathlib.Core.Path.{_≡_}
-use lib.ListN.{length, drop, set}
+use lib.ListN.{length, set}
+use Rattle.laws.specs.Over.{over}
 use Rattle.world.specs.declared.Phase.{Phase}
 use Rattle.world.specs.declared.World.{World}
 use Rattle.world.specs.Valley.{Turn}
@@ -10,7 +11,7 @@ use Rattle.world.specs.Valley.{Turn}
 -- what was printed stands at the front of the lent bytes, and those behind it are untouched
 pub record Printed (printed : List ℕ) (count : ℕ) (before after : List ℕ) : Type 0 where
   pub count-is : count ≡ length printed
-  pub lent-is : after ≡ printed ++ drop (length printed) before
+  pub lent-is : after ≡ over printed before
 
 -- what a line did is what the definition says
 pub record Turned (t : Turn) (phase : Phase) (world : World) (count : ℕ) (before after : List ℕ) : Type 0 where

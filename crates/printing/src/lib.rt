@@ -1,10 +1,11 @@
 // The lines that the program valley prints, as bytes (document 01, "The program valley"). The contracts cite specs/Print.antt.
 use format::Step;
 ghost use mathlib.Core.Path.{_≡_};
-ghost use mathlib.Core.List.{_∷_, _++_};
+ghost use mathlib.Core.List.{_∷_};
 ghost use Prim.Native.Nat.{suc, _+_, _≤_};
-ghost use lib.ListN.{length, drop};
+ghost use lib.ListN.{length};
 ghost use lib.Seq.{paste};
+ghost use Rattle.laws.specs.Over.{over};
 ghost use Rattle.lines.specs.Read.{space};
 ghost use Rattle.printing.specs.Print.{decimal, event-line, bad-line};
 
@@ -42,7 +43,7 @@ fn put_spaced(n: u64, out: &mut [u8], at: usize) -> usize
 
 // The line of an event at the front of out; answers how many bytes it has. Its numbers have at most 20, 10, 20 and 10 digits, so it always fits.
 pub fn event_line(event: u64, number: u32, step: Step, decision: u32, out: &mut [u8; 64]) -> usize
-    ensures { λ r. ⌜ (r ≡ length (event-line event number (step .0) decision)) × (now (out .exit) ≡ event-line event number (step .0) decision ++ drop (length (event-line event number (step .0) decision)) (now (out .entry))) ⌝ }
+    ensures { λ r. ⌜ (r ≡ length (event-line event number (step .0) decision)) × (now (out .exit) ≡ over (event-line event number (step .0) decision) (now (out .entry))) ⌝ }
 {
     let a = put_number(event, out, 0);
     let b = put_spaced(number as u64, out, a);
@@ -54,7 +55,7 @@ pub fn event_line(event: u64, number: u32, step: Step, decision: u32, out: &mut 
 
 // The line that ends a run at an input line, at the front of out: a fixed byte string, then the line's number. Answers how many bytes it has.
 pub fn bad_line(number: u64, out: &mut [u8; 64]) -> usize
-    ensures { λ r. ⌜ (r ≡ length (bad-line number)) × (now (out .exit) ≡ bad-line number ++ drop (length (bad-line number)) (now (out .entry))) ⌝ }
+    ensures { λ r. ⌜ (r ≡ length (bad-line number)) × (now (out .exit) ≡ over (bad-line number) (now (out .entry))) ⌝ }
 {
     copy(b"bad line ", out, 0);
     let end = put_number(number, out, 9);

@@ -1,13 +1,14 @@
 -- Laws that join the parts of a turn.
 use Prim.Native.Nat.{ℕ, _-_, _≤_, _<_}
 use mathlib.Core.Bool.{Bool, true, false, not, _&&_}
-use mathlib.Core.List.{List, [], _++_}
+use mathlib.Core.List.{List, []}
 use mathlib.Core.Path.{_≡_, refl, sym, ap, _∙_, subst}
 use native.Mathlib.Omega.{arith}
 use lib.Dec.{ltb, leb}
-use lib.ListN.{length, drop}
+use lib.ListN.{length}
 use borrow.Author.Tests.{lt-ltb, le-ltb, le-leb, lt-leb, not-true, not-false}
 use Rattle.laws.specs.Pick.{pick}
+use Rattle.laws.specs.Over.{over}
 use Rattle.lines.specs.declared.Line.the-variants.{Group, Give}
 use Rattle.station.specs.Calls.{Returned}
 use Rattle.world.specs.declared.Phase.{Phase}
@@ -21,8 +22,8 @@ use Rattle.events.specs.Turns.{Printed, Turned, with-bundle}
 -- ---- printing
 -- what a printing call promises, of another name for the printed bytes
 pub printed-as : {l : List ℕ} {k : List ℕ} {count : ℕ} {before : List ℕ} {lent : List ℕ} → l ≡ k
-    → (count ≡ length l) × (lent ≡ l ++ drop (length l) before) → Printed k count before lent
-printed-as {before = before} e h = record { count-is = h .0 ∙ ap length e; lent-is = h .1 ∙ ap (λ (x : List ℕ). x ++ drop (length x) before) e }
+    → (count ≡ length l) × (lent ≡ over l before) → Printed k count before lent
+printed-as {before = before} e h = record { count-is = h .0 ∙ ap length e; lent-is = h .1 ∙ ap (λ (x : List ℕ). over x before) e }
 
 pub nothing : (before : List ℕ) → Printed [] 0 before before
 nothing before = record { count-is = refl; lent-is = refl }
@@ -35,7 +36,7 @@ turned-as {phase = phase} {world = world} {count = count} {before = before} {len
 
 -- ---- the turns
 pub bad-turned : (w : World) (number count : ℕ) (before lent : List ℕ)
-    → (count ≡ length (bad-line number)) × (lent ≡ bad-line number ++ drop (length (bad-line number)) before)
+    → (count ≡ length (bad-line number)) × (lent ≡ over (bad-line number) before)
     → Turned (bad w number) Ended w count before lent
 unfolding bad
 bad-turned w number count before lent h = record { phase-is = refl; world-is = refl; prints = printed-as refl h }
@@ -43,7 +44,7 @@ bad-turned w number count before lent h = record { phase-is = refl; world-is = r
 pub told-turned : (w : World) (number s returned event step decision count : ℕ) (before lent : List ℕ) → event ≡ number - 1
     → step ≡ shown-step w s → decision ≡ shown-decision w s
     → (count ≡ length (event-line event returned step decision))
-    × (lent ≡ event-line event returned step decision ++ drop (length (event-line event returned step decision)) before)
+    × (lent ≡ over (event-line event returned step decision) before)
     → Turned (told w number s returned) Running w count before lent
 unfolding told
 told-turned w number s returned event step decision count before lent e-is s-is d-is h =

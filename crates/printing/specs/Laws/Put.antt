@@ -4,7 +4,7 @@ use mathlib.Core.Path.{_≡_, refl, sym, ap, _∙_}
 use mathlib.Core.List.{List, _∷_, _++_}
 use native.Mathlib.Numerals.{add-one}
 use native.Mathlib.Omega.{arith}
-use lib.ListN.{length, take, drop, getD, set, length-append}
+use lib.ListN.{length, take, getD, set, length-append}
 use Rattle.laws.specs.Over.{over, over-snoc, paste-front, paste-behind}
 use Rattle.lines.specs.Read.{space, newline}
 use Rattle.printing.specs.Print.{decimal, event-line, bad-line-bytes, bad-line}
@@ -33,7 +33,7 @@ pub bad-line-put : (number r : ℕ) (old with-text with-number : List ℕ) → n
     → with-text ≡ paste old 0 bad-line-bytes 9
     → r ≡ 9 + length (decimal number)
     → with-number ≡ paste with-text 9 (decimal number) (length (decimal number))
-    → (r + 1 ≡ length (bad-line number)) × (set with-number r newline ≡ bad-line number ++ drop (length (bad-line number)) old)
+    → (r + 1 ≡ length (bad-line number)) × (set with-number r newline ≡ over (bad-line number) old)
 unfolding bad-line
 bad-line-put number r old with-text with-number fits long text-is r-is number-is =
     let t : with-text ≡ over bad-line-bytes old = text-is ∙ paste-front bad-line-bytes old in
@@ -57,7 +57,7 @@ pub event-line-put : (event number step decision a b c d : ℕ) (old one two thr
     → d ≡ c + suc (length (decimal decision))
     → four ≡ paste three c (space ∷ decimal decision) (suc (length (decimal decision)))
     → (d + 1 ≡ length (event-line event number step decision))
-    × (set four d newline ≡ event-line event number step decision ++ drop (length (event-line event number step decision)) old)
+    × (set four d newline ≡ over (event-line event number step decision) old)
 unfolding event-line
 event-line-put event number step decision a b c d old one two three four long fits-event fits-number fits-step fits-decision a-is one-is b-is two-is c-is three-is d-is four-is =
     let p1 : List ℕ = decimal event in
