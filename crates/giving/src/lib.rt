@@ -56,17 +56,11 @@ fn taken(m: Module, k: Station, coin: u32, out: &mut [u32]) -> Answer
 pub fn give(m: Module, t: Station, ws: &[u32], coin: u32, out: &mut [u32]) -> Answer
     ensures { λ r. ⌜ Answers (giving hmac-code m t (now (ws .entry)) coin (now (out .entry))) (r .number) (r .count) (r .station) (r .after) (now (out .exit)) ⌝ }
 {
-    let number = refusal::refusal(m, t, ws, coin, out.len());
-    if number != 0 {
-        return no_bundle(number, t, m);
+    let found = refusal::refusal(m, t, ws, coin, out.len());
+    if found.number != 0 {
+        return no_bundle(found.number, t, m);
     }
-    let stage = t.stage;
-    let lasting = t.lasting;
-    if refusal::jumps(
-        stage,
-        lasting.jump,
-        format::read_fields(format::word_at(ws, 1)),
-    ) {
+    if found.jumps {
         return jumping::jump(m, t, ws, coin, out);
     }
     let k = keeping::keep(t, ws);

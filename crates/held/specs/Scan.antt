@@ -1,16 +1,21 @@
 -- The scan over the held statements: the set of those stations of a set whose statement a test takes. Station s has bit s − 1 and the slot of that number.
-use Prim.Native.Nat.{ℕ, zero, suc, _+_, _*_, _%_, _^_}
-use mathlib.Core.Bool.{Bool, _&&_}
+use Prim.Native.Nat.{ℕ, zero, suc, _+_, _-_, _*_, _%_, _^_}
+use mathlib.Core.Bool.{Bool, not, _&&_}
 use mathlib.Core.List.{List}
 use lib.Count.{ones}
-use lib.Dec.{ltb}
+use lib.Dec.{ltb, leb}
+use Rattle.laws.specs.Pick.{pick}
 use Rattle.laws.specs.Count.{one-if}
 use Rattle.laws.specs.Sets.{bit}
 use Rattle.format.specs.Statement.{Statement}
-use Rattle.format.specs.Present.{statement-words, statement}
+use Rattle.format.specs.Present.{most-stations, statement-words, statement}
 use Rattle.rules.specs.declared.Which.{Which}
 use Rattle.rules.specs.Rules.{which}
 use Rattle.station.specs.Present.{sites}
+
+-- a set with station s's bit; a number that is no station's, or is in the set, changes nothing
+unfoldable pub with-station : ℕ → ℕ → ℕ
+with-station set s = pick (not (leb 1 s && leb s most-stations)) set (pick (bit set (s - 1)) set (set + 2 ^ (s - 1)))
 
 -- of m numbers from i on, those that a test takes, as the bits of a word: the lowest is that of i
 unfoldable pub gathered : (ℕ → Bool) → ℕ → ℕ → ℕ

@@ -15,17 +15,17 @@ use station::Station;
 ghost use mathlib.Core.Path.{_≡_};
 ghost use mathlib.Core.Bool.{false, _&&_, _||_};
 ghost use Prim.Native.Nat.{_%_, _^_, _<_};
-ghost use lib.Count.{ones};
+ghost use lib.Count.{ones, trailingZeros};
 ghost use lib.Dec.{eqb, ltb};
 ghost use Rattle.laws.specs.Count.{one-if};
 ghost use Rattle.format.specs.Numbers.{D-GET, R-GET};
 ghost use Rattle.laws.specs.Sets.{bit};
 ghost use Rattle.station.specs.Machine.{supplies-for-value, supplies-for-none, undecided as Undecided, with-setting, with-decision};
 ghost use Rattle.station.specs.Present.{empty-station, sites};
-ghost use Rattle.held.specs.Scan.{such, scan as Scan, lowest as Lowest};
+ghost use Rattle.held.specs.Scan.{with-station, such, scan as Scan, lowest as Lowest};
 
-// The first set with a bit behind that of the last station.
-pub const BEHIND: u32 = 2147483648;
+// The first set with a bit after that of the last station.
+const BEHIND: u32 = 2147483648;
 
 // Whether the number i is in the set.
 pub fn in_set(set: u32, i: u32) -> bool
@@ -35,6 +35,35 @@ pub fn in_set(set: u32, i: u32) -> bool
         return false;
     }
     (set >> i) % 2 == 1
+}
+
+// Whether the set names stations only: it has no bit after that of the last.
+pub fn names_stations(set: u32) -> bool
+    ensures { λ r. ⌜ r ≡ ltb set (2 ^ sites) ⌝ }
+{
+    set < BEHIND
+}
+
+// The set with a station's bit, where it is a station's number and the bit is clear.
+pub fn with_station(set: u32, s: u32) -> u32
+    ensures { λ r. ⌜ r ≡ with-station set s ⌝ }
+{
+    if !((1 <= s) & (s <= MOST_STATIONS)) {
+        return set;
+    }
+    let i = s - 1;
+    if in_set(set, i) {
+        return set;
+    }
+    let more: u32 = 1 << i;
+    set + more
+}
+
+// The lowest number in the set, or 32 where there is none.
+pub fn first_of(set: u32) -> u32
+    ensures { λ r. ⌜ r ≡ trailingZeros 32 set ⌝ }
+{
+    u32::trailing_zeros(set)
 }
 
 // How many numbers are in the set.

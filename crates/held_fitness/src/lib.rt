@@ -82,5 +82,5 @@ pub fn held_fits(
 {
     let own = held::in_set(heard, i);
     let all = slots_fit(slots, heard, n, question, step);
-    (heard < held::BEHIND) & (held::number_of(heard) < format::quorum(n)) & own & all
+    held::names_stations(heard) & (held::number_of(heard) < format::quorum(n)) & own & all
 }

@@ -1,12 +1,11 @@
 -- A station's words with one bundle more: a definition that is total, by the words alone. `Law` ties it to the state's definition, `keeping`.
-use Prim.Native.Nat.{ℕ, _+_, _-_, _*_, _^_}
+use Prim.Native.Nat.{ℕ, _-_, _*_}
 use mathlib.Core.Bool.{Bool, not, _&&_}
 use mathlib.Core.List.{List, _++_}
 use lib.Dec.{eqb, leb}
 use lib.ListN.{length, getD, take, drop, replicate}
 use lib.Seq.{paste}
 use Rattle.laws.specs.Pick.{pick}
-use Rattle.laws.specs.Sets.{bit}
 use Rattle.format.specs.Group.{quorum}
 use Rattle.format.specs.Statement.{Statement}
 use Rattle.format.specs.Present.{most-stations, statement-words, place-of, fields-at}
@@ -17,11 +16,7 @@ use Rattle.station.specs.declared.Groups.{Groups}
 use Rattle.station.specs.declared.Station.{Station}
 use Rattle.station.specs.Machine.{supplies-for-value, supplies-for-none}
 use Rattle.station.specs.Present.{kept-words}
-use Rattle.held.specs.Scan.{scan, lowest}
-
--- a set with station s's bit; a number that is no station's, or is in the set, changes nothing
-unfoldable pub with-station : ℕ → ℕ → ℕ
-with-station set s = pick (not (leb 1 s && leb s most-stations)) set (pick (bit set (s - 1)) set (set + 2 ^ (s - 1)))
+use Rattle.held.specs.Scan.{with-station, scan, lowest}
 
 -- the slots with the words of a bundle's main statement in station s's slot
 unfoldable pub with-slot : List ℕ → ℕ → List ℕ → List ℕ

@@ -15,22 +15,7 @@ ghost use lib.Seq.{paste};
 ghost use Rattle.laws.specs.Pick.{pick};
 ghost use Rattle.format.specs.Present.{place-of, statement-words};
 ghost use Rattle.station.specs.Present.{slots-words};
-ghost use Rattle.keeping.specs.Kept.{with-station, with-slot, words-kept, group-from, is-lowest, held-with, groups-with, with-bundle};
-
-// The set with a station's bit, where it is a station's number and the bit is clear.
-fn with_station(set: u32, s: u32) -> u32
-    ensures { λ r. ⌜ r ≡ with-station set s ⌝ }
-{
-    if !((1 <= s) & (s <= MOST_STATIONS)) {
-        return set;
-    }
-    let i = s - 1;
-    if held::in_set(set, i) {
-        return set;
-    }
-    let more: u32 = 1 << i;
-    set + more
-}
+ghost use Rattle.keeping.specs.Kept.{with-slot, words-kept, group-from, is-lowest, held-with, groups-with, with-bundle};
 
 // Puts the ten words of the main statement at a place of the slots.
 fn put_main(slots: [u32; SLOTS_WORDS], at: usize, ws: &[u32]) -> [u32; SLOTS_WORDS]
@@ -85,7 +70,7 @@ fn group_from(ws: &[u32], q: u32) -> [u32; KEPT_WORDS]
 fn is_lowest(set: u32, s: u32) -> bool
     ensures { λ r. ⌜ r ≡ is-lowest set s ⌝ }
 {
-    held::lowest(set, 1) == with_station(0, s)
+    held::lowest(set, 1) == held::with_station(0, s)
 }
 
 // The kept group, replaced by the bundle's or as it was.
@@ -103,7 +88,7 @@ fn held_with(held: Held, s: u32, ws: &[u32]) -> Held
     ensures { λ r. ⌜ r ≡ held-with held s (now (ws .entry)) ⌝ }
 {
     let old = held.slots;
-    let heard = with_station(held.heard, s);
+    let heard = held::with_station(held.heard, s);
     let slots = with_slot(old, s, ws);
     Held {
         heard: heard,

@@ -52,7 +52,7 @@ fn kept_for_value(slots: &[u32; SLOTS_WORDS], heard: u32, n: u32, stage: Stage) 
     if found == 0 {
         return no_group();
     }
-    let i = u32::trailing_zeros(found) as usize;
+    let i = held::first_of(found) as usize;
     let f = format::read_fields(slots[i * STATEMENT_WORDS]);
     value_group(n, stage, f.value)
 }

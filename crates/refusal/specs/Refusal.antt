@@ -73,22 +73,22 @@ pub jumps-is : (t : Station) (ws : List ℕ) (f : Fields) → f ≡ fields-of (g
 unfolding jumps-by Rattle.station.specs.Words.state-of step fields-of
 jumps-is t ws f e = rw e
 
--- the station's own tests, of a statement with these fields
+-- the station's own tests, of a statement with these fields, that makes the station jump or not
 unfoldable pub step-refused : Stage → Bool → ℕ → List Statement → Fields → ℕ
-step-refused g jump set h f =
+step-refused g to-jump set h f =
     first-failed
     (test (leb (stage-step g) (step-of (f .kind) (f .round .0))) too-late
-    ∷ test (jumps-by g jump f || leb (step-of (f .kind) (f .round .0)) (stage-step g)) too-early
-    ∷ test (jumps-by g jump f || not (bit set (f .station - 1))) already-held
-    ∷ test (jumps-by g jump f || not (conflicting g (f .value) (f .flag) h)) conflict-number
+    ∷ test (to-jump || leb (step-of (f .kind) (f .round .0)) (stage-step g)) too-early
+    ∷ test (to-jump || not (bit set (f .station - 1))) already-held
+    ∷ test (to-jump || not (conflicting g (f .value) (f .flag) h)) conflict-number
     ∷ [])
 
 -- where the bit says whether the main statement's station is held, they are those of the table
-pub step-refused-is : (t : Station) (ws : List ℕ) (f : Fields) → f ≡ fields-of (getD ws 1 0)
+pub step-refused-is : (t : Station) (ws : List ℕ) (f : Fields) (to-jump : Bool) → f ≡ fields-of (getD ws 1 0) → to-jump ≡ jumps-by (t .stage) (t .lasting .jump) f
     → bit (t .held .heard) (f .station - 1) ≡ held-of (f .station) (held-by t)
-    → step-refused (t .stage) (t .lasting .jump) (t .held .heard) (held-by t) f ≡ first-failed (step-tests (state-of t) (main-of ws))
+    → step-refused (t .stage) to-jump (t .held .heard) (held-by t) f ≡ first-failed (step-tests (state-of t) (main-of ws))
 unfolding step-refused jumps-by Rattle.station.specs.Words.state-of step fields-of
-step-refused-is t ws f e b =
+step-refused-is t ws f to-jump e j b =
     let c : conflicting (t .stage) (main-of ws .value) (main-of ws .flag) (held-by t) ≡ conflict (t .stage) (main-of ws ∷ held-by t)
     = conflict-is (t .stage) (main-of ws) (held-by t) in
-    rw (b, e, c)
+    rw (b, j, e, c)

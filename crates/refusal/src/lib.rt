@@ -8,10 +8,20 @@ use station::Station;
 ghost use mathlib.Core.Path.{_≡_};
 ghost use mathlib.Core.List.{[], _∷_};
 ghost use Prim.Native.Nat.{_-_, _≤_};
+ghost use lib.ListN.{getD};
 ghost use Rattle.laws.specs.Refusals.{test, first-failed};
 ghost use Rattle.format.specs.Numbers.{too-late, too-early, already-held, conflicting as conflicting-number};
+ghost use Rattle.format.specs.Words.{fields-of};
 ghost use Rattle.station.specs.Present.{held-in, sites};
-ghost use Rattle.refusal.specs.Refusal.{both-values as BothValues, conflicting, jumps-by, step-refused, first-refusal};
+ghost use Rattle.refusal.specs.Refusal.{both-values as BothValues, conflicting, jumps-by, step-refused, first-refusal as FirstRefusal};
+
+// What is found of a bundle given to a station: the number of its first refusal, or 0; the main statement's fields, read off word 1; and whether a statement
+// with these makes the station jump.
+pub struct Finding {
+    pub number: u32,
+    pub fields: Fields,
+    pub jumps: bool,
+}
 
 // Whether the held statements and one more, with this value and flag, have both values with such a flag.
 fn both_values(slots: &[u32; SLOTS_WORDS], heard: u32, wanted: Which, value: u32, flag: u32) -> bool
@@ -36,7 +46,7 @@ fn conflicts(slots: &[u32; SLOTS_WORDS], heard: u32, stage: Stage, value: u32, f
 }
 
 // Whether a statement with these fields makes a station jump: the setting is on, and the statement is of a later step.
-pub fn jumps(stage: Stage, jump: bool, f: Fields) -> bool
+fn jumps(stage: Stage, jump: bool, f: Fields) -> bool
     ensures { λ r. ⌜ r ≡ jumps-by stage jump f ⌝ }
 {
     let own = stages::step_in(stage);
@@ -64,27 +74,35 @@ fn table(reached: bool, due: bool, fresh: bool, calm: bool) -> u32
 }
 
 // The first of the station's own tests that a statement with these fields fails. One that makes the station jump is only tested for a lower step.
-fn step_refusal(slots: &[u32; SLOTS_WORDS], heard: u32, stage: Stage, jump: bool, f: Fields) -> u32
+fn step_refusal(slots: &[u32; SLOTS_WORDS], heard: u32, stage: Stage, leaps: bool, f: Fields) -> u32
     requires { ⌜ 1 ≤ f .station ⌝ }
-    ensures { λ r. ⌜ r ≡ step-refused stage jump heard (held-in heard (now (slots .entry)) 0 sites) f ⌝ }
+    ensures { λ r. ⌜ r ≡ step-refused stage leaps heard (held-in heard (now (slots .entry)) 0 sites) f ⌝ }
 {
     let own = stages::step_in(stage);
     let step = format::step_of(f);
     let held = held::in_set(heard, f.station - 1);
     let clash = conflicts(slots, heard, stage, f.value, f.flag);
-    let to_jump = jumps(stage, jump, f);
     table(
         own.0 <= step.0,
-        to_jump | (step.0 <= own.0),
-        to_jump | !held,
-        to_jump | !clash,
+        leaps | (step.0 <= own.0),
+        leaps | !held,
+        leaps | !clash,
     )
 }
 
 // The first refusal of a bundle given to a station, or 0. The tests are made in the table's order, each only where those before it passed: no
 // code is computed for a closed station.
-pub fn refusal(m: Module, t: Station, ws: &[u32], coin: u32, room: usize) -> u32
-    ensures { λ r. ⌜ r ≡ first-refusal m t (now (ws .entry)) coin room ⌝ }
+fn first_refusal(
+    m: Module,
+    t: Station,
+    ws: &[u32],
+    coin: u32,
+    room: usize,
+    f: Fields,
+    leaps: bool,
+) -> u32
+    requires { ⌜ (f ≡ fields-of (getD (now ws) 1 0)) × (leaps ≡ jumps-by (t .stage) (t .lasting .jump) f) ⌝ }
+    ensures { λ r. ⌜ r ≡ FirstRefusal m t (now (ws .entry)) coin room ⌝ }
 {
     if room < format::OUTPUT_WORDS {
         return format::SHORT_OUTPUT;
@@ -105,12 +123,23 @@ pub fn refusal(m: Module, t: Station, ws: &[u32], coin: u32, room: usize) -> u32
     let held = t.held;
     let slots = held.slots;
     let stage = t.stage;
+    step_refusal(&slots, held.heard, stage, leaps, f)
+}
+
+// What is found of a bundle given to a station. Its fields and whether they make the station jump are told of any words, with 0 for a word that is missing.
+pub fn refusal(m: Module, t: Station, ws: &[u32], coin: u32, room: usize) -> Finding
+    ensures { λ r. ⌜ (r .number ≡ FirstRefusal m t (now (ws .entry)) coin room)
+        × (r .fields ≡ fields-of (getD (now (ws .entry)) 1 0))
+        × (r .jumps ≡ jumps-by (t .stage) (t .lasting .jump) (fields-of (getD (now (ws .entry)) 1 0))) ⌝ }
+{
+    let stage = t.stage;
     let lasting = t.lasting;
-    step_refusal(
-        &slots,
-        held.heard,
-        stage,
-        lasting.jump,
-        format::read_fields(ws[1]),
-    )
+    let fields = format::read_fields(format::word_at(ws, 1));
+    let leaps = jumps(stage, lasting.jump, fields);
+    let number = first_refusal(m, t, ws, coin, room, fields, leaps);
+    Finding {
+        number,
+        fields,
+        jumps: leaps,
+    }
 }

@@ -83,7 +83,7 @@ fn writable(lent: usize, set: u32, count: u32, k: u32) -> bool
     ensures { λ r. ⌜ r ≡ Writable lent set count k ⌝ }
 {
     (OUTPUT_WORDS <= lent)
-        & (set < held::BEHIND)
+        & held::names_stations(set)
         & (k <= LARGEST_QUORUM)
         & ((count as u64) + (k as u64) <= MOST_STATEMENTS as u64)
 }

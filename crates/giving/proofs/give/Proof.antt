@@ -42,18 +42,9 @@ no-bundle-requires c κs = search needs
 
 returns : tie.Need-returns
 returns c =
-    let a = c .before .before .before .before .before .args in
+    let a = c .before .before .before .before .before .before .args in
     answers-none _ _ _ _ _ _ (c .no-bundle .ensures)
-    (give-refused (a .m) (a .t) (a .ws .now) (a .coin) (a .out .now) _ (c .before .before .refusal .ensures) (c .before .if1 .taken))
-
-word-at-requires : tie.Need-word-at-requires
-word-at-requires c κs = search needs
-
-read-fields-requires : tie.Need-read-fields-requires
-read-fields-requires c κs = search needs
-
-jumps-requires : tie.Need-jumps-requires
-jumps-requires c κs = search needs
+    (give-refused (a .m) (a .t) (a .ws .now) (a .coin) (a .out .now) _ (c .before .before .before .refusal .ensures .0) (c .before .if1 .taken))
 
 jump-requires : tie.Need-jump-requires
 jump-requires c κs = search needs
@@ -65,15 +56,13 @@ returns-2 : tie.Need-returns-2
 returns-2 c =
     let j = c .before .before in
     let i = j .before .before in
-    let b = i .before in
-    let f = b .before in
-    let w = f .before in
-    let e = w .before .before .before in
+    let w = i .before in
+    let e = w .before .before in
     let s = e .before .before .before in
     let a = s .args in
     give-jump (a .m) (a .t) (a .ws .now) (a .coin) (a .out .now) (lengths s) (λ i. e .before .before .shared-slice-known .given i .fits) _ _ _ _ _
-    (none-found (a .m) (a .t) (a .ws .now) (a .coin) (a .out .now) _ (e .refusal .ensures) (w .before .before .if1 .left))
-    (sym (jumps-found (a .m) (a .t) (a .ws .now) (a .coin) (a .out .now) _ _ _ (w .word-at .ensures) (f .read-fields .ensures) (b .jumps .ensures)) ∙ i .if2 .taken)
+    (none-found (a .m) (a .t) (a .ws .now) (a .coin) (a .out .now) _ (e .refusal .ensures .0) (w .if1 .left))
+    (sym (jumps-found (a .m) (a .t) (a .ws .now) (a .coin) (a .out .now) _ (e .refusal .ensures .2)) ∙ i .if2 .taken)
     (j .jump .ensures) (λ i. c .slice-known2 .given i .fits)
 
 keep-requires : tie.Need-keep-requires
@@ -92,16 +81,14 @@ returns-3 : tie.Need-returns-3
 returns-3 c =
     let k = c .before .before .before .before .before .before .before in
     let i = k .before in
-    let b = i .before in
-    let f = b .before in
-    let w = f .before in
-    let e = w .before .before .before in
+    let w = i .before in
+    let e = w .before .before in
     let s = e .before .before .before in
     let a = s .args in
     answers-none _ _ _ _ _ _ (c .no-bundle2 .ensures)
     (give-12 (a .m) (a .t) (a .ws .now) (a .coin) (a .out .now) (lengths s) (low-words s) (λ i. e .before .before .shared-slice-known .given i .fits) _ _ _ _ _ _
-    (none-found (a .m) (a .t) (a .ws .now) (a .coin) (a .out .now) _ (e .refusal .ensures) (w .before .before .if1 .left))
-    (sym (jumps-found (a .m) (a .t) (a .ws .now) (a .coin) (a .out .now) _ _ _ (w .word-at .ensures) (f .read-fields .ensures) (b .jumps .ensures)) ∙ i .if2 .left)
+    (none-found (a .m) (a .t) (a .ws .now) (a .coin) (a .out .now) _ (e .refusal .ensures .0) (w .if1 .left))
+    (sym (jumps-found (a .m) (a .t) (a .ws .now) (a .coin) (a .out .now) _ (e .refusal .ensures .2)) ∙ i .if2 .left)
     (k .keep .ensures) (c .before .before .before .before .before .taken .ensures) (λ i. c .before .before .before .slice-known3 .given i .fits) (c .before .if3 .taken))
 
 same-length-3 : tie.Need-same-length-3
@@ -111,15 +98,13 @@ returns-4 : tie.Need-returns-4
 returns-4 c =
     let k = c .before .before .before .before .before .before in
     let i = k .before in
-    let b = i .before in
-    let f = b .before in
-    let w = f .before in
-    let e = w .before .before .before in
+    let w = i .before in
+    let e = w .before .before in
     let s = e .before .before .before in
     let a = s .args in
     give-after (a .m) (a .t) (a .ws .now) (a .coin) (a .out .now) (lengths s) (low-words s) (λ i. e .before .before .shared-slice-known .given i .fits) _ _ _ _ _ _
-    (none-found (a .m) (a .t) (a .ws .now) (a .coin) (a .out .now) _ (e .refusal .ensures) (w .before .before .if1 .left))
-    (sym (jumps-found (a .m) (a .t) (a .ws .now) (a .coin) (a .out .now) _ _ _ (w .word-at .ensures) (f .read-fields .ensures) (b .jumps .ensures)) ∙ i .if2 .left)
+    (none-found (a .m) (a .t) (a .ws .now) (a .coin) (a .out .now) _ (e .refusal .ensures .0) (w .if1 .left))
+    (sym (jumps-found (a .m) (a .t) (a .ws .now) (a .coin) (a .out .now) _ (e .refusal .ensures .2)) ∙ i .if2 .left)
     (k .keep .ensures) (c .before .before .before .before .taken .ensures) (λ i. c .before .before .slice-known3 .given i .fits) (c .if3 .left)
 
 pub give-spec : {M : Type 1} → statement M
@@ -129,9 +114,6 @@ give-spec =
     refusal-requires
     no-bundle-requires
     returns
-    word-at-requires
-    read-fields-requires
-    jumps-requires
     jump-requires
     same-length
     returns-2

@@ -13,7 +13,6 @@ use Rattle.laws.specs.Refusals.{first-failed}
 use Rattle.format.specs.Form.{present-form}
 use Rattle.format.specs.Numbers.{none, kept, sent, sent-decided, closed-now, not-above}
 use Rattle.format.specs.Group.{quorum}
-use Rattle.format.specs.declared.Fields.{Fields}
 use Rattle.format.specs.Words.{fields-of, step-of}
 use Rattle.format.specs.Present.{last-round, main-of}
 use Rattle.hmac.specs.Code.{hmac-code}
@@ -57,8 +56,8 @@ module _ (m : Module) (t : Station) (ws : List ℕ) (coin : ℕ) (out : List ℕ
   none-found k e z = sym (first-refusal-by-length m t ws coin out) ∙ sym e ∙ z
 
   -- whether it jumps, as the code finds it
-  pub jumps-found : (w : ℕ) (f : Fields) (b : Bool) → w ≡ getD ws 1 0 → f ≡ fields-of w → b ≡ jumps-by (t .stage) (t .lasting .jump) f → b ≡ jumps (state-of t) (main-of ws)
-  jumps-found w f b ew ef eb = eb ∙ jumps-is t ws f (ef ∙ ap fields-of ew)
+  pub jumps-found : (b : Bool) → b ≡ jumps-by (t .stage) (t .lasting .jump) (fields-of (getD ws 1 0)) → b ≡ jumps (state-of t) (main-of ws)
+  jumps-found b eb = eb ∙ jumps-is t ws (fields-of (getD ws 1 0)) refl
 
   pub give-jump : Lengths t → Below ws → (number count : ℕ) (u : Station) (after-m : Module) (xs : List ℕ) → first-failed (give-tests hmac-code m t ws coin out) ≡ 0
       → jumps (state-of t) (main-of ws) ≡ true → Answers (jumping m t ws coin out) number count u after-m xs → Below xs → Answers (giving hmac-code m t ws coin out) number count u after-m xs

@@ -1,14 +1,16 @@
 -- Sets that are gathered by a test: one turn of the loop that gathers them, their bits, and their size as words.
 use Prim.Native.Nat.{ℕ, zero, suc, _+_, _-_, _*_, _/_, _%_, _^_, _≤_, _<_}
-use mathlib.Core.Bool.{Bool, true, false}
+use mathlib.Core.Bool.{Bool, true, false, not, _&&_}
 use mathlib.Core.Path.{_≡_, refl, sym, ap, _∙_}
 use native.Mathlib.Nat.{pow-suc, div-one, div-div-eq-div-mul, div-eq-of-lt, lt-of-lt-of-le, one-mul}
 use native.Mathlib.Omega.{arith}
-use lib.Dec.{eqb, lit<}
+use lib.Dec.{eqb, leb, lit<}
 use lib.Pow.{pow-pos, pow-mono, shl-exact}
-use borrow.Author.Tests.{eqb-true, eqb-false, eq-eqb, ne-eqb}
+use borrow.Author.Tests.{eqb-true, eqb-false, eq-eqb, ne-eqb, leb-true, not-false}
+use Rattle.laws.specs.Bools.{both}
 use Rattle.laws.specs.Count.{one-if}
 use Rattle.laws.specs.Sets.{bit}
+use Rattle.format.specs.Present.{most-stations}
 use Rattle.station.specs.Present.{sites}
 use Rattle.held.specs.Scan.{gathered}
 
@@ -21,6 +23,10 @@ none-above h i b l =
 -- the empty set has no number
 pub no-bit : (i : ℕ) → bit 0 i ≡ false
 no-bit i = let e : 0 / 2 ^ i ≡ 0 = div-eq-of-lt (pow-pos i) in rw e
+
+-- a number that passed the test is a station's
+pub is-station : (s : ℕ) → not (leb 1 s && leb s most-stations) ≡ false → (1 ≤ s) × (s ≤ most-stations)
+is-station s e = let b = both (leb 1 s) _ (not-false _ e) in (leb-true _ _ (b .0), leb-true _ _ (b .1))
 
 -- one bit as a word
 pub one-bit : (i : ℕ) → i ≤ 31 → 1 * 2 ^ i % 2 ^ 32 ≡ 2 ^ i

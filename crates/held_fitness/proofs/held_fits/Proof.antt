@@ -10,6 +10,9 @@ in-set-requires c κs = search needs
 slots-fit-requires : tie.Need-slots-fit-requires
 slots-fit-requires c κs = search needs
 
+names-stations-requires : tie.Need-names-stations-requires
+names-stations-requires c κs = search needs
+
 number-of-requires : tie.Need-number-of-requires
 number-of-requires c κs = search needs
 
@@ -18,8 +21,8 @@ quorum-requires c κs = search needs
 
 returns : tie.Need-returns
 unfolding held-words-fit
-returns c = rw (c .quorum .ensures, c .before .number-of .ensures, c .before .before .slots-fit .ensures, c .before .before .before .in-set .ensures)
+returns c = rw (c .quorum .ensures, c .before .number-of .ensures, c .before .before .names-stations .ensures, c .before .before .before .slots-fit .ensures, c .before .before .before .before .in-set .ensures)
 
 pub held-fits-spec : {M : Type 1} → statement M
 held-fits-spec =
-    tie.close (tie.spec in-set-requires slots-fit-requires number-of-requires quorum-requires returns)
+    tie.close (tie.spec in-set-requires slots-fit-requires names-stations-requires number-of-requires quorum-requires returns)

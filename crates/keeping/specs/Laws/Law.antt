@@ -40,7 +40,8 @@ use Rattle.station.specs.Present.{slot-of, slots-of, group-words, sites, held-b
 use Rattle.laws.specs.Below.{Below}
 use Rattle.keeping.specs.Laws.Back.{written-back, all-slots}
 use Rattle.keeping.specs.Laws.One.{LowWords, Fit, fit-out, rising, set-same, slot-same, for-value-same, for-none-same}
-use Rattle.keeping.specs.Kept.{with-station, with-slot, group-from, is-lowest, taken-from, held-with, groups-with, with-bundle}
+use Rattle.held.specs.Scan.{with-station}
+use Rattle.keeping.specs.Kept.{with-slot, group-from, is-lowest, taken-from, held-with, groups-with, with-bundle}
 use Rattle.keeping.specs.Laws.Parts.{set-insert, slot-insert, put-slot, group-kept, first-inserted}
 
 module _ (n number : ℕ) (t : Station) (ws : List ℕ) (top : n ≤ most-stations) (L : Lengths t) (A : LowWords t) (low : Below ws) (F : Fit n number t) (B : IsBundle n ws)

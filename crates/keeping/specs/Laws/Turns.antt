@@ -18,10 +18,6 @@ use Rattle.format.specs.Present.{most-stations, place-of, statement-words}
 use Rattle.station.specs.Present.{kept-words, slots-words, sites}
 use Rattle.keeping.specs.Kept.{words-kept}
 
--- a number that passed the test is a station's
-pub is-station : (s : ℕ) → not (leb 1 s && leb s most-stations) ≡ false → (1 ≤ s) × (s ≤ most-stations)
-is-station s e = let b = both (leb 1 s) _ (not-false _ e) in (leb-true _ _ (b .0), leb-true _ _ (b .1))
-
 pub has-main : (s have : ℕ) → not (leb 1 s && leb s most-stations && leb (place-of 1) have) ≡ false → (1 ≤ s) × (s ≤ most-stations) × (place-of 1 ≤ have)
 has-main s have e =
     let a = both (leb 1 s && leb s sites) _ (not-false _ e) in

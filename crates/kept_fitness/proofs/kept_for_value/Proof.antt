@@ -1,7 +1,6 @@
 -- Where the scan finds a station that supplies the group, the value is that of the lowest-numbered, in the slot of the lowest bit.
 use Prim.Native.Nat.{_<_}
 use native.Mathlib.Omega.{arith}
-use lib.Count.{trailingZeros}
 use Rattle.kept_fitness.specs.Parts.{for-value-slot, for-value-found, for-value-missing}
 use borrow.Author.Needs.{needs}
 use Rattle.kept_fitness.proofs.kept_for_value.Statement.{statement}
@@ -19,10 +18,14 @@ returns c =
     let s = c .before .before .for-value in
     for-value-missing (a .n) (a .stage) (a .heard) (a .slots .now) (s .result) (c .no-group .result) (s .ensures) (c .before .if1 .taken) (c .no-group .ensures)
 
-slot : (d : tie.Else1) → trailingZeros 32 (d .before .for-value .result) < 31
+first-of-requires : tie.Need-first-of-requires
+first-of-requires c κs = search needs
+
+slot : (d : tie.After-first-of) → d .first-of .result < 31
 slot d =
-    let a = d .before .before .args in
-    for-value-slot (a .stage) (a .heard) (a .slots .now) (d .before .for-value .result) (d .before .for-value .ensures) (d .if1 .left)
+    let e = d .before in
+    let a = e .before .before .args in
+    rw (d .first-of .ensures) (for-value-slot (a .stage) (a .heard) (a .slots .now) (e .before .for-value .result) (e .before .for-value .ensures) (e .if1 .left))
 
 cast-i : tie.Need-cast-i
 cast-i c = record { fits = omega (arith, slot c) }
@@ -45,10 +48,11 @@ value-group-requires c κs = search needs
 returns-2 : tie.Need-returns-2
 returns-2 c =
     let r = c .before in
-    let d = r .before .before in
+    let f = r .before .before in
+    let d = f .before in
     let a = d .before .before .args in
     let s = d .before .for-value in
-    for-value-found (a .n) (a .stage) (a .heard) (a .slots .now) (s .result) (c .value-group .result) (s .ensures) (r .read-fields .result) (d .if1 .left) (r .read-fields .ensures)
+    for-value-found (a .n) (a .stage) (a .heard) (a .slots .now) (s .result) (c .value-group .result) (s .ensures) (r .read-fields .result) (d .if1 .left) (rw (f .first-of .ensures) at (r .read-fields .ensures))
     (c .value-group .ensures)
 
 pub kept-for-value-spec : {M : Type 1} → statement M
@@ -58,6 +62,7 @@ kept-for-value-spec =
     for-value-requires
     no-group-requires
     returns
+    first-of-requires
     cast-i
     mul-read-fields
     mul-read-fields-2

@@ -1,85 +1,33 @@
--- Each answer is that of the first test that fails: the tests before it have passed.
-use Rattle.refusal.specs.Laws.Answers.{answer-room, answer-range, answer-closed, answer-judged, two-words, station-low, answer-step}
+-- By what the calls answer.
+use mathlib.Core.Path.{_≡_, ap, _∙_}
+use Rattle.format.specs.declared.Fields.{Fields}
+use Rattle.format.specs.Words.{fields-of}
+use Rattle.refusal.specs.Refusal.{jumps-by}
 use borrow.Author.Needs.{needs}
 use Rattle.refusal.proofs.refusal.Statement.{statement}
 use Rattle.refusal.proofs.refusal.Tie as tie
 
-returns : tie.Need-returns
-returns c =
-    let a = c .before .before .args in
-    answer-room (a .m) (a .t) (a .ws .now) (a .coin) (a .room) (c .if1 .taken)
-
-fits-module-requires : tie.Need-fits-module-requires
-fits-module-requires c κs = search needs
-
-returns-2 : tie.Need-returns-2
-returns-2 c =
-    let f = c .before in
-    let a = f .before .before .before .args in
-    answer-range (a .m) (a .t) (a .ws .now) (a .coin) (a .room) (f .before .if1 .left) (f .fits-module .result) (f .fits-module .ensures) (c .if2 .taken)
-
-returns-3 : tie.Need-returns-3
-returns-3 c =
-    let f = c .before .before in
-    let a = f .before .before .before .args in
-    answer-closed (a .m) (a .t) (a .ws .now) (a .coin) (a .room) (f .before .if1 .left) (f .fits-module .result) (f .fits-module .ensures)
-    (c .before .if2 .left) (c .if3 .taken)
-
-judge-requires : tie.Need-judge-requires
-judge-requires c κs = search needs
-
-returns-4 : tie.Need-returns-4
-returns-4 c =
-    let j = c .before in
-    let e = j .before .before .before in
-    let f = e .before .before in
-    let a = f .before .before .before .args in
-    answer-judged (a .m) (a .t) (a .ws .now) (a .coin) (a .room) (f .before .if1 .left) (f .fits-module .result) (f .fits-module .ensures) (e .before .if2 .left) (e .if3 .left)
-    (j .judge .result) (j .judge .ensures) (c .if4 .taken)
-
-shared-slice-read-read-fields : tie.Need-shared-slice-read-read-fields
-shared-slice-read-read-fields c =
-    let j = c .before .before .before .before .before .before in
-    let e = j .before .before .before in
-    let f = e .before .before in
-    let a = f .before .before .before .args in
-    two-words (a .m) (a .t) (a .ws .now) (a .coin) (a .room) (f .before .if1 .left) (f .fits-module .result) (f .fits-module .ensures) (e .before .if2 .left) (e .if3 .left)
-    (j .judge .result) (j .judge .ensures) (c .before .before .before .before .before .if4 .left)
+word-at-requires : tie.Need-word-at-requires
+word-at-requires c κs = search needs
 
 read-fields-requires : tie.Need-read-fields-requires
 read-fields-requires c κs = search needs
 
-step-refusal-requires : tie.Need-step-refusal-requires
-step-refusal-requires c κs =
-    let j = c .before .before .before .before .before .before .before in
-    let e = j .before .before .before in
-    let f = e .before .before in
-    let a = f .before .before .before .args in
-    station-low (a .m) (a .t) (a .ws .now) (a .coin) (a .room) (f .before .if1 .left) (f .fits-module .result) (f .fits-module .ensures) (e .before .if2 .left) (e .if3 .left)
-    (j .judge .result) (j .judge .ensures) (c .before .before .before .before .before .before .if4 .left)
-    (c .read-fields .result) (c .read-fields .ensures)
+jumps-requires : tie.Need-jumps-requires
+jumps-requires c κs = search needs
 
-returns-5 : tie.Need-returns-5
-returns-5 c =
-    let j = c .before .before .before .before .before .before .before .before in
-    let e = j .before .before .before in
-    let f = e .before .before in
-    let a = f .before .before .before .args in
-    answer-step (a .m) (a .t) (a .ws .now) (a .coin) (a .room) (f .before .if1 .left) (f .fits-module .result) (f .fits-module .ensures) (e .before .if2 .left) (e .if3 .left)
-    (j .judge .result) (j .judge .ensures) (c .before .before .before .before .before .before .before .if4 .left)
-    (c .before .read-fields .result) (c .before .read-fields .ensures) (c .step-refusal .result) (c .step-refusal .ensures)
+first-refusal-requires : tie.Need-first-refusal-requires
+first-refusal-requires c κs =
+    let r = c .before in
+    (r .read-fields .ensures ∙ ap fields-of (r .before .word-at .ensures), c .jumps .ensures)
+
+returns : tie.Need-returns
+returns c =
+    let j = c .before in
+    let r = j .before in
+    let a = r .before .before .before .before .args in
+    let f : r .read-fields .result ≡ _ = r .read-fields .ensures ∙ ap fields-of (r .before .word-at .ensures) in
+    (c .first-refusal .ensures, f, j .jumps .ensures ∙ ap (λ (x : Fields). jumps-by (a .t .stage) (a .t .lasting .jump) x) f)
 
 pub refusal-spec : {M : Type 1} → statement M
-refusal-spec =
-    tie.close
-    (tie.spec
-    returns
-    fits-module-requires
-    returns-2
-    returns-3
-    judge-requires
-    returns-4
-    shared-slice-read-read-fields
-    read-fields-requires
-    step-refusal-requires
-    returns-5)
+refusal-spec = tie.close (tie.spec word-at-requires read-fields-requires jumps-requires first-refusal-requires returns)

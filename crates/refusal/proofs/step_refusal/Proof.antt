@@ -20,20 +20,16 @@ in-set-requires c κs = search needs
 conflicts-requires : tie.Need-conflicts-requires
 conflicts-requires c κs = search needs
 
-jumps-requires : tie.Need-jumps-requires
-jumps-requires c κs = search needs
-
 table-requires : tie.Need-table-requires
 table-requires c κs = search needs
 
 returns : tie.Need-returns
 unfolding step-refused step-in
 returns c =
-    let j = c .before .before .before .before .before in
-    let k = j .before in
+    let k = c .before .before .before .before .before in
     let h = k .before in
     let s = h .before .before in
-    rw (c .table .ensures, j .jumps .ensures, k .conflicts .ensures, h .in-set .ensures, s .step-of .ensures, s .before .step-in .ensures)
+    rw (c .table .ensures, k .conflicts .ensures, h .in-set .ensures, s .step-of .ensures, s .before .step-in .ensures)
 
 pub step-refusal-spec : {M : Type 1} → statement M
 step-refusal-spec =
@@ -44,6 +40,5 @@ step-refusal-spec =
     sub-in-set
     in-set-requires
     conflicts-requires
-    jumps-requires
     table-requires
     returns)

@@ -12,7 +12,6 @@ use Rattle.laws.specs.Pick.{pick}
 use Rattle.laws.specs.Bools.{both}
 use Rattle.laws.specs.Refusals.{first-failed}
 use Rattle.laws.specs.Sets.{bit}
-use Rattle.format.specs.Form.{present-form}
 use Rattle.format.specs.Numbers.{out-of-range, short-output, station-closed}
 use Rattle.format.specs.Group.{quorum}
 use Rattle.format.specs.declared.Fields.{Fields}
@@ -23,7 +22,6 @@ use Rattle.rules.specs.declared.Which.the-variants.{Only}
 use Rattle.rules.specs.Rules.{rule}
 use Rattle.certificate.specs.Check.{question-fits}
 use Rattle.certificate.specs.Present.{all-verify, judged}
-use Rattle.format.specs.Laws.Parts.{sizes}
 use Rattle.format.specs.Present.{output-words, size-fits, formed, statements, laid-out, main-of, certificate-of, bundle-fits}
 use Rattle.modules.specs.declared.Module.{Module}
 use Rattle.modules.specs.Present.{module-fits}
@@ -31,7 +29,7 @@ use Rattle.station.specs.declared.Station.{Station}
 use Rattle.station.specs.Machine.{stage-step, step-tests, held-of}
 use Rattle.station.specs.Present.{state-of, sites, held-by, slots-fit, held-fits, rest-fits, fits}
 use Rattle.fitness.specs.Laws.Among.{bit-is-held}
-use Rattle.refusal.specs.Refusal.{first-refusal, step-refused, step-refused-is}
+use Rattle.refusal.specs.Refusal.{jumps-by, first-refusal, step-refused, step-refused-is}
 
 swap : (a b c : Bool) → ((a && c) && b) ≡ ((a && b) && c)
 swap true true true = refl
@@ -123,10 +121,6 @@ module _ (m : Module) (t : Station) (ws : List ℕ) (coin room : ℕ) where
               go true e h = e
               go false e h = absurd (omega arith)
 
-          pub two-words : 1 < length ws
-          unfolding Rattle.format.specs.Bundle.bundle-fits
-          two-words = omega (arith, sizes present-form ws (both (laid-out ws) _ formed-bundle .0) .1)
-
           main-station : (1 ≤ station-of (getD ws 1 0)) × (station-of (getD ws 1 0) ≤ m .n)
           unfolding Rattle.format.specs.Bundle.bundle-fits Rattle.format.specs.Bundle.all-formed Rattle.format.specs.Statement.formed fields-of
           main-station =
@@ -158,5 +152,5 @@ module _ (m : Module) (t : Station) (ws : List ℕ) (coin room : ℕ) where
                 (bit-is-held (m .n) (t .identity .question) (stage-step (t .stage)) (t .held .heard) (t .held .slots) (station-of (getD ws 1 0)) slots-right
                 (main-station .0) hi)
 
-            pub answer-step : (k : ℕ) → k ≡ step-refused (t .stage) (t .lasting .jump) (t .held .heard) (held-by t) f → k ≡ first-refusal m t ws coin room
-            answer-step k e = e ∙ step-refused-is t ws f r known ∙ chain-passed a3 a4 a5 a6 _ clear ∙ sym refused-is
+            pub answer-step : (to-jump : Bool) → to-jump ≡ jumps-by (t .stage) (t .lasting .jump) f → (k : ℕ) → k ≡ step-refused (t .stage) to-jump (t .held .heard) (held-by t) f → k ≡ first-refusal m t ws coin room
+            answer-step to-jump j k e = e ∙ step-refused-is t ws f to-jump r j known ∙ chain-passed a3 a4 a5 a6 _ clear ∙ sym refused-is

@@ -4,12 +4,11 @@ use mathlib.Core.Path.{refl, sym, _∙_}
 use native.Mathlib.Omega.{arith}
 use Rattle.laws.specs.Pick.{here, skip}
 use Rattle.laws.specs.Sets.{bit-fits}
-use Rattle.keeping.specs.Kept.{with-station}
-use Rattle.held.specs.Laws.Sets.{one-bit}
-use Rattle.keeping.specs.Laws.Turns.{is-station}
+use Rattle.held.specs.Scan.{with-station}
+use Rattle.held.specs.Laws.Sets.{is-station, one-bit}
 use borrow.Author.Needs.{needs}
-use Rattle.keeping.proofs.with_station.Statement.{statement}
-use Rattle.keeping.proofs.with_station.Tie as tie
+use Rattle.held.proofs.with_station.Statement.{statement}
+use Rattle.held.proofs.with_station.Tie as tie
 
 returns : tie.Need-returns
 unfolding with-station
