@@ -215,7 +215,7 @@ unnamed =
 
 -- ---- all of it: a list within the premises, for which the claim therefore holds
 pub record EdgesMet (cs : List Call) : Type 1 where
-  pub answered : numbers toy [] 5 cs ≡ answers
+  pub numbers-are : numbers toy [] 5 cs ≡ answers
   pub within : Given toy [] 5 cs
   -- two sites are faulty, as many as there may be
   pub few : FewFaulty toy [] 5 cs
@@ -243,7 +243,7 @@ pub edges-met : EdgesMet edges
 unfolding backing Rattle.laws.specs.Pick.pick
 edges-met =
     record {
-      answered = ap (λ (f : Facts). f .numbers) computed;
+      numbers-are = ap (λ (f : Facts). f .numbers) computed;
       within = within;
       few = few-faulty;
       two-at-most = refl;

@@ -174,7 +174,7 @@ computed : facts example ≡ record { numbers = answers; given = true; few = tru
 unfolding computes
 computed = refl
 
--- ---- the numbers answered
+-- ---- the numbers example-answers
 pub record Answered : Type 0 where
   pub all : numbers toy [] 3 example ≡ answers
   pub damaged-code : last toy [] 3 calls-3 .number ≡ 5
@@ -186,8 +186,8 @@ pub record Answered : Type 0 where
   pub other-question : last toy [] 3 calls-18 .number ≡ 20
   pub forged-station : last toy [] 3 example .number ≡ 20
 
-pub answered : Answered
-answered =
+pub example-answers : Answered
+example-answers =
     record {
       all = ap (λ (f : Facts). f .numbers) computed;
       damaged-code = at 16;
@@ -221,7 +221,7 @@ all-off i low high sound = off-out toy [] 3 (λ j. true) 1 example refl i refl
 -- the toss was coded
 faulty-3 : Sound toy [] 3 3 example → ⊥
 unfolding Rattle.agreement.specs.Demand.Sound
-faulty-3 s = sound-before toy [] 3 3 (take 7 example) calls-12 s .0 refl (answered .toss)
+faulty-3 s = sound-before toy [] 3 3 (take 7 example) calls-12 s .0 refl (example-answers .toss)
 
 -- ---- the vote of round 1 that site 1 sent in calls-7 and site 2 is given in calls-11
 first-vote : FirstVote toy [] 3 (bundle calls-7) 1 0

@@ -294,7 +294,7 @@ module _ (form : Form) where
               let b = both (some (has-value 0) hs) _ e in
               two q (r .0) (voted 0 (omega arith) (P.find-some (Fact (Voting r) q) (has-value 0) hs a (b .0))) (voted 1 (omega arith) (P.find-some (Fact (Voting r) q) (has-value 1) hs a (b .1)))
             where
-              voted : (v : ℕ) → v < 2 → P.Found (Fact (Voting r) q) (has-value v) → Supp n l kind-P q (r .0) v (quorum n)
+              voted : (v : ℕ) → v < 2 → P.SomeWith (Fact (Voting r) q) (has-value v) → Supp n l kind-P q (r .0) v (quorum n)
               voted v low f =
                   let e : f .one .value ≡ v = eqb-true _ _ (f .passes) in
                   rw (f .has .1 .1 .1, f .has .1 .1 .0, e) at (f .has .0 .voted (f .has .1 .0) (omega arith))
@@ -304,7 +304,7 @@ module _ (form : Form) where
               two q (r .0 - 1) (proposed-by (ltb-true _ _ (w .0)) 0 (P.find-some (Fact (Proposing r x) q) (λ s. eqb (s .flag) D-GET && has-value 0 s) hs a (b .0)))
               (proposed-by (ltb-true _ _ (w .0)) 1 (P.find-some (Fact (Proposing r x) q) (λ s. eqb (s .flag) D-GET && has-value 1 s) hs a (b .1)))
             where
-              proposed-by : 1 < r .0 → (v : ℕ) → P.Found (Fact (Proposing r x) q) (λ s. eqb (s .flag) D-GET && has-value v s) → Supp n l kind-P q (r .0 - 1) v (quorum n)
+              proposed-by : 1 < r .0 → (v : ℕ) → P.SomeWith (Fact (Proposing r x) q) (λ s. eqb (s .flag) D-GET && has-value v s) → Supp n l kind-P q (r .0 - 1) v (quorum n)
               proposed-by later v f =
                   let y = both (eqb (f .one .flag) D-GET) _ (f .passes) in
                   let e : f .one .value ≡ v = eqb-true _ _ (y .1) in

@@ -108,7 +108,7 @@ too-few x z e = omega arith
 
 -- ---- all of it: a list within the premises, for which the claim therefore holds, and in which two sound sites decide what no site proposed
 pub record Unbacked (cs : List Call) (answers : List ℕ) : Type 1 where
-  pub answered : numbers toy [] 3 cs ≡ answers
+  pub numbers-are : numbers toy [] 3 cs ≡ answers
   pub within : Given toy [] 3 cs
   pub few : FewFaulty toy [] 3 cs
   pub sound-1 : Sound toy [] 3 1 cs
@@ -168,7 +168,7 @@ module _ (cs : List Call) (answers : List ℕ) (r : ℕ) (computed : facts cs r 
   pub unbacked : Unbacked cs answers
   unbacked =
       record {
-        answered = ap (λ (f : Facts). f .numbers) computed;
+        numbers-are = ap (λ (f : Facts). f .numbers) computed;
         within = within;
         few = few-faulty;
         sound-1 = sound-1;

@@ -14,7 +14,7 @@ use Rattle.rules.specs.declared.Which.{Which}
 use Rattle.rules.specs.Rules.{which, rule}
 use Rattle.walk.specs.declared.Findings.{Findings}
 use Rattle.walk.specs.Walk.{findings, answer, walk}
-use Rattle.walk.specs.WalkFinds.{Found, answered, walk-finds}
+use Rattle.walk.specs.WalkFinds.{Found, number-found, walk-finds}
 use Rattle.certificate.specs.Check.{question-fits}
 use Rattle.certificate.specs.Present.{all-verify, bundle-tests, check-by}
 
@@ -35,7 +35,7 @@ either-not false true = refl
 either-not false false = refl
 
 module _ (code : List ℕ → List ℕ) (n : ℕ) (asked : Which) (ws : List ℕ) where
-  -- findings that come to what `Found` says are answered as the check answers
+  -- findings that come to what `Found` says are number-found as the check answers
   module _ (r : Findings) (found : Found code n asked ws r) where
     other : all-formed n ws (place-of 0) (suc (count-in ws)) ≡ true → r .other ≡ not (question-fits asked (main-of ws) (certificate-of ws))
     other h =
@@ -58,7 +58,7 @@ module _ (code : List ℕ → List ℕ) (n : ℕ) (asked : Which) (ws : List ℕ
     found-exact : size-fits n ≡ true → laid-out ws ≡ true → answer r ≡ check-by code n asked ws
     found-exact a l =
         let e : bundle-fits n ws ≡ all-formed n ws 1 (suc (count-in ws)) = laid l in
-        answered r (bundle-fits n ws) (question-fits asked (main-of ws) (certificate-of ws)) (all-verify code (statements ws 1 (suc (count-in ws)))) (rule n (main-of ws) (certificate-of ws))
+        number-found r (bundle-fits n ws) (question-fits asked (main-of ws) (certificate-of ws)) (all-verify code (statements ws 1 (suc (count-in ws)))) (rule n (main-of ws) (certificate-of ws))
         (found .malformed ∙ ap not (sym e))
         (λ h. other (sym e ∙ h))
         (λ h q. wrong (sym e ∙ h) q)

@@ -18,7 +18,7 @@ use Rattle.held_fitness.specs.Parts.{held-words-fit}
 use Rattle.kept_fitness.specs.Parts.{groups-fit}
 
 unfoldable pub words-fit : ℕ → ℕ → Station → Bool
-words-fit n number t = held-fits n number t && rest-fits n number t
+words-fit n site t = held-fits n site t && rest-fits n site t
 
 and-assoc : (a b c d : Bool) → (a && b && (c && d)) ≡ (a && b && c && d)
 and-assoc true true true d = refl
@@ -27,21 +27,21 @@ and-assoc true false c d = refl
 and-assoc false b c d = refl
 
 -- ---- the whole
-module _ (n number : ℕ) (t : Station) where
+module _ (n site : ℕ) (t : Station) where
   pub words-are : (a b c : Bool) (step : ℕ) → size-fits n ≡ true → step ≡ stage-step (t .stage)
-      → a ≡ held-words-fit n (number - 1) (t .identity .question) step (t .held .heard) (t .held .slots)
-      → b ≡ stage-fits (t .stage) (getD (t .held .slots) ((number - 1) * statement-words) 0)
+      → a ≡ held-words-fit n (site - 1) (t .identity .question) step (t .held .heard) (t .held .slots)
+      → b ≡ stage-fits (t .stage) (getD (t .held .slots) ((site - 1) * statement-words) 0)
       → c ≡ (size-fits n && groups-fit n (t .identity .question) (t .stage) (t .held .heard) (t .held .slots) (t .groups))
-      → (a && (b && leb (t .lasting .decision) none && c)) ≡ words-fit n number t
+      → (a && (b && leb (t .lasting .decision) none && c)) ≡ words-fit n site t
   unfolding words-fit held-words-fit groups-fit
   words-are a b c step w e p q r =
       let g = group-fits n (t .identity .question) (kept-for-value n (t .stage) (held-by t)) (t .groups .value) in
       let h = group-fits n (t .identity .question) (kept-for-none n (t .stage) (held-by t)) (t .groups .none) in
       rw (p, q, r, e, w)
-      (λ i. held-fits n number t && and-assoc (stage-fits (t .stage) (getD (t .held .slots) ((number - 1) * statement-words) 0)) (leb (t .lasting .decision) none) g h i)
+      (λ i. held-fits n site t && and-assoc (stage-fits (t .stage) (getD (t .held .slots) ((site - 1) * statement-words) 0)) (leb (t .lasting .decision) none) g h i)
 
-  pub whole : (a : Bool) → a ≡ words-fit n number t
-      → (eqb (t .identity .n) n && eqb (t .identity .station) number && (t .closed || a)) ≡ fits n number t
+  pub whole : (a : Bool) → a ≡ words-fit n site t
+      → (eqb (t .identity .n) n && eqb (t .identity .station) site && (t .closed || a)) ≡ fits n site t
   unfolding words-fit Rattle.station.specs.Fit.fits
   whole a e = rw e
 
@@ -58,5 +58,5 @@ module _ (m : Module) (r : Bool) (e : r ≡ module-fits m) where
   pub refused : (b : Bool) → not r ≡ true → false ≡ (module-fits m && b)
   refused b h = rw (sym e ∙ not-true _ h)
 
-  pub answered : (a b : Bool) → not r ≡ false → a ≡ b → a ≡ (module-fits m && b)
-  answered a b h p = rw (sym e ∙ not-false _ h) p
+  pub rest-decides : (a b : Bool) → not r ≡ false → a ≡ b → a ≡ (module-fits m && b)
+  rest-decides a b h p = rw (sym e ∙ not-false _ h) p

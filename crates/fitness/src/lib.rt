@@ -26,9 +26,9 @@ fn stage_fits(stage: Stage, w: u32) -> bool
 }
 
 // Whether all that an open station keeps fits.
-fn words_fit(t: Station, n: u32, number: u32) -> bool
-    requires { ⌜ (1 ≤ number) × (number ≤ most-stations) × (size-fits n ≡ true) ⌝ }
-    ensures { λ r. ⌜ r ≡ words-fit n number t ⌝ }
+fn words_fit(t: Station, n: u32, site: u32) -> bool
+    requires { ⌜ (1 ≤ site) × (site ≤ most-stations) × (size-fits n ≡ true) ⌝ }
+    ensures { λ r. ⌜ r ≡ words-fit n site t ⌝ }
 {
     let held = t.held;
     let slots = held.slots;
@@ -39,7 +39,7 @@ fn words_fit(t: Station, n: u32, number: u32) -> bool
     let question = id.question;
     let lasting = t.lasting;
     let step = stages::step_in(stage);
-    let own = number - 1;
+    let own = site - 1;
     let at = own as usize * STATEMENT_WORDS;
     let a = held_fitness::held_fits(&slots, heard, n, own, question, step);
     let b = stage_fits(stage, slots[at]);

@@ -1,4 +1,4 @@
-pub mod Law
 pub mod Whole
-pub mod Found
 pub mod Give
+pub mod Chosen
+pub mod EndAnswers

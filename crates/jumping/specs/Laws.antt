@@ -1,2 +1,2 @@
-pub mod Found
-pub mod Law
+pub mod Entered
+pub mod JumpAnswers

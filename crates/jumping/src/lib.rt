@@ -19,8 +19,8 @@ fn own_value(f: Fields, coin: u32) -> u32
 }
 
 // The fields of the station's own statement.
-fn own_fields(number: u32, f: Fields, coin: u32) -> Fields
-    ensures { λ r. ⌜ r ≡ copied-fields number f coin ⌝ }
+fn own_fields(site: u32, f: Fields, coin: u32) -> Fields
+    ensures { λ r. ⌜ r ≡ copied-fields site f coin ⌝ }
 {
     let round = f.round;
     Fields {
@@ -28,7 +28,7 @@ fn own_fields(number: u32, f: Fields, coin: u32) -> Fields
         value: own_value(f, coin),
         flag: f.flag,
         spare: 0,
-        station: number,
+        station: site,
         round,
     }
 }

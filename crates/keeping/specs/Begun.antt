@@ -31,11 +31,11 @@ use Rattle.laws.specs.Below.{Below}
 use Rattle.held.specs.Laws.Sets.{no-bit}
 use Rattle.keeping.specs.Laws.One.{LowWords, Fit}
 use Rattle.keeping.specs.Kept.{with-bundle}
-use Rattle.keeping.specs.Laws.Law.{kept-is}
+use Rattle.keeping.specs.Laws.KeptState.{kept-is}
 
 -- an open station that holds nothing
 unfoldable pub blank : ℕ → ℕ → ℕ → Lasting → Stage → Station
-blank n number question l g = empty-station (record { n = n; station = number; question = question }) g false l
+blank n site question l g = empty-station (record { n = n; station = site; question = question }) g false l
 
 -- its state
 abbrev empty : ℕ → Lasting → Stage → State
@@ -73,28 +73,28 @@ no-group-fits : (n question : ℕ) → group-fits n question no-group (replicate
 unfolding holds in-order Rattle.format.specs.Bundle.all-formed Rattle.format.specs.Statement.statements every
 no-group-fits n question = zeros-there kept-words kept-words 0
 
-module _ (n number question : ℕ) (l : Lasting) (g : Stage) where
-  nothing-held : held-by (blank n number question l g) ≡ []
+module _ (n site question : ℕ) (l : Lasting) (g : Stage) where
+  nothing-held : held-by (blank n site question l g) ≡ []
   unfolding blank
   nothing-held = none-held (replicate slots-words 0) sites 0
 
-  blank-lengths : Lengths (blank n number question l g)
+  blank-lengths : Lengths (blank n site question l g)
   unfolding blank
   blank-lengths = record { slots = refl; for-value = refl; for-none = refl }
 
-  blank-low : LowWords (blank n number question l g)
+  blank-low : LowWords (blank n site question l g)
   unfolding blank
   blank-low = record { slots = zeros-low slots-words; for-value = zeros-low kept-words; for-none = zeros-low kept-words }
 
-  no-for-value : kept-for-value n g (held-by (blank n number question l g)) ≡ no-group
+  no-for-value : kept-for-value n g (held-by (blank n site question l g)) ≡ no-group
   unfolding kept-for-value some pick
   no-for-value = ap (kept-for-value n g) nothing-held
 
-  no-for-none : kept-for-none n g (held-by (blank n number question l g)) ≡ no-group
+  no-for-none : kept-for-none n g (held-by (blank n site question l g)) ≡ no-group
   unfolding kept-for-none some pick
   no-for-none = ap (kept-for-none n g) nothing-held
 
-  blank-fit : Fit n number (blank n number question l g)
+  blank-fit : Fit n site (blank n site question l g)
   unfolding blank
   blank-fit =
       record {
@@ -106,7 +106,7 @@ module _ (n number question : ℕ) (l : Lasting) (g : Stage) where
         for-none = ap (λ (x : Group). group-fits n question x (replicate kept-words 0)) no-for-none ∙ no-group-fits n question;
       }
 
-  blank-state : state-of (blank n number question l g) ≡ empty question l g
+  blank-state : state-of (blank n site question l g) ≡ empty question l g
   unfolding blank Rattle.station.specs.Words.state-of Rattle.format.specs.Statement.statements
   blank-state =
       λ i.
@@ -140,15 +140,15 @@ module _ (n number question : ℕ) (l : Lasting) (g : Stage) where
       }
 
   pub begun : (s : Statement) (c : List Statement) → n ≤ most-stations → Proper present-form n s → All (Proper present-form n) c → length c ≤ most-statements → Below (bundle-of s c)
-      → with-bundle (blank n number question l g) (bundle-of s c) ≡ W.as-station n number (began n question l g s c)
+      → with-bundle (blank n site question l g) (bundle-of s c) ≡ W.as-station n site (began n question l g s c)
   unfolding Rattle.format.specs.Bundle.bundle-of some
   begun s c top p a few low =
-      kept-is n number (blank n number question l g) (bundle-of s c) top blank-lengths blank-low low blank-fit (bundle-there present-form n s c top p a few) new
-      ∙ ap (W.as-station n number)
+      kept-is n site (blank n site question l g) (bundle-of s c) top blank-lengths blank-low low blank-fit (bundle-there present-form n s c top p a few) new
+      ∙ ap (W.as-station n site)
       (ap (λ (t : State). keeping n t (main-of (bundle-of s c)) (certificate-of (bundle-of s c))) blank-state
       ∙ ap (λ (m : Statement). keeping n (empty question l g) m (certificate-of (bundle-of s c))) (main-is present-form n s c top p a few)
       ∙ ap (keeping n (empty question l g) s) (certificate-is present-form n s c top p a few)
       ∙ state-begun s c)
     where
-      new : held-of (main-of (bundle-of s c) .station) (held-by (blank n number question l g)) ≡ false
+      new : held-of (main-of (bundle-of s c) .station) (held-by (blank n site question l g)) ≡ false
       new = ap (held-of (main-of (bundle-of s c) .station)) nothing-held

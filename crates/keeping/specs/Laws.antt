@@ -2,4 +2,4 @@ pub mod Back
 pub mod One
 pub mod Turns
 pub mod Parts
-pub mod Law
+pub mod KeptState

@@ -69,5 +69,5 @@ module _ (n : ℕ) (r : Bool) (e : r ≡ size-fits n) where
   pub refused : (b : Bool) → not r ≡ true → false ≡ (size-fits n && b)
   refused b h = rw (sym e ∙ not-true r h)
 
-  pub answered : (a b : Bool) → not r ≡ false → a ≡ b → a ≡ (size-fits n && b)
-  answered a b h p = rw (sym e ∙ not-false r h) p
+  pub rest-decides : (a b : Bool) → not r ≡ false → a ≡ b → a ≡ (size-fits n && b)
+  rest-decides a b h p = rw (sym e ∙ not-false r h) p

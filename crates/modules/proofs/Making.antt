@@ -10,10 +10,10 @@ use Rattle.format.specs.Present.{size-fits}
 use Rattle.modules.specs.Counter.{fresh, no-module}
 use Rattle.modules.specs.Present.{making}
 
-pub makes : (key : List ℕ) (n number : ℕ) → (size-fits n && of-group n number) ≡ true → making key n number ≡ record { number = 0; made = fresh key n number }
+pub makes : (key : List ℕ) (n site : ℕ) → (size-fits n && of-group n site) ≡ true → making key n site ≡ record { number = 0; made = fresh key n site }
 unfolding Rattle.modules.specs.Counter.making pick
-makes key n number h = rw h
+makes key n site h = rw h
 
-pub makes-none : (key : List ℕ) (n number : ℕ) → (size-fits n && of-group n number) ≡ false → making key n number ≡ record { number = out-of-range; made = no-module }
+pub makes-none : (key : List ℕ) (n site : ℕ) → (size-fits n && of-group n site) ≡ false → making key n site ≡ record { number = out-of-range; made = no-module }
 unfolding Rattle.modules.specs.Counter.making pick
-makes-none key n number h = rw h
+makes-none key n site h = rw h

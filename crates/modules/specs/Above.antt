@@ -68,11 +68,11 @@ stays-below m q s q′ s′ up low = is-false _ (λ e. never _ low (above-in (la
     go (later-step x w) (later-step y z) = later-step (x ∙ y) (omega arith)
 
 -- "each made once and with nothing coded": every pair is above the last of a made module
-pub made-above : (form : Form) (key : List ℕ) (n number q s : ℕ) → above (last-for (making form key n number .made) q) q s ≡ true
+pub made-above : (form : Form) (key : List ℕ) (n site q s : ℕ) → above (last-for (making form key n site .made) q) q s ≡ true
 unfolding making above pick
-made-above form key n number q s = go (size-fits form n && of-group n number)
+made-above form key n site q s = go (size-fits form n && of-group n site)
   where
     go : (b : Bool)
-        → above (last-for (pick {A = Made} b (record { number = 0; made = fresh key n number }) (record { number = out-of-range; made = no-module }) .made) q) q s ≡ true
+        → above (last-for (pick {A = Made} b (record { number = 0; made = fresh key n site }) (record { number = out-of-range; made = no-module }) .made) q) q s ≡ true
     go true = refl
     go false = refl

@@ -37,7 +37,7 @@ pub record Made : Type 0 where
   pub made : Module
 
 abbrev pub fresh : List ℕ → ℕ → ℕ → Module
-fresh key n number = record { key = key; n = n; station = number; last = no-pair }
+fresh key n site = record { key = key; n = n; station = site; last = no-pair }
 
 -- a refused making returns the all-zero module, which every call refuses by 1 or 2
 abbrev pub no-module : Module
@@ -50,5 +50,5 @@ module _ (form : Form) where
 
   -- "Making a module tests 2."
   unfoldable pub making : List ℕ → ℕ → ℕ → Made
-  making key n number =
-      pick (size-fits form n && of-group n number) (record { number = 0; made = fresh key n number }) (record { number = out-of-range; made = no-module })
+  making key n site =
+      pick (size-fits form n && of-group n site) (record { number = 0; made = fresh key n site }) (record { number = out-of-range; made = no-module })

@@ -45,8 +45,8 @@ pub fn is_above(m: Module, question: u32, step: Step) -> bool
 }
 
 // A module with nothing coded, or 2.
-pub fn make(key: [u8; 32], n: u32, number: u32) -> Made
-    ensures { λ r. ⌜ (r .number ≡ making key n number .number) × (r .made ≡ making key n number .made) ⌝ }
+pub fn make(key: [u8; 32], n: u32, site: u32) -> Made
+    ensures { λ r. ⌜ (r .number ≡ making key n site .number) × (r .made ≡ making key n site .made) ⌝ }
 {
     let last = Last {
         coded: false,
@@ -56,7 +56,7 @@ pub fn make(key: [u8; 32], n: u32, number: u32) -> Made
     let m = Module {
         key,
         n,
-        station: number,
+        station: site,
         last,
     };
     if fits(m) {

@@ -83,15 +83,15 @@ fn send_next(m: Module, k: Station, x: Following, f: Fields, l: Lasting, out: &m
 }
 
 // The fields of the statement that follows, of the module's station.
-fn own_fields(number: u32, kind: u32, value: u32, flag: u32, round: Round) -> Fields
-    ensures { λ r. ⌜ r ≡ record { kind = kind; value = value; flag = flag; spare = 0; station = number; round = round } ⌝ }
+fn own_fields(site: u32, kind: u32, value: u32, flag: u32, round: Round) -> Fields
+    ensures { λ r. ⌜ r ≡ record { kind = kind; value = value; flag = flag; spare = 0; station = site; round = round } ⌝ }
 {
     Fields {
         kind,
         value,
         flag,
         spare: 0,
-        station: number,
+        station: site,
         round,
     }
 }

@@ -1,13 +1,11 @@
 pub mod Came
 pub mod Spoken
 pub mod Steps
-pub mod Walk
 pub mod SoundSite
 pub mod OpeningStep
 pub mod GivenStation
 pub mod WrittenStep
 pub mod GivingStep
-pub mod Walked
 pub mod Heard
 pub mod Moves
 pub mod Advance
@@ -20,3 +18,5 @@ pub mod Unanimous
 pub mod Calm
 pub mod Mover
 pub mod Relay
+pub mod Course
+pub mod Courses

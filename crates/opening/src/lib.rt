@@ -55,15 +55,15 @@ pub fn none() -> Station
 }
 
 // The fields of the station's INIT.
-fn init(number: u32, proposal: u32) -> Fields
-    ensures { λ r. ⌜ r ≡ record { kind = kind-INIT; value = proposal; flag = D-GET; spare = 0; station = number; round = record { 0 = 0 } } ⌝ }
+fn init(site: u32, proposal: u32) -> Fields
+    ensures { λ r. ⌜ r ≡ record { kind = kind-INIT; value = proposal; flag = D-GET; spare = 0; station = site; round = record { 0 = 0 } } ⌝ }
 {
     Fields {
         kind: format::INIT,
         value: proposal,
         flag: format::D_GET,
         spare: 0,
-        station: number,
+        station: site,
         round: Round(0),
     }
 }

@@ -46,10 +46,10 @@ module _ (code : List ℕ → List ℕ) (m : Module) (s : Statement) (ws : List 
   refused h = rw (ne-eqb refusal 0 h) (record { number-is = refl; after-is = refl; lent-is = refl })
 
   -- what is coded
-  pub answered : (after : Module) (lent : List ℕ) → refusal ≡ 0 → after ≡ advanced m (s .question) (step s) → lent ≡ written (signed code s)
+  pub coded-so : (after : Module) (lent : List ℕ) → refusal ≡ 0 → after ≡ advanced m (s .question) (step s) → lent ≡ written (signed code s)
       → Answered (coding code m s ws refusal) 0 after lent
   unfolding pick
-  answered after lent h a l = rw (eq-eqb refusal 0 h) (record { number-is = refl; after-is = a; lent-is = l })
+  coded-so after lent h a l = rw (eq-eqb refusal 0 h) (record { number-is = refl; after-is = a; lent-is = l })
 
 -- the refusal, from what the code computes on the way: the words 0 and 1, the fields, and the tests on them
 pub refusal-is : (m : Module) (ws : List ℕ) (range way : Bool) (w q : ℕ) (f : Fields) (shape : Bool) (s : Step) (later : Bool) (r : ℕ)
@@ -95,7 +95,7 @@ pub finished : (m : Module) (ws : List ℕ) (v number : ℕ) (f : Fields) (s : S
     → Answered (coding (hmac-code (m .key)) m (with-value v (statement ws 0)) ws number) 0 after lent
 unfolding fields-of step-in step lent-with
 finished m ws v number f s after lent n-is f-is s-is after-is lent-is =
-    answered (hmac-code (m .key)) m (with-value v (statement ws 0)) ws number after lent n-is
+    coded-so (hmac-code (m .key)) m (with-value v (statement ws 0)) ws number after lent n-is
     (after-is ∙ ap (λ (k : Step). advanced m (getD ws 1 0) (k .0)) (s-is ∙ ap step-in f-is))
     lent-is
 

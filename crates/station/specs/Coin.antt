@@ -58,15 +58,15 @@ number-20 old new e = rw e (go (ltb old none))
     go true = refl
     go false = refl
 
-module _ (code : Statement → List ℕ) (top n number : ℕ) (last : Last) where
+module _ (code : Statement → List ℕ) (top n site : ℕ) (last : Last) where
   -- what comes of coin 0 and of coin 1
   pub data Tossed (question : ℕ) (l : Lasting) (of-0 of-1 : Outcome) : Type 0 where
     no-toss : of-0 ≡ of-1 → Tossed question l of-0 of-1
-    toss : (answer r d : ℕ) (votes : List Statement) → one-of (sent ∷ jumped ∷ []) answer ≡ true → of-0 ≡ tossing code n number (with-decision d l) question answer r votes 0
-        → of-1 ≡ tossing code n number (with-decision d l) question answer r votes 1 → Tossed question l of-0 of-1
+    toss : (answer r d : ℕ) (votes : List Statement) → one-of (sent ∷ jumped ∷ []) answer ≡ true → of-0 ≡ tossing code n site (with-decision d l) question answer r votes 0
+        → of-1 ≡ tossing code n site (with-decision d l) question answer r votes 1 → Tossed question l of-0 of-1
 
   ended-tossed : (t : State) → (ltb (carried (t .held)) none ≡ false → decided (t .held) ≡ none)
-      → Tossed (t .question) (t .lasting) (ended code top n number last t 0) (ended code top n number last t 1)
+      → Tossed (t .question) (t .lasting) (ended code top n site last t 0) (ended code top n site last t 1)
   unfolding ended pick follows step
   ended-tossed t nothing = go (closes top (t .stage)) (t .stage)
     where
@@ -74,8 +74,8 @@ module _ (code : Statement → List ℕ) (top n number : ℕ) (last : Last) wher
       l g = lasting-at g (t .lasting) (t .held)
 
       go : (c : Bool) (g : Stage) → Tossed (t .question) (t .lasting)
-          (pick c (keeps closed-now (shut t (l g))) (moved code top n number last t (follows n g t 0) (l g)))
-          (pick c (keeps closed-now (shut t (l g))) (moved code top n number last t (follows n g t 1) (l g)))
+          (pick c (keeps closed-now (shut t (l g))) (moved code top n site last t (follows n g t 0) (l g)))
+          (pick c (keeps closed-now (shut t (l g))) (moved code top n site last t (follows n g t 1) (l g)))
       go true g = no-toss refl
       go false Gathering = no-toss refl
       go false (Proposing r f) = no-toss refl
@@ -97,12 +97,12 @@ module _ (code : Statement → List ℕ) (top n number : ℕ) (last : Last) wher
           answer = pick (ltb (t .lasting .decision) none || eqb e none) sent sent-decided
 
           votes : (b : Bool) → ltb (carried (t .held)) none ≡ b
-              → Tossed (t .question) (t .lasting) (moved code top n number last t (pick b by-votes by-coin-0) (with-decision e (t .lasting))) (moved code top n number last t (pick b by-votes by-coin-1) (with-decision e (t .lasting)))
+              → Tossed (t .question) (t .lasting) (moved code top n site last t (pick b by-votes by-coin-0) (with-decision e (t .lasting))) (moved code top n site last t (pick b by-votes by-coin-1) (with-decision e (t .lasting)))
           votes true h = no-toss refl
-          votes false h = coins (above last (t .question) (step (own code number (t .question) kind-P 0 R-GET (r .0 + 1))))
+          votes false h = coins (above last (t .question) (step (own code site (t .question) kind-P 0 R-GET (r .0 + 1))))
             where
               s : ℕ → Statement
-              s coin = own code number (t .question) kind-P coin R-GET (r .0 + 1)
+              s coin = own code site (t .question) kind-P coin R-GET (r .0 + 1)
 
               u : ℕ → State
               u coin = began n (t .question) (with-decision e (t .lasting)) (proposing (r .0 + 1) R-GET) (s coin) (t .held ++ [])
@@ -114,17 +114,17 @@ module _ (code : Statement → List ℕ) (top n number : ℕ) (last : Last) wher
                   toss sent (r .0 + 1) e (t .held ++ []) refl (ap (λ (x : ℕ). sends x (s 0) (t .held ++ []) (u 0)) k) (ap (λ (x : ℕ). sends x (s 1) (t .held ++ []) (u 1)) k)
               coins false = no-toss refl
 
-  taken-tossed : (t : State) (m : Statement) (c : List Statement) → Tossed (t .question) (t .lasting) (taken code top n number last t m c 0) (taken code top n number last t m c 1)
+  taken-tossed : (t : State) (m : Statement) (c : List Statement) → Tossed (t .question) (t .lasting) (taken code top n site last t m c 0) (taken code top n site last t m c 1)
   unfolding taken pick
   taken-tossed t m c = go (ltb (length (insert m (t .held))) (quorum n))
     where
-      go : (b : Bool) → Tossed (t .question) (t .lasting) (pick b (keeps kept (keeping n t m c)) (ended code top n number last (keeping n t m c) 0))
-          (pick b (keeps kept (keeping n t m c)) (ended code top n number last (keeping n t m c) 1))
+      go : (b : Bool) → Tossed (t .question) (t .lasting) (pick b (keeps kept (keeping n t m c)) (ended code top n site last (keeping n t m c) 0))
+          (pick b (keeps kept (keeping n t m c)) (ended code top n site last (keeping n t m c) 1))
       go true = no-toss refl
       go false = ended-tossed (keeping n t m c) (inserted m (t .held))
 
   -- a jump: the coin is the value of an R-GET proposal, and of nothing else
-  entered-tossed : (t : State) (m : Statement) (c : List Statement) → Tossed (t .question) (t .lasting) (entered code top n number last t m c 0) (entered code top n number last t m c 1)
+  entered-tossed : (t : State) (m : Statement) (c : List Statement) → Tossed (t .question) (t .lasting) (entered code top n site last t m c 0) (entered code top n site last t m c 1)
   unfolding pick step
   entered-tossed t m c = go (eqb (m .kind) kind-P) refl (eqb (m .flag) R-GET) refl
     where
@@ -132,7 +132,7 @@ module _ (code : Statement → List ℕ) (top n number : ℕ) (last : Last) wher
       later = above last (t .question) (step-of (m .kind) (m .round))
 
       s : ℕ → ℕ → ℕ → Statement
-      s kind value flag = own code number (t .question) kind value flag (m .round)
+      s kind value flag = own code site (t .question) kind value flag (m .round)
 
       by : Bool → ℕ → ℕ → ℕ → Stage → Outcome
       by a kind value flag g = pick a (sends jumped (s kind value flag) c (began n (t .question) (t .lasting) g (s kind value flag) c)) (refused not-above)
@@ -155,12 +155,12 @@ module _ (code : Statement → List ℕ) (top n number : ℕ) (last : Last) wher
       go true x false y = no-toss refl
       go false x b y = no-toss refl
 
-  answered-tossed : (t : State) (m : Statement) (c : List Statement) → Tossed (t .question) (t .lasting) (answered code top n number last t m c 0) (answered code top n number last t m c 1)
+  answered-tossed : (t : State) (m : Statement) (c : List Statement) → Tossed (t .question) (t .lasting) (answered code top n site last t m c 0) (answered code top n site last t m c 1)
   unfolding pick
   answered-tossed t m c = go (jumps t m)
     where
-      go : (b : Bool) → Tossed (t .question) (t .lasting) (pick b (entered code top n number last t m c 0) (taken code top n number last t m c 0))
-          (pick b (entered code top n number last t m c 1) (taken code top n number last t m c 1))
+      go : (b : Bool) → Tossed (t .question) (t .lasting) (pick b (entered code top n site last t m c 0) (taken code top n site last t m c 0))
+          (pick b (entered code top n site last t m c 1) (taken code top n site last t m c 1))
       go true = entered-tossed t m c
       go false = taken-tossed t m c
 

@@ -42,30 +42,30 @@ as-given k m t out = record { number = k; count = 0; station = t; after = m; len
 
 -- "P flagged R-GET with the call's coin": a P of round r with the coin as its value and none votes as its certificate, answered with a number
 abbrev pub tossing : (Statement → List ℕ) → ℕ → ℕ → Lasting → ℕ → ℕ → ℕ → List Statement → ℕ → Outcome
-tossing code n number l question answer r votes coin =
-    let s = own code number question kind-P coin R-GET r in
+tossing code n site l question answer r votes coin =
+    let s = own code site question kind-P coin R-GET r in
     sends answer s votes (began n question l (proposing r R-GET) s votes)
 
 -- "All modules of a group share one key and one n."
-pub record OfGroup (key : List ℕ) (n number : ℕ) (m : Module) : Type 0 where
+pub record OfGroup (key : List ℕ) (n site : ℕ) (m : Module) : Type 0 where
   pub same-key : m .key ≡ key
   pub same-n : m .n ≡ n
-  pub same-number : m .station ≡ number
+  pub same-number : m .station ≡ site
 
 module _ (form : Form) (mac : List ℕ → List ℕ → List ℕ) where
   module _ (key : List ℕ) (n : ℕ) where
     -- "stations, each made by opening and changed only by these calls"
-    pub data Reached (number : ℕ) : Station → Type 0 where
-      by-opening : (m : Module) (question proposal jump : ℕ) (out : List ℕ) → OfGroup key n number m → unrefused (opening form mac m question proposal jump out .number) ≡ true
-          → Reached number (opening form mac m question proposal jump out .station)
-      by-giving : {t : Station} → Reached number t → (m : Module) (ws : List ℕ) (coin : ℕ) (out : List ℕ) → OfGroup key n number m
-          → unrefused (giving form mac m t ws coin out .number) ≡ true → Reached number (giving form mac m t ws coin out .station)
+    pub data Reached (site : ℕ) : Station → Type 0 where
+      by-opening : (m : Module) (question proposal jump : ℕ) (out : List ℕ) → OfGroup key n site m → unrefused (opening form mac m question proposal jump out .number) ≡ true
+          → Reached site (opening form mac m question proposal jump out .station)
+      by-giving : {t : Station} → Reached site t → (m : Module) (ws : List ℕ) (coin : ℕ) (out : List ℕ) → OfGroup key n site m
+          → unrefused (giving form mac m t ws coin out .number) ≡ true → Reached site (giving form mac m t ws coin out .station)
 
     -- words that are "valid to every station of its group": the check answers 0 under the group's key and n, and any open, fitting station of the group on
     -- that question, given them with as many lent words as a call asks for and a coin in range, answers none of 2, 3, 4, 5, 6
     pub record ValidToAll (ws : List ℕ) : Type 0 where
       pub valid : check-by form (mac key) n Any ws ≡ 0
-      pub everywhere : (number : ℕ) (m : Module) (t : Station) (coin : ℕ) (out : List ℕ) → OfGroup key n number m → module-fits form m ≡ true
+      pub everywhere : (site : ℕ) (m : Module) (t : Station) (coin : ℕ) (out : List ℕ) → OfGroup key n site m → module-fits form m ≡ true
           → fits form (m .n) (m .station) t ≡ true → t .closed ≡ false → main-of form ws .question ≡ t .identity .question → output-words form ≤ length out → coin < 2
           → invalid (giving form mac m t ws coin out .number) ≡ false
 
@@ -87,10 +87,10 @@ module _ (form : Form) (mac : List ℕ → List ℕ → List ℕ) where
 
   pub record Demand-2 : Type 0 where
     -- "every message that a station writes is valid to every station of its group"; "its word count with it"
-    pub opening-written : (key : List ℕ) (n number : ℕ) (m : Module) (question v jump : ℕ) (out : List ℕ) → OfGroup key n number m
+    pub opening-written : (key : List ℕ) (n site : ℕ) (m : Module) (question v jump : ℕ) (out : List ℕ) → OfGroup key n site m
         → wrote (opening form mac m question v jump out .number) ≡ true → ValidToAll key n (message (opening form mac m question v jump out))
-    pub giving-written : (key : List ℕ) (n number : ℕ) (t : Station) → Reached key n number t → (m : Module) (ws : List ℕ) (coin : ℕ) (out : List ℕ)
-        → OfGroup key n number m → wrote (giving form mac m t ws coin out .number) ≡ true → ValidToAll key n (message (giving form mac m t ws coin out))
+    pub giving-written : (key : List ℕ) (n site : ℕ) (t : Station) → Reached key n site t → (m : Module) (ws : List ℕ) (coin : ℕ) (out : List ℕ)
+        → OfGroup key n site m → wrote (giving form mac m t ws coin out .number) ≡ true → ValidToAll key n (message (giving form mac m t ws coin out))
     pub opening-counted : (m : Module) (question v jump : ℕ) (out : List ℕ) → length (message (opening form mac m question v jump out)) ≡ opening form mac m question v jump out .count
     pub giving-counted : (m : Module) (t : Station) (ws : List ℕ) (coin : ℕ) (out : List ℕ) → Lengths form t
         → length (message (giving form mac m t ws coin out)) ≡ giving form mac m t ws coin out .count

@@ -59,21 +59,21 @@ module _ (form : Form) where
 
   -- the held statements: no bit behind the last slot, fewer than q, the own among them, and each slot as its bit says
   abbrev pub held-fits : ℕ → ℕ → Station → Bool
-  held-fits n number t =
+  held-fits n site t =
       ltb (t .held .heard) (2 ^ sites form)
       && ltb (ones (t .held .heard)) (quorum n)
-      && bit (t .held .heard) (number - 1)
+      && bit (t .held .heard) (site - 1)
       && slots-fit n (t .identity .question) (stage-step (t .stage)) (t .held .heard) (t .held .slots) 0 (sites form)
 
   -- the other kept words
   abbrev pub rest-fits : ℕ → ℕ → Station → Bool
-  rest-fits n number t =
-      stage-fits (t .stage) (getD (t .held .slots) ((number - 1) * statement-words form) 0)
+  rest-fits n site t =
+      stage-fits (t .stage) (getD (t .held .slots) ((site - 1) * statement-words form) 0)
       && leb (t .lasting .decision) none
       && group-fits n (t .identity .question) (kept-for-value n (t .stage) (held-by form t)) (t .groups .value)
       && group-fits n (t .identity .question) (kept-for-none n (t .stage) (held-by form t)) (t .groups .none)
 
   -- "a station whose n or number isn't the given module's, or whose stage, set and held statements don't fit one another"
   unfoldable pub fits : ℕ → ℕ → Station → Bool
-  fits n number t =
-      eqb (t .identity .n) n && eqb (t .identity .station) number && (t .closed || (held-fits n number t && rest-fits n number t))
+  fits n site t =
+      eqb (t .identity .n) n && eqb (t .identity .station) site && (t .closed || (held-fits n site t && rest-fits n site t))

@@ -68,14 +68,14 @@ follows-same n Gathering t coin = refl
 follows-same n (Proposing r f) t coin = refl
 follows-same n (Voting r) t coin = refl
 
-module _ (code : Statement → List ℕ) (top n number : ℕ) (last : Last) where
+module _ (code : Statement → List ℕ) (top n site : ℕ) (last : Last) where
   moved-same : (t : State) (x : Next) (l : Lasting)
-      → but-jump (moved code top n number last (with-jump true t) x (with-setting true l)) ≡ but-jump (moved code top n number last (with-jump false t) x (with-setting false l))
+      → but-jump (moved code top n site last (with-jump true t) x (with-setting true l)) ≡ but-jump (moved code top n site last (with-jump false t) x (with-setting false l))
   unfolding pick
   moved-same t x l = go (above last (s .question) (step s))
     where
       s : Statement
-      s = own code number (t .question) (x .kind) (x .value) (x .flag) (x .round)
+      s = own code site (t .question) (x .kind) (x .value) (x .flag) (x .round)
 
       u : Bool → State
       u b = began n (t .question) (with-setting b l) (x .stage) s (x .first ++ x .second)
@@ -87,30 +87,30 @@ module _ (code : Statement → List ℕ) (top n number : ℕ) (last : Last) wher
       go true = refl
       go false = refl
 
-  ended-same : (t : State) (coin : ℕ) → but-jump (ended code top n number last (with-jump true t) coin) ≡ but-jump (ended code top n number last (with-jump false t) coin)
+  ended-same : (t : State) (coin : ℕ) → but-jump (ended code top n site last (with-jump true t) coin) ≡ but-jump (ended code top n site last (with-jump false t) coin)
   unfolding ended pick
   ended-same t coin = go (closes top (t .stage))
     where
       l : Lasting
       l = lasting-at (t .stage) (t .lasting) (t .held)
 
-      go : (c : Bool) → but-jump (pick c (keeps closed-now (shut (with-jump true t) l)) (moved code top n number last (with-jump true t) (follows n (t .stage) (with-jump true t) coin) (with-setting true l)))
-          ≡ but-jump (pick c (keeps closed-now (shut (with-jump false t) l)) (moved code top n number last (with-jump false t) (follows n (t .stage) (with-jump false t) coin) (with-setting false l)))
+      go : (c : Bool) → but-jump (pick c (keeps closed-now (shut (with-jump true t) l)) (moved code top n site last (with-jump true t) (follows n (t .stage) (with-jump true t) coin) (with-setting true l)))
+          ≡ but-jump (pick c (keeps closed-now (shut (with-jump false t) l)) (moved code top n site last (with-jump false t) (follows n (t .stage) (with-jump false t) coin) (with-setting false l)))
       go true = refl
       go false =
           moved-same t (follows n (t .stage) (with-jump true t) coin) l
-          ∙ ap (λ (x : Next). but-jump (moved code top n number last (with-jump false t) x (with-setting false l))) (follows-same n (t .stage) t coin)
+          ∙ ap (λ (x : Next). but-jump (moved code top n site last (with-jump false t) x (with-setting false l))) (follows-same n (t .stage) t coin)
 
   taken-same : (t : State) (m : Statement) (c : List Statement) (coin : ℕ)
-      → but-jump (taken code top n number last (with-jump true t) m c coin) ≡ but-jump (taken code top n number last (with-jump false t) m c coin)
+      → but-jump (taken code top n site last (with-jump true t) m c coin) ≡ but-jump (taken code top n site last (with-jump false t) m c coin)
   unfolding taken pick
   taken-same t m c coin = go (ltb (length (insert m (t .held))) (quorum n))
     where
       k : State
       k = keeping n t m c
 
-      go : (b : Bool) → but-jump (pick b (keeps kept (with-jump true k)) (ended code top n number last (with-jump true k) coin))
-          ≡ but-jump (pick b (keeps kept (with-jump false k)) (ended code top n number last (with-jump false k) coin))
+      go : (b : Bool) → but-jump (pick b (keeps kept (with-jump true k)) (ended code top n site last (with-jump true k) coin))
+          ≡ but-jump (pick b (keeps kept (with-jump false k)) (ended code top n site last (with-jump false k) coin))
       go true = refl
       go false = ended-same k coin
 

@@ -204,15 +204,15 @@ pub data Outcome : Type 0 where
 
 -- a statement of the module's station, with the code that is made of it
 abbrev pub own : (Statement → List ℕ) → ℕ → ℕ → ℕ → ℕ → ℕ → ℕ → Statement
-own code number question kind value flag round =
+own code site question kind value flag round =
     record {
       kind = kind;
       value = value;
       flag = flag;
-      station = number;
+      station = site;
       round = round;
       question = question;
-      code = code (record { kind = kind; value = value; flag = flag; station = number; round = round; question = question; code = [] });
+      code = code (record { kind = kind; value = value; flag = flag; station = site; round = round; question = question; code = [] });
     }
 
 -- the state of a station that has just sent, with the whole certificate that it wrote: its own statement held, of the certificate the first q statements
@@ -248,17 +248,17 @@ abbrev pub copied-value : Statement → ℕ → ℕ
 copied-value m coin = pick (eqb (m .kind) kind-P && eqb (m .flag) R-GET) coin (m .value)
 
 -- by a code of statements, the last round that there is, the group's size, the station's number, and the module's last pair
-module _ (code : Statement → List ℕ) (top n number : ℕ) (last : Last) where
+module _ (code : Statement → List ℕ) (top n site : ℕ) (last : Last) where
   -- opening: an INIT is sent, and the station gathers
   abbrev pub opened : ℕ → ℕ → Bool → Outcome
   opened question proposal jump =
-      let s = own code number question kind-INIT proposal D-GET 0 in
+      let s = own code site question kind-INIT proposal D-GET 0 in
       sending last sent s [] (began n question (undecided jump) Gathering s [])
 
   -- the step of t has ended
   abbrev pub moved : State → Next → Lasting → Outcome
   moved t x l =
-      let s = own code number (t .question) (x .kind) (x .value) (x .flag) (x .round) in
+      let s = own code site (t .question) (x .kind) (x .value) (x .flag) (x .round) in
       let c = x .first ++ x .second in
       sending last (pick (ltb (t .lasting .decision) none || eqb (l .decision) none) sent sent-decided) s c (began n (t .question) l (x .stage) s c)
 
@@ -276,7 +276,7 @@ module _ (code : Statement → List ℕ) (top n number : ℕ) (last : Last) wher
   -- the station enters the step of m, by m's certificate: "Only its own statement is held afterwards." What outlasts a step stays
   abbrev pub entered : State → Statement → List Statement → ℕ → Outcome
   entered t m c coin =
-      let s = own code number (t .question) (m .kind) (copied-value m coin) (m .flag) (m .round) in
+      let s = own code site (t .question) (m .kind) (copied-value m coin) (m .flag) (m .round) in
       sending last jumped s c (began n (t .question) (t .lasting) (stage-of m) s c)
 
   -- a bundle that passed the tests: it makes the station jump, or is taken

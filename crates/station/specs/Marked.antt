@@ -76,14 +76,14 @@ unless-kept f (sends k s c t) = writes k (s .kind) (s .value) (s .flag) (s .roun
 -- a station is given a bundle that is read already, well-formed, of its question and with codes that verify: what giving comes to then
 -- (`given-as-called`)
 abbrev pub giving-read : (Statement → List ℕ) → ℕ → ℕ → Last → ℕ → State → ReadBundle → Outcome
-giving-read code n number last coin t b =
-    unless (test (rule n (b .main) (b .certificate)) no-certificate ∷ step-tests t (b .main)) (answered code last-round n number last t (b .main) (b .certificate) coin)
+giving-read code n site last coin t b =
+    unless (test (rule n (b .main) (b .certificate)) no-certificate ∷ step-tests t (b .main)) (answered code last-round n site last t (b .main) (b .certificate) coin)
 
-module _ (code : Statement → List ℕ) (n number coin : ℕ) where
+module _ (code : Statement → List ℕ) (n site coin : ℕ) where
   -- a station whose module has coded nothing yet; while it keeps, it is given the next
   unfoldable pub seen : List ReadBundle → Outcome → Seen
   seen [] o = unless-kept (λ k t. answers k) o
-  seen (b ∷ l) o = unless-kept (λ k t. seen l (giving-read code n number no-pair coin t b)) o
+  seen (b ∷ l) o = unless-kept (λ k t. seen l (giving-read code n site no-pair coin t b)) o
 
 -- what a station that has just sent is left with: the stations of the statements that it holds, the two groups that it keeps, and its decision
 pub record Left : Type 0 where

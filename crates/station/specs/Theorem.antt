@@ -40,11 +40,11 @@ module _ (mac : List ℕ → List ℕ → List ℕ) (key : List ℕ) (n : ℕ) (
       (p .0, (join (one-question (main-of ws) (certificate-of ws)) _ (both (one-question (main-of ws) (certificate-of ws)) _ (p .1 .0) .0) (eq-eqb _ _ e), p .1 .1))
 
   -- valid words, given to any open and fitting station of the group on their question
-  taken-everywhere : (number : ℕ) (m : Module) (t : Station) (coin : ℕ) (out : List ℕ) → OfGroup key n number m → module-fits m ≡ true
+  taken-everywhere : (site : ℕ) (m : Module) (t : Station) (coin : ℕ) (out : List ℕ) → OfGroup key n site m → module-fits m ≡ true
       → fits (m .n) (m .station) t ≡ true → t .closed ≡ false → main-of ws .question ≡ t .identity .question → output-words ≤ length out → coin < 2
       → invalid (giving mac m t ws coin out .number) ≡ false
   unfolding Rattle.station.specs.Calls.giving Rattle.station.specs.Calls.returned pick
-  taken-everywhere number m t coin out G fit fitting still same room bit = go (eqb (first-failed (give-tests mac m t ws coin out)) 0) refl
+  taken-everywhere site m t coin out G fit fitting still same room bit = go (eqb (first-failed (give-tests mac m t ws coin out)) 0) refl
     where
       ready : All (λ x. x .ok ≡ true) (station-tests m t coin out)
       ready = (
@@ -77,8 +77,8 @@ module _ (mac : List ℕ → List ℕ → List ℕ) (key : List ℕ) (n : ℕ) (
 pub demand-2-of : (mac : List ℕ → List ℕ → List ℕ) → ((key ws : List ℕ) → length (mac key ws) ≡ code-words) → Demand-2 mac
 demand-2-of mac eight =
     record {
-      opening-written = λ key n number m question v jump out G u. valid-to-all mac key n _ (Written.opening-written present-form mac key n eight number m question v jump out G u);
-      giving-written = λ key n number t R m ws coin out G u. valid-to-all mac key n _ (Written.giving-written present-form mac key n eight number t R m ws coin out G u);
+      opening-written = λ key n site m question v jump out G u. valid-to-all mac key n _ (Written.opening-written present-form mac key n eight site m question v jump out G u);
+      giving-written = λ key n site t R m ws coin out G u. valid-to-all mac key n _ (Written.giving-written present-form mac key n eight site t R m ws coin out G u);
       opening-counted = λ m question v jump out. Seal.opening-counted mac eight m question v jump out;
       giving-counted = λ m t ws coin out L. Seal.giving-counted mac eight m t ws coin out L;
       opening-silent = λ m question v jump out u. Seal.opening-silent mac eight m question v jump out u;

@@ -93,9 +93,9 @@ module _ (form : Form) where
   group-words c = all-written form c ++ replicate (kept-words - length c * statement-words form) 0
 
   unfoldable pub as-station : ℕ → ℕ → State → Station
-  as-station n number t =
+  as-station n site t =
       record {
-        identity = record { n = n; station = number; question = t .question };
+        identity = record { n = n; station = site; question = t .question };
         stage = t .stage;
         closed = t .closed;
         lasting = t .lasting;

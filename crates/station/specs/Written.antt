@@ -44,7 +44,7 @@ use Rattle.station.specs.Laws.Sane.{Sane, state-back}
 use Rattle.station.specs.Laws.FitSane.{for-value-size, for-none-size}
 use Rattle.station.specs.Laws.Keep.{all-take}
 use Rattle.station.specs.Laws.Pieces.{those-all}
-use Rattle.station.specs.Laws.End.{Given}
+use Rattle.station.specs.Laws.End.{EarlyDGet}
 use Rattle.station.specs.Laws.Views.{Accepted, Jumping, jump-statement, after, lasting-then, sent-statement, Gives, refuses, holds-on, shuts, goes-on, enters, gives-view, full-after, init-statement, Opens, no-opening, begins, opens-view}
 use Rattle.station.specs.Returns.{unrefused, wrote, wrote-unrefused}
 use Rattle.station.specs.Demand.{message, OfGroup, Reached, by-opening, by-giving}
@@ -94,9 +94,9 @@ backed-given n m _ (rule-7 k v a h b s) r p = absurd (omega arith)
 
 module _ (form : Form) where
   -- ---- the lengths of a station that is written from a state
-  pub lengths-of : (n number : ℕ) (t : State) → n ≤ most-stations form → Sane form n number t → Lengths form (W.as-station form n number t)
+  pub lengths-of : (n site : ℕ) (t : State) → n ≤ most-stations form → Sane form n site t → Lengths form (W.as-station form n site t)
   unfolding W.as-station
-  lengths-of n number t top S =
+  lengths-of n site t top S =
       record {
         slots = slots-length form n (t .held) 1 (sites form) (S .proper);
         for-value = group-length (t .for-value) (S .for-value .proper) (omega (arith, S .for-value .as-asked .size, for-value-size form n (t .stage) (t .held) top));
@@ -107,23 +107,23 @@ module _ (form : Form) where
       group-length c p few =
           length-append (all-written form c) (replicate (kept-words form - length c * statement-words form) 0) ∙ omega (arith, length-all form n c p, words-mono form (length c) (quorum (sites form)) few, length-replicate {A = ℕ} (kept-words form - length c * statement-words form) 0)
 
-  pub shut-lengths : (n number : ℕ) (t : State) → t .held ≡ [] → t .for-value ≡ [] → t .for-none ≡ [] → Lengths form (W.as-station form n number t)
+  pub shut-lengths : (n site : ℕ) (t : State) → t .held ≡ [] → t .for-value ≡ [] → t .for-none ≡ [] → Lengths form (W.as-station form n site t)
   unfolding W.as-station W.slots-of W.slot-of all-written
-  shut-lengths n number t a b c =
+  shut-lengths n site t a b c =
       record { slots = rw a (slots-length form n [] 1 (sites form) tt); for-value = rw b none-kept; for-none = rw c none-kept }
     where
       none-kept : length (replicate {A = ℕ} (kept-words form - 0 * statement-words form) 0) ≡ kept-words form
       none-kept = length-replicate (kept-words form - 0 * statement-words form) 0 ∙ omega arith
 
-  pub own-verifies : (code : List ℕ → List ℕ) (number question kind value flag round : ℕ) → verifies form code (own (statement-code form code) number question kind value flag round) ≡ true
+  pub own-verifies : (code : List ℕ → List ℕ) (site question kind value flag round : ℕ) → verifies form code (own (statement-code form code) site question kind value flag round) ≡ true
   unfolding verifies
-  own-verifies code number question kind value flag round = same-self (code (covered form (own (statement-code form code) number question kind value flag round)))
+  own-verifies code site question kind value flag round = same-self (code (covered form (own (statement-code form code) site question kind value flag round)))
 
   pub record Certain (code : List ℕ → List ℕ) (t : State) : Type 0 where
     pub held : All (λ s. verifies form code s ≡ true) (t .held)
     pub for-value : All (λ s. verifies form code s ≡ true) (t .for-value)
     pub for-none : All (λ s. verifies form code s ≡ true) (t .for-none)
-    pub given : Given (t .held)
+    pub given : EarlyDGet (t .held)
 
   -- the state of a station that has sent, by its own statement and its certificate
   began-certain : (code : List ℕ → List ℕ) (n question : ℕ) (l : Lasting) (g : Stage) (s : Statement) (c : List Statement) → verifies form code s ≡ true
@@ -229,29 +229,29 @@ module _ (form : Form) where
 
   -- ---- stations made by opening and changed only by these calls
   module _ (mac : List ℕ → List ℕ → List ℕ) (key : List ℕ) (n : ℕ) where
-    pub record Good (number : ℕ) (t : Station) : Type 0 where
+    pub record Good (site : ℕ) (t : Station) : Type 0 where
       pub lengths : Lengths form t
       pub certain : t .closed ≡ false → Certain (mac key) (state-of form t)
 
     module _ (eight : (key ws : List ℕ) → length (mac key ws) ≡ code-words) where
       -- a station written from a sane state of which all is certain
-      good-state : (number i : ℕ) (t : State) → i ≤ most-stations form → 1 ≤ number → number ≤ i → Sane form i number t → Certain (mac key) t → Good number (W.as-station form i number t)
-      good-state number i t top lo hi S C =
+      good-state : (site i : ℕ) (t : State) → i ≤ most-stations form → 1 ≤ site → site ≤ i → Sane form i site t → Certain (mac key) t → Good site (W.as-station form i site t)
+      good-state site i t top lo hi S C =
           record {
-            lengths = lengths-of i number t top S;
-            certain = λ e. subst (λ (u : State). Certain (mac key) u) (sym (state-back form i number t top lo hi S)) C;
+            lengths = lengths-of i site t top S;
+            certain = λ e. subst (λ (u : State). Certain (mac key) u) (sym (state-back form i site t top lo hi S)) C;
           }
 
-      good-shut : (number i : ℕ) (t : State) → t .closed ≡ true → t .held ≡ [] → t .for-value ≡ [] → t .for-none ≡ [] → Good number (W.as-station form i number t)
+      good-shut : (site i : ℕ) (t : State) → t .closed ≡ true → t .held ≡ [] → t .for-value ≡ [] → t .for-none ≡ [] → Good site (W.as-station form i site t)
       unfolding W.as-station
-      good-shut number i t c h f s = record { lengths = shut-lengths i number t h f s; certain = λ e. never (t .closed) e c }
+      good-shut site i t c h f s = record { lengths = shut-lengths i site t h f s; certain = λ e. never (t .closed) e c }
 
-      pub good-opening : (number : ℕ) (m : Module) (question v jump : ℕ) (out : List ℕ) → OfGroup key n number m → unrefused (opening form mac m question v jump out .number) ≡ true
-          → Good number (opening form mac m question v jump out .station)
+      pub good-opening : (site : ℕ) (m : Module) (question v jump : ℕ) (out : List ℕ) → OfGroup key n site m → unrefused (opening form mac m question v jump out .number) ≡ true
+          → Good site (opening form mac m question v jump out .station)
       unfolding opening returned pick
-      good-opening number m question v jump out G = go (opening-outcome form mac m question v jump out) (opens-view form mac m question v jump out)
+      good-opening site m question v jump out G = go (opening-outcome form mac m question v jump out) (opens-view form mac m question v jump out)
         where
-          go : (o : Outcome) → Opens form mac m question v jump out o → unrefused (returned form m (no-station form) out o .number) ≡ true → Good number (returned form m (no-station form) out o .station)
+          go : (o : Outcome) → Opens form mac m question v jump out o → unrefused (returned form m (no-station form) out o .number) ≡ true → Good site (returned form m (no-station form) out o .station)
           go _ (no-opening e) u = never _ e u
           go _ (begins room r p a) u =
               let b = began (m .n) question (undecided (eqb jump 1)) Gathering (init-statement form mac m question v out) [] in
@@ -261,10 +261,10 @@ module _ (form : Form) where
               (subst (λ (c : List ℕ). Certain (mac c) b) (G .same-key)
               (record { held = (own-verifies (mac (m .key)) (m .station) question kind-INIT v D-GET 0, tt); for-value = tt; for-none = tt; given = ((λ a b. absurd (omega arith)), tt) })))
 
-      pub good-giving : (number : ℕ) (t : Station) → Good number t → (m : Module) (ws : List ℕ) (coin : ℕ) (out : List ℕ) → OfGroup key n number m
-          → unrefused (giving form mac m t ws coin out .number) ≡ true → Good number (giving form mac m t ws coin out .station)
+      pub good-giving : (site : ℕ) (t : Station) → Good site t → (m : Module) (ws : List ℕ) (coin : ℕ) (out : List ℕ) → OfGroup key n site m
+          → unrefused (giving form mac m t ws coin out .number) ≡ true → Good site (giving form mac m t ws coin out .station)
       unfolding giving returned
-      good-giving number t good m ws coin out G = go (giving-outcome form mac m t ws coin out) (gives-view form mac m t ws coin out (good .lengths))
+      good-giving site t good m ws coin out G = go (giving-outcome form mac m t ws coin out) (gives-view form mac m t ws coin out (good .lengths))
         where
           C : Accepted form mac m t ws coin out → Certain (mac (m .key)) (state-of form t)
           C A = subst (λ (c : List ℕ). Certain (mac c) (state-of form t)) (sym (G .same-key)) (good .certain (A .cleared .still-open))
@@ -272,10 +272,10 @@ module _ (form : Form) where
           of-key : {u : State} → Certain (mac (m .key)) u → Certain (mac key) u
           of-key {u} c = subst (λ (x : List ℕ). Certain (mac x) u) (G .same-key) c
 
-          here : (u : State) → Good (m .station) (W.as-station form (m .n) (m .station) u) → Good number (W.as-station form (m .n) (m .station) u)
+          here : (u : State) → Good (m .station) (W.as-station form (m .n) (m .station) u) → Good site (W.as-station form (m .n) (m .station) u)
           here u g = subst (λ (i : ℕ). Good i (W.as-station form (m .n) (m .station) u)) (G .same-number) g
 
-          go : (o : Outcome) → Gives form mac m t ws coin out o → unrefused (returned form m t out o .number) ≡ true → Good number (returned form m t out o .station)
+          go : (o : Outcome) → Gives form mac m t ws coin out o → unrefused (returned form m t out o .number) ≡ true → Good site (returned form m t out o .station)
           go _ (refuses e) u = never _ e u
           go _ (holds-on A few) u =
               here (after form mac m t ws coin out) (good-state (m .station) (m .n) (after form mac m t ws coin out) (A .cleared .range .at-most) (A .cleared .range .low) (A .cleared .range .high)
@@ -290,9 +290,9 @@ module _ (form : Form) where
               here _ (good-state (m .station) (m .n) _ (J .cleared .range .at-most) (J .cleared .range .low) (J .cleared .range .high)
               (jump-sane form mac eight m t ws coin out J (good .lengths)) (of-key (jump-certain mac eight m t ws coin out J)))
 
-      pub reached-good : (number : ℕ) (t : Station) → Reached form mac key n number t → Good number t
-      reached-good number _ (by-opening m question v jump out G u) = good-opening number m question v jump out G u
-      reached-good number _ (by-giving {t} r m ws coin out G u) = good-giving number t (reached-good number t r) m ws coin out G u
+      pub reached-good : (site : ℕ) (t : Station) → Reached form mac key n site t → Good site t
+      reached-good site _ (by-opening m question v jump out G u) = good-opening site m question v jump out G u
+      reached-good site _ (by-giving {t} r m ws coin out G u) = good-giving site t (reached-good site t r) m ws coin out G u
 
       -- the written words are the bundle's, and no more
       pub bundle-front : (i : ℕ) (s : Statement) (c : List Statement) (out : List ℕ) → i ≤ most-stations form → Proper form i s → All (Proper form i) c → length c ≤ most-statements form
@@ -301,10 +301,10 @@ module _ (form : Form) where
       bundle-front i s c out top p a few =
           take-at (bundle-of form s c) (drop (length (bundle-of form s c)) out) (bundle-words form (length c)) (ws-length form i s c top p a few)
 
-      pub opening-written : (number : ℕ) (m : Module) (question v jump : ℕ) (out : List ℕ) → OfGroup key n number m → wrote (opening form mac m question v jump out .number) ≡ true
+      pub opening-written : (site : ℕ) (m : Module) (question v jump : ℕ) (out : List ℕ) → OfGroup key n site m → wrote (opening form mac m question v jump out .number) ≡ true
           → check-by form (mac key) n Any (message (opening form mac m question v jump out)) ≡ 0
       unfolding opening returned
-      opening-written number m question v jump out G = go (opening-outcome form mac m question v jump out) (opens-view form mac m question v jump out)
+      opening-written site m question v jump out G = go (opening-outcome form mac m question v jump out) (opens-view form mac m question v jump out)
         where
           go : (o : Outcome) → Opens form mac m question v jump out o → wrote (returned form m (no-station form) out o .number) ≡ true
               → check-by form (mac key) n Any (message (returned form m (no-station form) out o)) ≡ 0
@@ -326,10 +326,10 @@ module _ (form : Form) where
                   (bundle-valid form (m .n) s [] (r .at-most) proper tt (omega arith) (mac (m .key)) (r .at-least) tt
                   (own-verifies (mac (m .key)) (m .station) question kind-INIT v D-GET 0) tt (rule-1 refl))))
 
-      pub giving-written : (number : ℕ) (t : Station) → Reached form mac key n number t → (m : Module) (ws : List ℕ) (coin : ℕ) (out : List ℕ) → OfGroup key n number m
+      pub giving-written : (site : ℕ) (t : Station) → Reached form mac key n site t → (m : Module) (ws : List ℕ) (coin : ℕ) (out : List ℕ) → OfGroup key n site m
           → wrote (giving form mac m t ws coin out .number) ≡ true → check-by form (mac key) n Any (message (giving form mac m t ws coin out)) ≡ 0
       unfolding giving returned
-      giving-written number t reached m ws coin out G = go (giving-outcome form mac m t ws coin out) (gives-view form mac m t ws coin out (reached-good number t reached .lengths))
+      giving-written site t reached m ws coin out G = go (giving-outcome form mac m t ws coin out) (gives-view form mac m t ws coin out (reached-good site t reached .lengths))
         where
           go : (o : Outcome) → Gives form mac m t ws coin out o → wrote (returned form m t out o .number) ≡ true → check-by form (mac key) n Any (message (returned form m t out o)) ≡ 0
           go _ (refuses {k} e) u = never (unrefused k) e (wrote-unrefused k u)
@@ -349,7 +349,7 @@ module _ (form : Form) where
               checks A size c =
                   let x = follows (m .n) (t .stage) (after form mac m t ws coin out) coin in
                   let s = sent-statement form mac m t ws coin out in
-                  let g = reached-good number t reached in
+                  let g = reached-good site t reached in
                   let C : Certain (mac (m .key)) (state-of form t) = subst (λ (c : List ℕ). Certain (mac c) (state-of form t)) (sym (G .same-key)) (g .certain (A .cleared .still-open)) in
                   let R = next-ready form mac eight m t ws coin out (g .lengths) A size c in
                   ap (check-by form (mac key) n Any) (bundle-front (m .n) s (x .first ++ x .second) out (A .cleared .range .at-most) (sent-proper form mac eight m t ws coin out (g .lengths) A size c)
@@ -361,12 +361,12 @@ module _ (form : Form) where
                   (sent-valid mac m t ws coin out A eight (g .lengths) C size c)))
 
   -- ---- under HMAC, by the public check's own answer
-  pub opening-valid : (key : List ℕ) (n number : ℕ) (m : Module) (question v jump : ℕ) (out : List ℕ) → OfGroup key n number m
+  pub opening-valid : (key : List ℕ) (n site : ℕ) (m : Module) (question v jump : ℕ) (out : List ℕ) → OfGroup key n site m
       → wrote (opening form hmac-code m question v jump out .number) ≡ true → checked form key n (message (opening form hmac-code m question v jump out)) ≡ 0
   unfolding checked judged
-  opening-valid key n number m question v jump out G u = opening-written hmac-code key n hmac-eight number m question v jump out G u
+  opening-valid key n site m question v jump out G u = opening-written hmac-code key n hmac-eight site m question v jump out G u
 
-  pub giving-valid : (key : List ℕ) (n number : ℕ) (t : Station) → Reached form hmac-code key n number t → (m : Module) (ws : List ℕ) (coin : ℕ) (out : List ℕ)
-      → OfGroup key n number m → wrote (giving form hmac-code m t ws coin out .number) ≡ true → checked form key n (message (giving form hmac-code m t ws coin out)) ≡ 0
+  pub giving-valid : (key : List ℕ) (n site : ℕ) (t : Station) → Reached form hmac-code key n site t → (m : Module) (ws : List ℕ) (coin : ℕ) (out : List ℕ)
+      → OfGroup key n site m → wrote (giving form hmac-code m t ws coin out .number) ≡ true → checked form key n (message (giving form hmac-code m t ws coin out)) ≡ 0
   unfolding checked judged
-  giving-valid key n number t r m ws coin out G u = giving-written hmac-code key n hmac-eight number t r m ws coin out G u
+  giving-valid key n site t r m ws coin out G u = giving-written hmac-code key n hmac-eight site t r m ws coin out G u

@@ -1,9 +1,9 @@
 // The console program valley (document 01, "The program valley"): it reads standard input in pieces, feeds them to the run, and writes what the run
 // prints. What is printed for an input is the definition `valley` of the crate world, however the input is cut (`every-cutting` of console).
-use console::Run;
+use valley_console::Run;
 use libc::STDIN_FILENO;
 use libc::STDOUT_FILENO;
-use world::Phase;
+use valley_world::Phase;
 ghost use mathlib.Core.Path.{_≡_};
 ghost use Prim.Native.Nat.{_≤_, _<_};
 ghost use lib.ListN.{length};
@@ -34,7 +34,7 @@ fn take_line(run: Run, piece: &[u8], at: usize) -> Place
     ensures { λ r. ⌜ (at < r .at) × (r .at ≤ length (now (piece .entry))) ⌝ }
 {
     let mut out = [0u8; 64];
-    let t = console::feed(run, &piece[at..], &mut out);
+    let t = valley_console::feed(run, &piece[at..], &mut out);
     show(&out, t.count);
     let next = t.run;
     Place {
@@ -72,7 +72,7 @@ fn take_piece(run: Run, piece: &[u8]) -> Run {
 // The end of the input.
 fn end(run: Run) {
     let mut out = [0u8; 64];
-    let t = console::finish(run, &mut out);
+    let t = valley_console::finish(run, &mut out);
     show(&out, t.count);
 }
 
@@ -96,7 +96,7 @@ fn more(run: Run) -> Reading {
 // no run uses up.
 fn main() {
     let mut reading = Reading {
-        run: console::start(),
+        run: valley_console::start(),
         going: true,
     };
     let mut turns = u64::MAX;

@@ -1,9 +1,9 @@
 // Feeds the run of valley (the crate console) with the inputs on standard input, each cut into pieces of a given size, and prints what it prints
 // (docs/SCRIPT.md, "Valley"). The inputs and the expected lines come from the second implementation (second/).
-use console::Run;
+use valley_console::Run;
 use libc::STDIN_FILENO;
 use libc::STDOUT_FILENO;
-use world::Phase;
+use valley_world::Phase;
 ghost use Prim.Native.Nat.{_≤_, _<_};
 ghost use lib.ListN.{length};
 
@@ -59,7 +59,7 @@ fn take_line(run: Run, piece: &[u8], at: usize) -> Fed
     ensures { λ r. ⌜ (at < r .at) × (r .at ≤ length (now (piece .entry))) ⌝ }
 {
     let mut out = [0u8; 64];
-    let t = console::feed(run, &piece[at..], &mut out);
+    let t = valley_console::feed(run, &piece[at..], &mut out);
     show(&out, t.count);
     let next = t.run;
     Fed {
@@ -137,7 +137,7 @@ fn repeat(run: Run, body: &[u8], times: usize, size: usize) -> Run
 // The end of an input.
 fn finish(run: Run) {
     let mut out = [0u8; 64];
-    let t = console::finish(run, &mut out);
+    let t = valley_console::finish(run, &mut out);
     show(&out, t.count);
 }
 
@@ -146,7 +146,7 @@ fn play(head: &[u8], body: &[u8], times: usize, size: usize)
     requires { ⌜ 0 < size ⌝ }
 {
     io::write_all(STDOUT_FILENO, b"case\n");
-    let run = cut(console::start(), head, size);
+    let run = cut(valley_console::start(), head, size);
     finish(repeat(run, body, times, size));
     io::write_all(STDOUT_FILENO, b"end\n");
 }

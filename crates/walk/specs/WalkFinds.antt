@@ -1,4 +1,4 @@
--- What the walk has found at its end, over the whole bundle: `walk-finds`; and which number follows: `answered`.
+-- What the walk has found at its end, over the whole bundle: `walk-finds`; and which number follows: `number-found`.
 use Prim.Native.Nat.{ℕ, suc, _+_, _-_, _*_}
 use mathlib.Core.Bool.{Bool, true, false, not, _&&_, _||_}
 use mathlib.Core.List.{List, [], _∷_}
@@ -33,15 +33,15 @@ pub record Found (code : List ℕ → List ℕ) (n : ℕ) (asked : Which) (ws : 
   pub unbacked : all-formed n ws (place-of 0) (suc (count-in ws)) ≡ true → r .other ≡ false → r .wrong ≡ false → r .unbacked ≡ not (rule n (main-of ws) (certificate-of ws))
 
 -- the number, from what is found of each test
-pub answered : (r : Findings) (a b c d : Bool) → r .malformed ≡ not a → (a ≡ true → r .other ≡ not b) → (a ≡ true → b ≡ true → r .wrong ≡ not c)
+pub number-found : (r : Findings) (a b c d : Bool) → r .malformed ≡ not a → (a ≡ true → r .other ≡ not b) → (a ≡ true → b ≡ true → r .wrong ≡ not c)
     → (a ≡ true → b ≡ true → c ≡ true → r .unbacked ≡ not d)
     → answer r ≡ first-failed (test a malformed ∷ test b other-question ∷ test c wrong-code ∷ test d no-certificate ∷ [])
 unfolding answer first-failed pick
-answered r false b c d p q s t = rw p
-answered r true false c d p q s t = rw (p, q refl)
-answered r true true false d p q s t = rw (p, q refl, s refl refl)
-answered r true true true false p q s t = rw (p, q refl, s refl refl, t refl refl refl)
-answered r true true true true p q s t = rw (p, q refl, s refl refl, t refl refl refl)
+number-found r false b c d p q s t = rw p
+number-found r true false c d p q s t = rw (p, q refl)
+number-found r true true false d p q s t = rw (p, q refl, s refl refl)
+number-found r true true true false p q s t = rw (p, q refl, s refl refl, t refl refl refl)
+number-found r true true true true p q s t = rw (p, q refl, s refl refl, t refl refl refl)
 
 module _ (code : List ℕ → List ℕ) (n : ℕ) (asked : Which) (ws : List ℕ) where
   -- the two parts of the certificate, and what is found behind each

@@ -15,15 +15,15 @@ use Rattle.format.specs.Present.{statement-words, output-words, most-statements
 use Rattle.station.specs.Present.{sites}
 
 -- n words from a place on, with 0 for each that the list lacks
-unfoldable pub part : ℕ → ℕ → List ℕ → List ℕ
-part zero at l = []
-part (suc n) at l = part n at l ++ (getD l (at + n) 0 ∷ [])
+unfoldable pub segment : ℕ → ℕ → List ℕ → List ℕ
+segment zero at l = []
+segment (suc n) at l = segment n at l ++ (getD l (at + n) 0 ∷ [])
 
 -- the words of those of k slots from slot i on whose bit is set, by rising station
 unfoldable pub held-words : ℕ → List ℕ → ℕ → ℕ → List ℕ
 held-words set slots i zero = []
 held-words set slots i (suc k) =
-    pick (bit set i) (part statement-words (i * statement-words) slots ++ held-words set slots (suc i) k) (held-words set slots (suc i) k)
+    pick (bit set i) (segment statement-words (i * statement-words) slots ++ held-words set slots (suc i) k) (held-words set slots (suc i) k)
 
 -- the head word and the main statement's ten words: zeros stand where its code will
 unfoldable pub main-words : ℕ → ℕ → ℕ → List ℕ
@@ -32,7 +32,7 @@ main-words count w0 question = (head-mark * 2 ^ mark-bit + count) ∷ w0 ∷ que
 -- head and main statement, the held statements of the set, and behind them k statements of a kept group
 unfoldable pub words-of : ℕ → ℕ → List ℕ → ℕ → List ℕ → ℕ → List ℕ
 words-of w0 question slots set group k =
-    main-words (ones set + k) w0 question ++ held-words set slots 0 sites ++ part (k * statement-words) 0 group
+    main-words (ones set + k) w0 question ++ held-words set slots 0 sites ++ segment (k * statement-words) 0 group
 
 -- what is lent has room for every bundle, the set names stations only, and a bundle has room for the statements
 unfoldable pub writable : ℕ → ℕ → ℕ → ℕ → Bool

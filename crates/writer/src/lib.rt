@@ -17,7 +17,7 @@ ghost use Rattle.laws.specs.Over.{over};
 ghost use Rattle.format.specs.Group.{quorum};
 ghost use Rattle.format.specs.Present.{bundle-words, most-statements, output-words, place-of, statement-words};
 ghost use Rattle.station.specs.Present.{sites, slots-words};
-ghost use Rattle.writer.specs.Written.{part, held-words, main-words, words-of, writable as Writable, lent-after, count-after, copy-after, copy-count};
+ghost use Rattle.writer.specs.Written.{segment, held-words, main-words, words-of, writable as Writable, lent-after, count-after, copy-after, copy-count};
 
 // As many statements as a kept group has.
 const LARGEST_QUORUM: u32 = MOST_STATIONS / 2 + 1;
@@ -28,7 +28,7 @@ const HEAD: u32 = HEAD_MARK * MARK;
 // Copies n words, from a place on, to the front of the lent ones.
 fn copy_words(out: &mut [u32], ws: &[u32], at: usize, n: usize)
     requires { ⌜ (at + n ≤ length (now ws)) × (n ≤ length (now out)) ⌝ }
-    ensures { λ _. ⌜ now (out .exit) ≡ over (part n at (now (ws .entry))) (now (out .entry)) ⌝ }
+    ensures { λ _. ⌜ now (out .exit) ≡ over (segment n at (now (ws .entry))) (now (out .entry)) ⌝ }
 {
     let mut i: usize = 0;
     while i < n {
@@ -61,7 +61,7 @@ fn write_held(out: &mut [u32], slots: &[u32; SLOTS_WORDS], set: u32)
 // Writes the first k statements of a kept group at the front of the lent words.
 fn write_group(out: &mut [u32], group: &[u32; KEPT_WORDS], k: usize)
     requires { ⌜ (k ≤ quorum sites) × (k * statement-words ≤ length (now out)) ⌝ }
-    ensures { λ _. ⌜ now (out .exit) ≡ over (part (k * statement-words) 0 (now (group .entry))) (now (out .entry)) ⌝ }
+    ensures { λ _. ⌜ now (out .exit) ≡ over (segment (k * statement-words) 0 (now (group .entry))) (now (out .entry)) ⌝ }
 {
     copy_words(out, &group[..], 0, k * STATEMENT_WORDS);
 }

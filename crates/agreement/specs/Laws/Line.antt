@@ -156,10 +156,10 @@ module _ (form : Form) where
     line-open = L .standing .while-open
 
   -- and back: a state as a station
-  pub open-line : (n number : ℕ) (l : List Statement) (u : State) (took : List Statement) → n ≤ most-stations form → 1 ≤ number → number ≤ n → Sane form n number u → Standing form n l number u took
-      → Line n l number (W.as-station form n number u) took
-  open-line n number l u took top lo hi S K =
+  pub open-line : (n site : ℕ) (l : List Statement) (u : State) (took : List Statement) → n ≤ most-stations form → 1 ≤ site → site ≤ n → Sane form n site u → Standing form n l site u took
+      → Line n l site (W.as-station form n site u) took
+  open-line n site l u took top lo hi S K =
       record {
-        lengths = lengths-of form n number u top S;
-        standing = subst (λ (x : State). Standing form n l number x took) (sym (state-back form n number u top lo hi S)) K;
+        lengths = lengths-of form n site u top S;
+        standing = subst (λ (x : State). Standing form n l site x took) (sym (state-back form n site u top lo hi S)) K;
       }

@@ -36,12 +36,12 @@ pub few-votes : (n q : ℕ) (held took : List Statement) (σ v r : ℕ) → NowH
 few-votes n q held took σ v r now few e enough =
     omega (arith, votes-held q r v held took n (subst (λ (z : ℕ). NowHeld z held took) e now), number-few (has-value v) held)
 
-module _ (form : Form) (n number q : ℕ) (lasting : Lasting) (l : List Statement) (g : Stage) (s : Statement) (c took : List Statement) (big : least-stations ≤ n) (low : 1 ≤ s .station) (high : s .station ≤ n)
+module _ (form : Form) (n site q : ℕ) (lasting : Lasting) (l : List Statement) (g : Stage) (s : Statement) (c took : List Statement) (big : least-stations ≤ n) (low : 1 ≤ s .station) (high : s .station ≤ n)
     (on : s .question ≡ q) (s-step : step s ≡ stage-step g) (before : ℕ) (up : before < stage-step g) (upto : All (λ y. step y ≤ before) took)
     (facts : All (λ y. Coded n l y × Just n l y) took) (asked : All (λ y. y .question ≡ q) took) (c-coded : All (Coded n l) c) (c-asked : All (λ y. y .question ≡ q) c) (s-backed : Backed n s c)
     (d-low : lasting .decision ≤ none) (named : (v : ℕ) → v < none → lasting .decision ≡ v → Enough n took q v)
     (names : (v r : ℕ) → v < none → quorum n ≤ count (votes took q r v) n → lasting .decision < none)
-    (sane : Sane form n number (began n q lasting g s c)) where
+    (sane : Sane form n site (began n q lasting g s c)) where
   abbrev l2 : List Statement
   l2 = bare s ∷ l
 
@@ -83,7 +83,7 @@ module _ (form : Form) (n number q : ℕ) (lasting : Lasting) (l : List Statemen
   kept2 true = all-take (Coded n l2) (quorum n) c (all-map (coded-more n (bare s) l) c c-coded)
   kept2 false = tt
 
-  pub entered-standing : Standing form n l2 number (began n q lasting g s c) took2
+  pub entered-standing : Standing form n l2 site (began n q lasting g s c) took2
   entered-standing =
       record {
         facts = facts2;

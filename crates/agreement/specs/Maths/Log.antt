@@ -16,17 +16,17 @@ use Rattle.format.specs.Lists.{some}
 abbrev pub In : Statement → List Statement → Type 0
 In s l = List·Memᴰ s l
 
-pub record Found (p : Statement → Bool) (l : List Statement) : Type 0 where
+pub record SomeIn (p : Statement → Bool) (l : List Statement) : Type 0 where
   pub one : Statement
   pub mem : In one l
   pub passes : p one ≡ true
 
-pub some-out : (p : Statement → Bool) (l : List Statement) → some p l ≡ true → Found p l
+pub some-out : (p : Statement → Bool) (l : List Statement) → some p l ≡ true → SomeIn p l
 unfolding some
 some-out p [] h = never false refl h
 some-out p (s ∷ l) h = go (p s) refl h (some-out p l)
   where
-    go : (b : Bool) → p s ≡ b → (b || some p l) ≡ true → (some p l ≡ true → Found p l) → Found p (s ∷ l)
+    go : (b : Bool) → p s ≡ b → (b || some p l) ≡ true → (some p l ≡ true → SomeIn p l) → SomeIn p (s ∷ l)
     go true e k ih = record { one = s; mem = List·Memᴰ·head refl; passes = e }
     go false e k ih = let f = ih k in record { one = f .one; mem = List·Memᴰ·tail (f .mem); passes = f .passes }
 

@@ -26,8 +26,8 @@ use Rattle.station.specs.Machine.{State, stage-step, kind-in, round-in, has-val
 use Rattle.station.specs.Laws.Insert.{insert-all, some-insert}
 use Rattle.station.specs.Laws.Sane.{Sane}
 use Rattle.station.specs.Laws.Keep.{Fitting, keep-sane, all-take, steps-P, steps-V, steps-0}
-use Rattle.station.specs.Laws.Pieces.{Found, find-some}
-use Rattle.station.specs.Laws.End.{Full, full-grown, Given, Known, known, Ready, both-values}
+use Rattle.station.specs.Laws.Pieces.{SomeWith, find-some}
+use Rattle.station.specs.Laws.End.{Full, full-grown, EarlyDGet, Known, known, Sendable, both-values}
 use Rattle.station.specs.Laws.Fits.{began-sane, decision-low, ready, backed}
 use Rattle.station.specs.Written.{next-all, backed-given}
 use Rattle.agreement.specs.Maths.Log.{In, all-at}
@@ -68,7 +68,7 @@ kept-decision Gathering old h e = refl
 kept-decision (Proposing r f) old h e = refl
 kept-decision (Voting r) old h e = rw (lt-ltb old none e)
 
-module _ (form : Form) (n number : ℕ) (l : List Statement) (u : State) (took : List Statement) (K : Standing form n l number u took) (still-open : u .closed ≡ false) (m : Statement) (c : List Statement)
+module _ (form : Form) (n site : ℕ) (l : List Statement) (u : State) (took : List Statement) (K : Standing form n l site u took) (still-open : u .closed ≡ false) (m : Statement) (c : List Statement)
     (B : Fitting form n (u .question) (u .stage) m c) (new : held-of (m .station) (u .held) ≡ false) (calm : conflict (u .stage) (m ∷ u .held) ≡ false)
     (m-coded : Coded n l m) (c-coded : All (Coded n l) c) where
   abbrev k : State
@@ -80,7 +80,7 @@ module _ (form : Form) (n number : ℕ) (l : List Statement) (u : State) (took :
   abbrev took1 : List Statement
   took1 = m ∷ took
 
-  O : Open form n l number u took
+  O : Open form n l site u took
   O = K .while-open still-open
 
   main-just : Just n l m
@@ -147,10 +147,10 @@ module _ (form : Form) (n number : ℕ) (l : List Statement) (u : State) (took :
       go true e = absurd (few-votes n (u .question) (k .held) took1 (stage-step (u .stage)) v r now1 few (eqb-true _ _ e) enough)
       go false e = names-before v r low (eqb-false _ _ e) enough
 
-  given1 : Given (k .held)
+  given1 : EarlyDGet (k .held)
   given1 = insert-all (λ s. s .round ≡ 1 → s .kind ≡ kind-P → s .flag ≡ D-GET) m (u .held) (backed-given n m c (B .backed)) (O .given)
 
-  pub kept-standing : length (k .held) < quorum n → Standing form n l number k took1
+  pub kept-standing : length (k .held) < quorum n → Standing form n l site k took1
   kept-standing few =
       record {
         facts = facts1;
@@ -160,7 +160,7 @@ module _ (form : Form) (n number : ℕ) (l : List Statement) (u : State) (took :
         names = names-kept few;
         while-open = λ e.
             record {
-              sane = keep-sane form n number u m c (O .sane) B new few;
+              sane = keep-sane form n site u m c (O .sane) B new few;
               given = given1;
               among = among1;
               for-value-coded = first1;
@@ -173,7 +173,7 @@ module _ (form : Form) (n number : ℕ) (l : List Statement) (u : State) (took :
   -- ---- the end of the step
   module _ (size : length (k .held) ≡ quorum n) where
     F : Full form n k
-    F = full-grown form n number u m c (O .sane) B new calm size
+    F = full-grown form n site u m c (O .sane) B new calm size
 
     -- enough votes of the step: all that are held
     every-held : (v r : ℕ) → stage-step (u .stage) ≡ 2 * r + 1 → quorum n ≤ count (votes took1 (u .question) r v) n → every (has-value v) (k .held) ≡ true
@@ -234,7 +234,7 @@ module _ (form : Form) (n number : ℕ) (l : List Statement) (u : State) (took :
     low-ended = decision-low (u .stage) (u .lasting .decision) (k .held) (K .low)
 
     -- closed
-    pub shut-standing : (v : State) → v .question ≡ u .question → v .closed ≡ true → v .lasting .decision ≡ decided-then → Standing form n l number v took1
+    pub shut-standing : (v : State) → v .question ≡ u .question → v .closed ≡ true → v .lasting .decision ≡ decided-then → Standing form n l site v took1
     shut-standing v q closed d =
         record {
           facts = facts1;
@@ -246,7 +246,7 @@ module _ (form : Form) (n number : ℕ) (l : List Statement) (u : State) (took :
         }
 
     -- ---- sent: the station's own statement, as it follows
-    module _ (coin : ℕ) (bit : coin < 2) (more : closes (last-round form) (u .stage) ≡ false) (big : least-stations ≤ n) (s : Statement) (p : Proper form n s) (mine : s .station ≡ number) (low : 1 ≤ s .station) (high : s .station ≤ n)
+    module _ (coin : ℕ) (bit : coin < 2) (more : closes (last-round form) (u .stage) ≡ false) (big : least-stations ≤ n) (s : Statement) (p : Proper form n s) (mine : s .station ≡ site) (low : 1 ≤ s .station) (high : s .station ≤ n)
         (on : s .question ≡ u .question) (kind≡ : s .kind ≡ follows n (u .stage) k coin .kind) (value≡ : s .value ≡ follows n (u .stage) k coin .value)
         (flag≡ : s .flag ≡ follows n (u .stage) k coin .flag) (round≡ : s .round ≡ follows n (u .stage) k coin .round) where
       abbrev x : Next
@@ -255,7 +255,7 @@ module _ (form : Form) (n number : ℕ) (l : List Statement) (u : State) (took :
       abbrev c2 : List Statement
       c2 = x .first ++ x .second
 
-      R : Ready form n (u .question) x
+      R : Sendable form n (u .question) x
       R = ready form n k F coin bit (u .stage) refl more
 
       s-backed : Backed n s c2
@@ -286,7 +286,7 @@ module _ (form : Form) (n number : ℕ) (l : List Statement) (u : State) (took :
               all-two (λ y. Coded n l y × Just n l y) (λ y. Known form n (k .stage) y × ((y .question ≡ k .question) × (step y ≡ stage-step (k .stage)))) (k .held) held-facts
               (all-two (Known form n (k .stage)) (λ y. (y .question ≡ k .question) × (step y ≡ stage-step (k .stage))) (k .held) (known form n k F) (F .alike))
 
-          one : (v : ℕ) → some-value v (k .held) ≡ true → Found Fact (λ y. which (Only v) (y .value) && which Any (y .flag))
+          one : (v : ℕ) → some-value v (k .held) ≡ true → SomeWith Fact (λ y. which (Only v) (y .value) && which Any (y .flag))
           one v e = find-some Fact (λ y. which (Only v) (y .value) && which Any (y .flag)) (k .held) all-facts e
 
           split : (r f : ℕ) → u .stage ≡ Proposing (record { 0 = r }) f → vote-value (k .held) ≡ none → Split n l (u .question) r
@@ -326,15 +326,15 @@ module _ (form : Form) (n number : ℕ) (l : List Statement) (u : State) (took :
       unfolding step
       s-step = λ i. Rattle.format.specs.Words.step-of ((kind≡ ∙ R .kind) i) ((round≡ ∙ R .round) i)
 
-      sent-sane : Sane form n number (began n (u .question) (with-decision decided-then (u .lasting)) (x .stage) s c2)
+      sent-sane : Sane form n site (began n (u .question) (with-decision decided-then (u .lasting)) (x .stage) s c2)
       sent-sane =
-          began-sane form n number (u .question) (with-decision decided-then (u .lasting)) (x .stage) s c2 big p mine low on s-step (R .rounds) (R .flag s flag≡) low-ended
+          began-sane form n site (u .question) (with-decision decided-then (u .lasting)) (x .stage) s c2 big p mine low on s-step (R .rounds) (R .flag s flag≡) low-ended
           (all-append (Proper form n) (x .first) (x .second) (R .proper) (R .more-proper)) c2-asked
           (λ e. subst (λ (c : List Statement). Holds (value-group n (x .stage) (s .value)) c) (sym (R .front))
           (subst (λ (v : ℕ). Holds (value-group n (x .stage) v) (x .first)) (sym value≡) (R .for-value s value≡ flag≡ e)))
           (λ e. subst (λ (c : List Statement). Holds (none-votes n (round-in (x .stage) - 1)) c) (sym (R .front)) (R .for-none s value≡ flag≡ e))
 
-      pub sent-standing : Standing form n (bare s ∷ l) number (began n (u .question) (with-decision decided-then (u .lasting)) (x .stage) s c2) (s ∷ took1)
+      pub sent-standing : Standing form n (bare s ∷ l) site (began n (u .question) (with-decision decided-then (u .lasting)) (x .stage) s c2) (s ∷ took1)
       sent-standing =
-          entered-standing form n number (u .question) (with-decision decided-then (u .lasting)) l (x .stage) s c2 took1 big low high on s-step (stage-step (u .stage)) (steps-up n (u .stage) k coin) upto1 facts1 asked1 c2-coded c2-asked
+          entered-standing form n site (u .question) (with-decision decided-then (u .lasting)) l (x .stage) s c2 took1 big low high on s-step (stage-step (u .stage)) (steps-up n (u .stage) k coin) upto1 facts1 asked1 c2-coded c2-asked
           s-backed low-ended named-ended names-ended sent-sane

@@ -17,7 +17,7 @@ use Rattle.format.specs.Lists.{some, every, number-of}
 use Rattle.rules.specs.Rules as R
 use Rattle.station.specs.Machine.{has-value, vote-value, decided}
 use Rattle.certificate.specs.Exact.{every-out}
-use Rattle.station.specs.Laws.Pieces.{Found, find-some}
+use Rattle.station.specs.Laws.Pieces.{SomeWith, find-some}
 use Rattle.station.specs.Laws.Keep.{steps-V}
 use Rattle.agreement.specs.Maths.Counting.{count-mono}
 use Rattle.agreement.specs.Maths.Log.{In, some-in}
@@ -117,7 +117,7 @@ module _ (q r v : ℕ) where
       in-held : (i : ℕ) (took : List Statement) → NowHeld (2 * r + 1) held took → votes took q r v i ≡ true → some (λ s. has-value v s && eqb (s .station) i) held ≡ true
       in-held i took a e = go (find-some (λ s. step s ≡ 2 * r + 1 → some (λ h. has-value (s .value) h && eqb (h .station) (s .station)) held ≡ true) (is-vote q r v i) took a e)
         where
-          go : Found (λ s. step s ≡ 2 * r + 1 → some (λ h. has-value (s .value) h && eqb (h .station) (s .station)) held ≡ true) (is-vote q r v i)
+          go : SomeWith (λ s. step s ≡ 2 * r + 1 → some (λ h. has-value (s .value) h && eqb (h .station) (s .station)) held ≡ true) (is-vote q r v i)
               → some (λ s. has-value v s && eqb (s .station) i) held ≡ true
           go f =
               let w = vote-out q r v i (f .one) (f .passes) in

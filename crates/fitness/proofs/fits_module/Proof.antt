@@ -1,6 +1,6 @@
 -- The module's range is tested first: what the other tests ask follows from it.
 use Rattle.station.specs.Present as F
-use Rattle.fitness.specs.Parts.{whole, range-out, refused, answered}
+use Rattle.fitness.specs.Parts.{whole, range-out, refused, rest-decides}
 use borrow.Author.Needs.{needs}
 use Rattle.fitness.proofs.fits_module.Statement.{statement}
 use Rattle.fitness.proofs.fits_module.Tie as tie
@@ -24,7 +24,7 @@ returns-2 c =
     let w = c .before .before .before in
     let d = w .before .before in
     let a = d .before .before .args in
-    answered (a .m) (d .before .fits2 .result) (d .before .fits2 .ensures) _ (F.fits (a .m .n) (a .m .station) (a .t)) (d .if1 .left)
+    rest-decides (a .m) (d .before .fits2 .result) (d .before .fits2 .ensures) _ (F.fits (a .m .n) (a .m .station) (a .t)) (d .if1 .left)
     (whole (a .m .n) (a .m .station) (a .t) (w .words-fit .result) (w .words-fit .ensures))
 
 pub fits-module-spec : {M : Type 1} → statement M

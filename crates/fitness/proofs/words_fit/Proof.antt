@@ -38,7 +38,7 @@ returns c =
     let h = g .before in
     let p = h .before .before in
     let a = p .before .before .before .before .before .before in
-    words-are (a .args .n) (a .args .number) (a .args .t) (h .held-fits .result) (g .stage-fits .result) (k .groups-fit .result) (p .step-in .result .0) (a .pre .2)
+    words-are (a .args .n) (a .args .site) (a .args .t) (h .held-fits .result) (g .stage-fits .result) (k .groups-fit .result) (p .step-in .result .0) (a .pre .2)
     (p .step-in .ensures) (h .held-fits .ensures) (g .stage-fits .ensures) (k .groups-fit .ensures)
 
 pub words-fit-spec : {M : Type 1} → statement M

@@ -3,7 +3,7 @@ use mathlib.Core.Bool.{true}
 use mathlib.Core.Path.{ap, _∙_}
 use Rattle.station.specs.Present.{empty-station}
 use Rattle.giving.specs.Gives.{shut-words}
-use Rattle.giving.specs.Laws.Found.{answers-none, ends-closed, ends-on}
+use Rattle.giving.specs.Laws.EndAnswers.{answers-none, ends-closed, ends-on}
 use borrow.Author.Needs.{needs}
 use Rattle.giving.proofs.end_step.Statement.{statement}
 use Rattle.giving.proofs.end_step.Tie as tie

@@ -5,7 +5,7 @@ use mir.Syntax.{w32}
 use borrow.Author.Needs.{needs, length-unmapped, elem-fits-field}
 use Rattle.station.specs.Present.{Lengths}
 use Rattle.keeping.specs.Laws.One.{LowWords}
-use Rattle.giving.specs.Laws.Found.{answers-none}
+use Rattle.giving.specs.Laws.EndAnswers.{answers-none}
 use Rattle.giving.specs.Laws.Give.{give-refused, none-found, jumps-found, give-jump, give-12, give-after}
 use Rattle.giving.proofs.give.Statement.{statement}
 use Rattle.giving.proofs.give.Tie as tie

@@ -1,5 +1,5 @@
 -- Fewer than q are held, or the step ends.
-use Rattle.giving.specs.Laws.Found.{answers-none, taken-kept, taken-ends}
+use Rattle.giving.specs.Laws.EndAnswers.{answers-none, taken-kept, taken-ends}
 use borrow.Author.Needs.{needs}
 use Rattle.giving.proofs.taken.Statement.{statement}
 use Rattle.giving.proofs.taken.Tie as tie

@@ -30,14 +30,14 @@ use Rattle.refusal.specs.Refusal.{first-refusal, first-refusal-by-length, jumps
 use Rattle.laws.specs.Below.{Below}
 use Rattle.keeping.specs.Laws.One.{LowWords}
 use Rattle.keeping.specs.Kept.{with-bundle}
-use Rattle.keeping.specs.Laws.Law.{keeps-state}
+use Rattle.keeping.specs.Laws.KeptState.{keeps-state}
 use Rattle.sending.specs.Sends.{own-fields}
 use Rattle.ending.specs.After.{next-by}
 use Rattle.moving.specs.Moves.{answer, with-no-bundle, sending-words, moving}
 use Rattle.giving.specs.Gives.{shut-words, ending-words, after-words}
-use Rattle.moving.specs.Laws.Found.{answers-by, answers-same}
+use Rattle.moving.specs.Laws.MovedAnswers.{answers-by, answers-same}
 use Rattle.jumping.specs.Jumps.{jumping}
-use Rattle.jumping.specs.Laws.Law.{jumped-is}
+use Rattle.jumping.specs.Laws.Entered.{jumped-is}
 use Rattle.giving.specs.Laws.Whole.{not-12, or-as-was, passed-so, given-is}
 
 module _ (m : Module) (t : Station) (ws : List ℕ) (coin : ℕ) (out : List ℕ) where

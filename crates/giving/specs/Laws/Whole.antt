@@ -31,7 +31,7 @@ use Rattle.station.specs.Laws.Slots.{ones-set, held-back}
 use Rattle.station.specs.Laws.Sane.{InRounds}
 use Rattle.station.specs.Laws.Keep.{Grown, grown}
 use Rattle.station.specs.Laws.Insert.{insert-length}
-use Rattle.station.specs.Laws.End.{Full, Ready}
+use Rattle.station.specs.Laws.End.{Full, Sendable}
 use Rattle.station.specs.Laws.Views.{Accepted, after, lasting-then, sane-before, full-after}
 use Rattle.station.specs.Laws.Fits.{next-ready, sent-proper}
 use Rattle.station.specs.Seal.{range-fits}
@@ -43,7 +43,7 @@ use Rattle.ending.specs.declared.Following.{Following}
 use Rattle.ending.specs.After.{next-by, next-is, as-next}
 use Rattle.moving.specs.Moves.{answer, with-no-bundle, sending-words, moving}
 use Rattle.giving.specs.Gives.{shut-words, ending-words, after-words}
-use Rattle.giving.specs.Laws.Law.{chosen, sending-is}
+use Rattle.giving.specs.Laws.Chosen.{chosen, sending-is}
 
 -- 20 and 21 are not 12
 pub not-12 : (b : Bool) → eqb (pick b sent sent-decided) not-above ≡ false
@@ -104,7 +104,7 @@ module _ (m : Module) (t : Station) (ws : List ℕ) (coin : ℕ) (out : List ℕ
       F : Full present-form (m .n) K
       F = full-after present-form hmac-code m t ws coin out L A size
 
-      R : Ready present-form (m .n) (t .identity .question) x
+      R : Sendable present-form (m .n) (t .identity .question) x
       R = next-ready present-form hmac-code hmac-eight m t ws coin out L A size goes
 
       e : as-next X (x .first) (x .second) ≡ x

@@ -1,5 +1,5 @@
 -- 12 where the pair is not above the last; else what was sent.
-use Rattle.jumping.specs.Laws.Found.{jumped-12, jumped-sent}
+use Rattle.jumping.specs.Laws.JumpAnswers.{jumped-12, jumped-sent}
 use borrow.Author.Needs.{needs}
 use Rattle.jumping.proofs.jump.Statement.{statement}
 use Rattle.jumping.proofs.jump.Tie as tie

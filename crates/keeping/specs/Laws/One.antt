@@ -38,26 +38,26 @@ pub record LowWords (t : Station) : Type 0 where
   pub for-none : Below (t .groups .none)
 
 -- what fits says of an open station's arrays
-pub record Fit (n number : ℕ) (t : Station) : Type 0 where
+pub record Fit (n site : ℕ) (t : Station) : Type 0 where
   pub same-n : t .identity .n ≡ n
-  pub same-number : t .identity .station ≡ number
+  pub same-number : t .identity .station ≡ site
   pub no-more : t .held .heard < 2 ^ sites
   pub slots : slots-fit n (t .identity .question) (stage-step (t .stage)) (t .held .heard) (t .held .slots) 0 sites ≡ true
   pub for-value : group-fits n (t .identity .question) (kept-for-value n (t .stage) (held-by t)) (t .groups .value) ≡ true
   pub for-none : group-fits n (t .identity .question) (kept-for-none n (t .stage) (held-by t)) (t .groups .none) ≡ true
 
-pub fit-out : (n number : ℕ) (t : Station) → fits n number t ≡ true → t .closed ≡ false → Fit n number t
+pub fit-out : (n site : ℕ) (t : Station) → fits n site t ≡ true → t .closed ≡ false → Fit n site t
 unfolding Rattle.station.specs.Fit.fits
-fit-out n number t h shut =
-    let a = both (eqb (t .identity .n) n && eqb (t .identity .station) number) _ h in
+fit-out n site t h shut =
+    let a = both (eqb (t .identity .n) n && eqb (t .identity .station) site) _ h in
     let i = both (eqb (t .identity .n) n) _ (a .0) in
-    let b = both (held-fits n number t) (rest-fits n number t) (rw shut at (a .1)) in
-    let c = both (ltb (t .held .heard) (2 ^ sites) && ltb (ones (t .held .heard)) (quorum n) && bit (t .held .heard) (number - 1)) _ (b .0) in
+    let b = both (held-fits n site t) (rest-fits n site t) (rw shut at (a .1)) in
+    let c = both (ltb (t .held .heard) (2 ^ sites) && ltb (ones (t .held .heard)) (quorum n) && bit (t .held .heard) (site - 1)) _ (b .0) in
     let d = both (ltb (t .held .heard) (2 ^ sites) && ltb (ones (t .held .heard)) (quorum n)) _ (c .0) in
     let e = both (ltb (t .held .heard) (2 ^ sites)) _ (d .0) in
-    let u = both (stage-fits (t .stage) (getD (t .held .slots) ((number - 1) * statement-words) 0) && leb (t .lasting .decision) none
+    let u = both (stage-fits (t .stage) (getD (t .held .slots) ((site - 1) * statement-words) 0) && leb (t .lasting .decision) none
     && group-fits n (t .identity .question) (kept-for-value n (t .stage) (held-by t)) (t .groups .value)) _ (b .1) in
-    let v = both (stage-fits (t .stage) (getD (t .held .slots) ((number - 1) * statement-words) 0) && leb (t .lasting .decision) none) _ (u .0) in
+    let v = both (stage-fits (t .stage) (getD (t .held .slots) ((site - 1) * statement-words) 0) && leb (t .lasting .decision) none) _ (u .0) in
     record {
       same-n = eqb-true _ _ (i .0);
       same-number = eqb-true _ _ (i .1);
@@ -67,7 +67,7 @@ fit-out n number t h shut =
       for-none = u .1;
     }
 
-module _ (n number : ℕ) (t : Station) (L : Lengths t) (A : LowWords t) (F : Fit n number t) where
+module _ (n site : ℕ) (t : Station) (L : Lengths t) (A : LowWords t) (F : Fit n site t) where
   pub rising : Rising 0 (held-by t)
   rising =
       read-slots present-form n (t .identity .question) (stage-step (t .stage)) (t .held .heard) (t .held .slots) sites 0 (omega (arith, L .slots)) (F .slots) .rising
@@ -126,14 +126,14 @@ module _ (n number : ℕ) (t : Station) (L : Lengths t) (A : LowWords t) (F : Fi
       group-same (kept-for-none n (t .stage) (held-by t)) (t .groups .none) (A .for-none) (L .for-none) (for-none-size present-form n (t .stage) (held-by t) top) (F .for-none)
       ∙ ap (λ (k : ℕ). group-words (statements (t .groups .none) 0 (kept-for-none k (t .stage) (held-by t) .size))) (sym (F .same-n))
 
-pub one-form : (n number : ℕ) (t : Station) → n ≤ most-stations → Lengths t → LowWords t → fits n number t ≡ true → t .closed ≡ false → t ≡ W.as-station n number (state-of t)
+pub one-form : (n site : ℕ) (t : Station) → n ≤ most-stations → Lengths t → LowWords t → fits n site t ≡ true → t .closed ≡ false → t ≡ W.as-station n site (state-of t)
 unfolding Rattle.station.specs.Words.state-of Rattle.station.specs.Words.as-station
-one-form n number t top L A h shut =
-    let F = fit-out n number t h shut in
-    let a : t .held .heard ≡ set-of (held-by t) = sym (set-same n number t L A F) in
-    let b : t .held .slots ≡ slots-of (held-by t) 1 sites = sym (slots-same n number t L A F) in
-    let c = for-value-same n number t L A F top in
-    let d = for-none-same n number t L A F top in
+one-form n site t top L A h shut =
+    let F = fit-out n site t h shut in
+    let a : t .held .heard ≡ set-of (held-by t) = sym (set-same n site t L A F) in
+    let b : t .held .slots ≡ slots-of (held-by t) 1 sites = sym (slots-same n site t L A F) in
+    let c = for-value-same n site t L A F top in
+    let d = for-none-same n site t L A F top in
     λ i.
     record {
       identity = record { n = F .same-n i; station = F .same-number i; question = t .identity .question };

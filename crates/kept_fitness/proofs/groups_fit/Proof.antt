@@ -1,7 +1,7 @@
 -- A group that is to be kept has at most 16 statements, since n is at most 31; each is held against its words.
 use Rattle.station.specs.Laws.FitSane.{for-value-size, for-none-size}
 use Rattle.station.specs.Present.{held-in, sites}
-use Rattle.kept_fitness.specs.Parts.{groups-fit, few, refused, answered}
+use Rattle.kept_fitness.specs.Parts.{groups-fit, few, refused, rest-decides}
 use borrow.Author.Needs.{needs}
 use Rattle.format.specs.Form.{present-form}
 use Rattle.kept_fitness.proofs.groups_fit.Statement.{statement}
@@ -43,7 +43,7 @@ returns-2 c =
     let v = none .before in
     let i = v .before .before .before in
     let a = i .before .before .args in
-    answered (a .n) (i .before .size-fits .result) (i .before .size-fits .ensures) _ (groups-fit (a .n) (a .question) (a .stage) (a .heard) (a .slots .now) (a .groups)) (i .if1 .left)
+    rest-decides (a .n) (i .before .size-fits .result) (i .before .size-fits .ensures) _ (groups-fit (a .n) (a .question) (a .stage) (a .heard) (a .slots .now) (a .groups)) (i .if1 .left)
     (rw (c .group-fits2 .ensures, one .group-fits .ensures, none .kept-for-none .ensures, v .kept-for-value .ensures))
 
 pub groups-fit-spec : {M : Type 1} → statement M

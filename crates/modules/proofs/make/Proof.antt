@@ -12,13 +12,13 @@ fits-requires c κs = search needs
 returns : tie.Need-returns
 returns c =
     let a = c .before .before .args in
-    let e = sym (makes (a .key) (a .n) (a .number) (sym (c .before .fits2 .ensures) ∙ c .if1 .taken)) in
+    let e = sym (makes (a .key) (a .n) (a .site) (sym (c .before .fits2 .ensures) ∙ c .if1 .taken)) in
     (ap (λ (x : Made). x .number) e, ap (λ (x : Made). x .made) e)
 
 returns-2 : tie.Need-returns-2
 returns-2 c =
     let a = c .before .before .args in
-    let e = sym (makes-none (a .key) (a .n) (a .number) (sym (c .before .fits2 .ensures) ∙ c .if1 .left)) in
+    let e = sym (makes-none (a .key) (a .n) (a .site) (sym (c .before .fits2 .ensures) ∙ c .if1 .left)) in
     (ap (λ (x : Made). x .number) e, ap (λ (x : Made). x .made) e)
 
 pub make-spec : {M : Type 1} → statement M

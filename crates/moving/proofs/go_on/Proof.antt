@@ -1,5 +1,5 @@
 -- 12 where the pair is not above the last; else what was sent.
-use Rattle.moving.specs.Laws.Found.{moved-12, moved-sent}
+use Rattle.moving.specs.Laws.MovedAnswers.{moved-12, moved-sent}
 use borrow.Author.Needs.{needs}
 use Rattle.moving.proofs.go_on.Statement.{statement}
 use Rattle.moving.proofs.go_on.Tie as tie

@@ -1,5 +1,5 @@
 -- By what the calls answer.
-use Rattle.moving.specs.Laws.Found.{next-sent}
+use Rattle.moving.specs.Laws.MovedAnswers.{next-sent}
 use borrow.Author.Needs.{needs}
 use Rattle.moving.proofs.send_next.Statement.{statement}
 use Rattle.moving.proofs.send_next.Tie as tie

@@ -36,10 +36,10 @@ use Rattle.agreement.specs.Laws.Run.{Inv}
 use Rattle.agreement.specs.Demand.{gives, Call, call}
 use Rattle.agreement.specs.Present.{answer, log, Presents, CodesCame}
 use Rattle.never_stuck.specs.Laws.Steps.{next-step, next-is, up-to}
-use Rattle.never_stuck.specs.Laws.Walk.{Walk}
-use Rattle.never_stuck.specs.Laws.SoundSite.{SoundSite, module-of, refused-walk}
-use Rattle.never_stuck.specs.Laws.GivenStation.{outcome-is, up-given, quiet-walk}
-use Rattle.never_stuck.specs.Laws.WrittenStep.{sent-walk}
+use Rattle.never_stuck.specs.Laws.Course.{Course}
+use Rattle.never_stuck.specs.Laws.SoundSite.{SoundSite, module-of, refused-course}
+use Rattle.never_stuck.specs.Laws.GivenStation.{outcome-is, up-given, quiet-course}
+use Rattle.never_stuck.specs.Laws.WrittenStep.{sent-course}
 
 module _ (G : Ground present-form) where
   open Ground G using (mac, eight, key, n, top)
@@ -93,37 +93,37 @@ module _ (G : Ground present-form) where
         parts-proper : All (Proper present-form n) (following .first ++ following .second)
         parts-proper = let R = next-ready present-form mac eight its-module t ws coin out len accepted size more in all-append (Proper present-form n) (following .first) (following .second) (R .proper) (R .more-proper)
 
-        ended-walk : (not-refused : unrefused (answer mac key n cs the-call .number) ≡ true)
+        ended-course : (not-refused : unrefused (answer mac key n cs the-call .number) ≡ true)
             → answer mac key n cs the-call ≡ returned its-module t out (sends k sent-main (following .first ++ following .second) (began n question lasting-after (following .stage) sent-main (following .first ++ following .second)))
-            → Walk G (the-call ∷ cs) i
-        ended-walk not-refused e =
+            → Course G (the-call ∷ cs) i
+        ended-course not-refused e =
             let R = reached-good present-form mac key n eight i t (up-given G faulty cs i site o t ws coin out not-refused (presents not-refused) .reached) .certain (accepted .cleared .still-open) in
             let few = backed-few present-form n sent-main (following .first ++ following .second) top (sent-backed present-form mac its-module t ws coin out accepted eight len R size more) in
             let c = parts-coded present-form mac eight its-module t ws coin out (log mac key n cs) (presents not-refused .line .took) (known (presents not-refused)) accepted came in
-            sent-walk G faulty cs i site o t ws coin out inv-then not-refused (presents not-refused) k sent-main (following .first ++ following .second) (following .stage) lasting-after
+            sent-course G faulty cs i site o t ws coin out inv-then not-refused (presents not-refused) k sent-main (following .first ++ following .second) (following .stage) lasting-after
             refl refl sent-step is-above writes (sent-proper present-form mac eight its-module t ws coin out len accepted size more) parts-proper few
             (all-append (Coded n (reads present-form (log mac key n cs))) (following .first) (following .second) (c .0) (c .1)) (sent-sane present-form mac eight its-module t ws coin out len accepted size more) (accepted .cleared .still-open) refl
             (λ off s a b. up-to (next-is n (t .stage) state-after coin) s a b) e
 
       -- the station has jumped
-      jumped-walk : (jumping : Jumping present-form mac its-module t ws coin out) → above (last-for its-module question) question (step jump-main) ≡ true
+      jumped-course : (jumping : Jumping present-form mac its-module t ws coin out) → above (last-for its-module question) question (step jump-main) ≡ true
           → answer mac key n cs the-call ≡ returned its-module t out (sends jumped jump-main (certificate-of ws)
-          (began n question (t .lasting) (stage-of (main-of ws)) jump-main (certificate-of ws))) → Walk G (the-call ∷ cs) i
+          (began n question (t .lasting) (stage-of (main-of ws)) jump-main (certificate-of ws))) → Course G (the-call ∷ cs) i
       unfolding Rattle.station.specs.Calls.returned
-      jumped-walk jumping is-above e =
+      jumped-course jumping is-above e =
           let not-refused : unrefused (answer mac key n cs the-call .number) ≡ true = ap (λ (r : Returned). unrefused (r .number)) e in
-          sent-walk G faulty cs i site o t ws coin out inv-then not-refused (presents not-refused) jumped jump-main (certificate-of ws) (stage-of (main-of ws)) (t .lasting)
+          sent-course G faulty cs i site o t ws coin out inv-then not-refused (presents not-refused) jumped jump-main (certificate-of ws) (stage-of (main-of ws)) (t .lasting)
           refl refl (jump-fitting present-form mac eight its-module t ws coin out jumping .in-step) is-above refl
           (jump-proper present-form mac eight its-module t ws coin out jumping) (jumping .fitting .certificate) (jump-few present-form mac eight its-module t ws coin out jumping)
           (given-coded present-form mac eight its-module t ws coin out (log mac key n cs) (presents not-refused .line .took) (known (presents not-refused)) jumping came)
           (jump-sane present-form mac eight its-module t ws coin out jumping len) (jumping .cleared .still-open) refl (λ off s a b. never (t .lasting .jump) off (jumping .on)) e
 
       -- the statement is held, and the step goes on
-      kept-walk : (accepted : Accepted present-form mac its-module t ws coin out) → length (state-after .held) < quorum n → answer mac key n cs the-call ≡ returned its-module t out (keeps kept state-after)
-          → Walk G (the-call ∷ cs) i
+      kept-course : (accepted : Accepted present-form mac its-module t ws coin out) → length (state-after .held) < quorum n → answer mac key n cs the-call ≡ returned its-module t out (keeps kept state-after)
+          → Course G (the-call ∷ cs) i
       unfolding Rattle.station.specs.Calls.returned Rattle.station.specs.Words.state-of
-      kept-walk accepted few e =
-          quiet-walk G faulty cs i site o t ws coin out (ap (λ (r : Returned). unrefused (r .number)) e) (presents (ap (λ (r : Returned). unrefused (r .number)) e))
+      kept-course accepted few e =
+          quiet-course G faulty cs i site o t ws coin out (ap (λ (r : Returned). unrefused (r .number)) e) (presents (ap (λ (r : Returned). unrefused (r .number)) e))
           state-after (ap (λ (r : Returned). r .station) e) (ap (λ (r : Returned). r .after) e) refl refl
           (λ a. (
             a,
@@ -135,21 +135,21 @@ module _ (G : Ground present-form) where
           ))
 
       -- the station has closed
-      shut-walk : (accepted : Accepted present-form mac its-module t ws coin out) (lasting : Lasting) → answer mac key n cs the-call ≡ returned its-module t out (keeps closed-now (shut state-after lasting)) → Walk G (the-call ∷ cs) i
+      shut-course : (accepted : Accepted present-form mac its-module t ws coin out) (lasting : Lasting) → answer mac key n cs the-call ≡ returned its-module t out (keeps closed-now (shut state-after lasting)) → Course G (the-call ∷ cs) i
       unfolding Rattle.station.specs.Calls.returned Rattle.station.specs.Words.state-of
-      shut-walk accepted lasting e =
-          quiet-walk G faulty cs i site o t ws coin out (ap (λ (r : Returned). unrefused (r .number)) e) (presents (ap (λ (r : Returned). unrefused (r .number)) e))
+      shut-course accepted lasting e =
+          quiet-course G faulty cs i site o t ws coin out (ap (λ (r : Returned). unrefused (r .number)) e) (presents (ap (λ (r : Returned). unrefused (r .number)) e))
           (shut state-after lasting) (ap (λ (r : Returned). r .station) e) (ap (λ (r : Returned). r .after) e) refl refl (λ a. never true a refl)
 
-      pub give-walk : Walk G (the-call ∷ cs) i
+      pub give-course : Course G (the-call ∷ cs) i
       unfolding Rattle.station.specs.Calls.returned
-      give-walk = go (giving-outcome mac its-module t ws coin out) refl (gives-view present-form mac its-module t ws coin out len)
+      give-course = go (giving-outcome mac its-module t ws coin out) refl (gives-view present-form mac its-module t ws coin out len)
         where
-          go : (x : Outcome) → giving-outcome mac its-module t ws coin out ≡ x → Gives present-form mac its-module t ws coin out x → Walk G (the-call ∷ cs) i
-          go _ e (refuses {k} z) = refused-walk G faulty cs i site (gives o t ws coin out) t out k z (outcome-of ∙ ap (returned its-module t out) e)
-          go _ e (holds-on accepted few) = kept-walk accepted few (outcome-of ∙ ap (returned its-module t out) e)
-          go _ e (shuts accepted size c) = shut-walk accepted lasting-after (outcome-of ∙ ap (returned its-module t out) e)
+          go : (x : Outcome) → giving-outcome mac its-module t ws coin out ≡ x → Gives present-form mac its-module t ws coin out x → Course G (the-call ∷ cs) i
+          go _ e (refuses {k} z) = refused-course G faulty cs i site (gives o t ws coin out) t out k z (outcome-of ∙ ap (returned its-module t out) e)
+          go _ e (holds-on accepted few) = kept-course accepted few (outcome-of ∙ ap (returned its-module t out) e)
+          go _ e (shuts accepted size c) = shut-course accepted lasting-after (outcome-of ∙ ap (returned its-module t out) e)
           go _ e (goes-on {k} accepted size c a z) =
               let writes : wrote k ≡ true = ap wrote z ∙ sent-wrote (ltb (t .lasting .decision) none || eqb (lasting-after .decision) none) in
-              ended-walk k accepted size c a writes (ap (λ (r : Returned). unrefused (r .number)) (outcome-of ∙ ap (returned its-module t out) e) ∙ wrote-unrefused k writes) (outcome-of ∙ ap (returned its-module t out) e)
-          go _ e (enters jumping a) = jumped-walk jumping a (outcome-of ∙ ap (returned its-module t out) e)
+              ended-course k accepted size c a writes (ap (λ (r : Returned). unrefused (r .number)) (outcome-of ∙ ap (returned its-module t out) e) ∙ wrote-unrefused k writes) (outcome-of ∙ ap (returned its-module t out) e)
+          go _ e (enters jumping a) = jumped-course jumping a (outcome-of ∙ ap (returned its-module t out) e)

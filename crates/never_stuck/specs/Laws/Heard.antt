@@ -48,8 +48,8 @@ use Rattle.agreement.specs.Present.{modules, answer, lineage, Presents, Sound}
 use Rattle.never_stuck.specs.Claim.{room, Waits}
 use Rattle.never_stuck.specs.Laws.Spoken.{Premises, Spoke}
 use Rattle.never_stuck.specs.Laws.Steps.{next-step}
-use Rattle.never_stuck.specs.Laws.Walk.{Up}
-use Rattle.never_stuck.specs.Laws.Walked.{walk}
+use Rattle.never_stuck.specs.Laws.Course.{Up}
+use Rattle.never_stuck.specs.Laws.Courses.{course}
 
 module _ (mac : List ℕ → List ℕ → List ℕ) (m : Module) (t : Station) (ws : List ℕ) (coin : ℕ) (out : List ℕ) (L : Lengths t) where
   -- where ten tests have passed and the next is refused, that is by 10
@@ -116,7 +116,7 @@ module _ (G : Ground present-form) where
     up-of x k t s p =
         let r = in-group present-form G cs (P .given) x k (p .line) (p .is) in
         subst (λ (z : Station). Up G cs x z) (p .now)
-        (walk G (rest present-form G cs (P .given) (P .few) x x) cs (P .given) (rest-sound present-form G cs (P .given) (P .few) x x s s) x (r .0) (r .1)
+        (course G (rest present-form G cs (P .given) (P .few) x x) cs (P .given) (rest-sound present-form G cs (P .given) (P .few) x x s s) x (r .0) (r .1)
         (rest-i present-form G cs (P .given) (P .few) x x) .up k (p .line) (p .is))
 
     -- a waiting station is sane
@@ -133,7 +133,7 @@ module _ (G : Ground present-form) where
         let p = a .presents in
         let p' = b .presents in
         let r = in-group present-form G cs (P .given) x k (p .line) (p .is) in
-        let W = walk G (rest present-form G cs (P .given) (P .few) x x) cs (P .given) (rest-sound present-form G cs (P .given) (P .few) x x (a .sound) (a .sound)) x
+        let W = course G (rest present-form G cs (P .given) (P .few) x x) cs (P .given) (rest-sound present-form G cs (P .given) (P .few) x x (a .sound) (a .sound)) x
         (r .0) (r .1) (rest-i present-form G cs (P .given) (P .few) x x) in
         let e : k ≡ o = W .unique k o (p .line) (p' .line) (p .is) (p' .is)
         (ap (λ (z : Station). z .identity .question) (p .now) ∙ a .asked ∙ sym (ap (λ (z : Station). z .identity .question) (p' .now) ∙ b .asked)) in

@@ -41,14 +41,14 @@ use Rattle.agreement.specs.Laws.Run.{Inv}
 use Rattle.agreement.specs.Demand.{opens, Call, call, Lineage, found}
 use Rattle.agreement.specs.Present.{written-main, started, modules, answer, log, openings, lineage}
 use Rattle.never_stuck.specs.Laws.Spoken.{Spoke}
-use Rattle.never_stuck.specs.Laws.Walk.{Up, Walk, up-past, whose, renewed, main-written, written-spoke, held-coded, held-single}
-use Rattle.never_stuck.specs.Laws.SoundSite.{SoundSite, module-of, in-group, module-is, refused-walk}
+use Rattle.never_stuck.specs.Laws.Course.{Up, Course, up-past, whose, renewed, main-written, written-spoke, held-coded, held-single}
+use Rattle.never_stuck.specs.Laws.SoundSite.{SoundSite, module-of, in-group, module-is, refused-course}
 
 module _ (G : Ground present-form) where
   open Ground G using (mac, eight, key, n, top)
 
   module _ (faulty : List ℕ) (cs : List Call) (i : ℕ) (site : SoundSite G faulty cs i) where
-    open SoundSite site using (low, high, sound, walked)
+    open SoundSite site using (low, high, sound, course-of)
 
     abbrev its-module : Module
     its-module = module-of G cs i
@@ -81,7 +81,7 @@ module _ (G : Ground present-form) where
 
         -- the questions of the stations before are lower
         lower : (k : ℕ) (line : Lineage) → lineage mac key n cs i k ≡ found line → line .present .identity .question < q
-        lower k line e = by (walked .up k line e) (above-out (last-for its-module q) q (step main) a)
+        lower k line e = by (course-of .up k line e) (above-out (last-for its-module q) q (step main) a)
           where
             by : Up G cs i (line .present) → Above (last-for its-module q) q (step main) → line .present .identity .question < q
             by u (first x) = never (modules mac key n cs i .last .coded) x (u .has-coded)
@@ -160,17 +160,17 @@ module _ (G : Ground present-form) where
           unfolding Rattle.station.specs.Words.as-station
           asked-is = refl
 
-          opened-walk : Walk G (the-call ∷ cs) i
+          opened-course : Course G (the-call ∷ cs) i
           unfolding new-line
-          opened-walk =
-              renewed G the-call cs i (openings mac key n cs i) new-station walked
+          opened-course =
+              renewed G the-call cs i (openings mac key n cs i) new-station course-of
               (λ o l f. whose G the-call cs i (openings mac key n cs i) new-station (λ z. started (answer mac key n cs the-call)) new-line refl station-is o l (sym (there o) ∙ f)) up-new
-              (λ o l x f. up-past G the-call cs i (l .present) q 0 last-is (omega (arith, lower o l f)) (λ z. omega (arith, lower o l f)) (walked .up o l f))
+              (λ o l x f. up-past G the-call cs i (l .present) q 0 last-is (omega (arith, lower o l f)) (λ z. omega (arith, lower o l f)) (course-of .up o l f))
               (λ o l x f z. omega (arith, lower o l f, asked-is))
 
-      pub open-walk : Walk G (the-call ∷ cs) i
-      open-walk = go (opening-outcome mac its-module q v setting out) refl (opens-view present-form mac its-module q v setting out)
+      pub open-course : Course G (the-call ∷ cs) i
+      open-course = go (opening-outcome mac its-module q v setting out) refl (opens-view present-form mac its-module q v setting out)
         where
-          go : (o : Outcome) → opening-outcome mac its-module q v setting out ≡ o → Opens present-form mac its-module q v setting out o → Walk G (the-call ∷ cs) i
-          go _ e (no-opening {k} z) = refused-walk G faulty cs i site (opens q v setting out) no-station out k z (outcome-is ∙ ap (returned its-module no-station out) e)
-          go _ e (begins room r p a) = opened-walk r p a (outcome-is ∙ ap (returned its-module no-station out) e)
+          go : (o : Outcome) → opening-outcome mac its-module q v setting out ≡ o → Opens present-form mac its-module q v setting out o → Course G (the-call ∷ cs) i
+          go _ e (no-opening {k} z) = refused-course G faulty cs i site (opens q v setting out) no-station out k z (outcome-is ∙ ap (returned its-module no-station out) e)
+          go _ e (begins room r p a) = opened-course r p a (outcome-is ∙ ap (returned its-module no-station out) e)

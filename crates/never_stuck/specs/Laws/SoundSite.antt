@@ -17,7 +17,7 @@ use Rattle.agreement.specs.Laws.Lists.{module-now, lineage-refused}
 use Rattle.agreement.specs.Laws.Run.{Inv}
 use Rattle.agreement.specs.Demand.{Action, Call, call, member}
 use Rattle.agreement.specs.Present.{modules, answer}
-use Rattle.never_stuck.specs.Laws.Walk.{Walk, still}
+use Rattle.never_stuck.specs.Laws.Course.{Course, still}
 
 module _ (G : Ground present-form) where
   open Ground G using (mac, key, n)
@@ -28,7 +28,7 @@ module _ (G : Ground present-form) where
     pub high : i ≤ n
     pub sound : member i faulty ≡ false
     pub before : Inv present-form G faulty cs
-    pub walked : Walk G cs i
+    pub course-of : Course G cs i
 
   -- ---- its module, with the group's key and size and the site's number written out
   module _ (cs : List Call) (i : ℕ) where
@@ -39,7 +39,7 @@ module _ (G : Ground present-form) where
     in-group = record { same-key = refl; same-n = refl; same-number = refl }
 
   module _ (faulty : List ℕ) (cs : List Call) (i : ℕ) (site : SoundSite faulty cs i) where
-    open SoundSite site using (low, high, before, walked)
+    open SoundSite site using (low, high, before, course-of)
 
     as-shown : OfGroup key n i (modules mac key n cs i)
     as-shown = before .logs .mods i low high
@@ -48,9 +48,9 @@ module _ (G : Ground present-form) where
     module-is = λ z. record { key = as-shown .same-key z; n = as-shown .same-n z; station = as-shown .same-number z; last = modules mac key n cs i .last }
 
     -- a call that is refused changes nothing
-    pub refused-walk : (a : Action) (t : Station) (out : List ℕ) (k : ℕ) → unrefused k ≡ false → answer mac key n cs (call i a) ≡ returned (module-of cs i) t out (Mach.refused k)
-        → Walk G (call i a ∷ cs) i
+    pub refused-course : (a : Action) (t : Station) (out : List ℕ) (k : ℕ) → unrefused k ≡ false → answer mac key n cs (call i a) ≡ returned (module-of cs i) t out (Mach.refused k)
+        → Course G (call i a ∷ cs) i
     unfolding Rattle.station.specs.Calls.returned
-    refused-walk a t out k z e =
+    refused-course a t out k z e =
         still G (call i a) cs i (λ o. lineage-refused present-form mac key n (call i a) cs i o (ap (λ (r : Returned). unrefused (r .number)) e ∙ z))
-        (module-now present-form mac key n (call i a) cs ∙ ap (λ (r : Returned). r .after) e ∙ sym module-is) walked
+        (module-now present-form mac key n (call i a) cs ∙ ap (λ (r : Returned). r .after) e ∙ sym module-is) course-of

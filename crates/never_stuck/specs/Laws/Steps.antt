@@ -130,7 +130,7 @@ carried-calm v h e = go (some-value 0 h) refl (some-value 1 h) refl
         let f = P.find-some (λ x. calm v x ≡ true) (λ x. has-value w x && true) h (every-out (calm v) h e) s in
         by f (eqb-true (f .one .value) w (both (has-value w (f .one)) true (f .passes) .0)) (either (has-value v (f .one)) (has-value none (f .one)) (f .has))
       where
-        by : (f : P.Found (λ x. calm v x ≡ true) (λ x. has-value w x && true)) → f .one .value ≡ w → (has-value v (f .one) ≡ true) ⊎ (has-value none (f .one) ≡ true) → w ≡ v
+        by : (f : P.SomeWith (λ x. calm v x ≡ true) (λ x. has-value w x && true)) → f .one .value ≡ w → (has-value v (f .one) ≡ true) ⊎ (has-value none (f .one) ≡ true) → w ≡ v
         by f a (inl z) = sym a ∙ eqb-true (f .one .value) v z
         by f a (inr z) = absurd (omega (arith, a, eqb-true (f .one .value) none z))
 

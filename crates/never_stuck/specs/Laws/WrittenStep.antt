@@ -39,15 +39,15 @@ use Rattle.agreement.specs.Demand.{gives, Call, call}
 use Rattle.agreement.specs.Present.{modules, answer, log, Presents}
 use Rattle.never_stuck.specs.Laws.Spoken.{Spoke, Said, said-later}
 use Rattle.never_stuck.specs.Laws.Steps.{any}
-use Rattle.never_stuck.specs.Laws.Walk.{Up, Walk, up-past, main-written, written-spoke, held-coded, held-single}
+use Rattle.never_stuck.specs.Laws.Course.{Up, Course, up-past, main-written, written-spoke, held-coded, held-single}
 use Rattle.never_stuck.specs.Laws.SoundSite.{SoundSite, module-of, in-group}
-use Rattle.never_stuck.specs.Laws.GivenStation.{giving-is, up-given, presented-then, apart, reached-then, given-walk}
+use Rattle.never_stuck.specs.Laws.GivenStation.{giving-is, up-given, presented-then, apart, reached-then, given-course}
 
 module _ (G : Ground present-form) where
   open Ground G using (mac, eight, key, n, top)
 
   module _ (faulty : List ℕ) (cs : List Call) (i : ℕ) (site : SoundSite G faulty cs i) (o : ℕ) (t : Station) (ws : List ℕ) (coin : ℕ) (out : List ℕ) where
-    open SoundSite site using (low, high, sound, walked)
+    open SoundSite site using (low, high, sound, course-of)
 
     abbrev its-module : Module
     its-module = module-of G cs i
@@ -145,8 +145,8 @@ module _ (G : Ground present-form) where
           unfolding Rattle.station.specs.Words.as-station
           asked-is = refl
 
-          pub sent-walk : Walk G (the-call ∷ cs) i
-          sent-walk =
-              given-walk G faulty cs i site o t ws coin out not-refused presented new-station station-is asked-is up-new
-              (λ j line ne f. up-past G the-call cs i (line .present) question (stage-step stage) last-is (omega (arith, walked .up j line f .behind, same-question))
-              (apart G faulty cs i site o t ws coin out not-refused presented j line ne f) (walked .up j line f))
+          pub sent-course : Course G (the-call ∷ cs) i
+          sent-course =
+              given-course G faulty cs i site o t ws coin out not-refused presented new-station station-is asked-is up-new
+              (λ j line ne f. up-past G the-call cs i (line .present) question (stage-step stage) last-is (omega (arith, course-of .up j line f .behind, same-question))
+              (apart G faulty cs i site o t ws coin out not-refused presented j line ne f) (course-of .up j line f))

@@ -1,6 +1,6 @@
 -- Where a test fails, what is returned is as it was; else what was sent is what the definition returns.
 use Rattle.opening.specs.Opens.{refused-answers}
-use Rattle.opening.specs.Laws.Law.{opens-answers}
+use Rattle.opening.specs.Laws.Opened.{opens-answers}
 use mathlib.Core.Path.{_≡_}
 use borrow.Author.Needs.{needs}
 use Rattle.opening.proofs.open.Statement.{statement}

@@ -1,6 +1,6 @@
 -- By the module's answer, in the way that the test on the fields takes; where nothing was written, nothing changes.
 use native.Mathlib.Omega.{arith}
-use Rattle.sending.specs.Laws.Law.{main-none, main-tossed, main-plain}
+use Rattle.sending.specs.Laws.Answering.{main-none, main-tossed, main-plain}
 use borrow.Author.Needs.{needs}
 use Rattle.sending.proofs.code_main.Statement.{statement}
 use Rattle.sending.proofs.code_main.Tie as tie

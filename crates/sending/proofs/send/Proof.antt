@@ -2,7 +2,7 @@
 use mathlib.Core.Path.{_≡_}
 use native.Mathlib.Omega.{arith}
 use lib.ListN.{length}
-use Rattle.sending.specs.Laws.Law.{count-fits, main-fits, sent-all}
+use Rattle.sending.specs.Laws.Answering.{count-fits, main-fits, sent-all}
 use borrow.Author.Needs.{needs}
 use Rattle.sending.proofs.send.Statement.{statement}
 use Rattle.sending.proofs.send.Tie as tie

@@ -2,7 +2,7 @@
 use mathlib.Core.Path.{_≡_}
 use native.Mathlib.Omega.{arith}
 use lib.ListN.{length}
-use Rattle.sending.specs.Laws.Law.{copy-fits, copy-main-fits, copied-all}
+use Rattle.sending.specs.Laws.Answering.{copy-fits, copy-main-fits, copied-all}
 use borrow.Author.Needs.{needs}
 use Rattle.sending.proofs.send_copy.Statement.{statement}
 use Rattle.sending.proofs.send_copy.Tie as tie

@@ -34,8 +34,8 @@ use Rattle.station.specs.Laws.Keep.{Fitting, same-step, all-take, grown,
 use Rattle.station.specs.Laws.Pieces.{asked-for, those-length, those-all, those-rising, take-rising, some-other, some-all, none-some, some-weaker, leading-is}
 
 -- no proposal of round 1 is R-GET: no valid bundle has one
-abbrev pub Given : List Statement → Type 0
-Given h = All (λ s. s .round ≡ 1 → s .kind ≡ kind-P → s .flag ≡ D-GET) h
+abbrev pub EarlyDGet : List Statement → Type 0
+EarlyDGet h = All (λ s. s .round ≡ 1 → s .kind ≡ kind-P → s .flag ≡ D-GET) h
 
 module _ (form : Form) where
   -- q statements of the step, and the groups kept with them
@@ -50,10 +50,10 @@ module _ (form : Form) where
     pub for-none : Kept form n (k .question) (kept-for-none n (k .stage) (k .held)) (k .for-none)
 
   -- a sane state with one bundle more, where that makes q
-  pub full-grown : (n number : ℕ) (t : State) (m : Statement) (c : List Statement) → Sane form n number t → Fitting form n (t .question) (t .stage) m c → held-of (m .station) (t .held) ≡ false
+  pub full-grown : (n site : ℕ) (t : State) (m : Statement) (c : List Statement) → Sane form n site t → Fitting form n (t .question) (t .stage) m c → held-of (m .station) (t .held) ≡ false
       → conflict (t .stage) (m ∷ t .held) ≡ false → length (keeping n t m c .held) ≡ quorum n → Full n (keeping n t m c)
-  full-grown n number t m c S F new calm size =
-      let G = grown form n number t m c S F new in
+  full-grown n site t m c S F new calm size =
+      let G = grown form n site t m c S F new in
       record {
         rising = G .rising;
         proper = G .proper;
@@ -61,8 +61,8 @@ module _ (form : Form) where
         size = size;
         calm = conflict-insert (t .stage) m (t .held) ∙ calm;
         rounds = S .rounds;
-        for-value = kept-for-value-on form n number t m c S F new;
-        for-none = kept-for-none-on form n number t m c S F new;
+        for-value = kept-for-value-on form n site t m c S F new;
+        for-none = kept-for-none-on form n site t m c S F new;
       }
 
   -- what is known of each held statement
@@ -76,7 +76,7 @@ module _ (form : Form) where
       all-map (λ s p. let f = formed-out form n s (p .0 .formed) in let e = same-step form s (k .stage) (f .shape) (F .rounds) (p .1 .1) in record { kind = e .0; round = e .1; formed = f }) (k .held)
       (all-two (Proper form n) (λ s. (s .question ≡ k .question) × (step s ≡ stage-step (k .stage))) (k .held) (F .proper) (F .alike))
 
-  pub record Ready (n : ℕ) (question : ℕ) (x : Next) : Type 0 where
+  pub record Sendable (n : ℕ) (question : ℕ) (x : Next) : Type 0 where
     pub shape : (s : Statement) → s .kind ≡ x .kind → s .value ≡ x .value → s .flag ≡ x .flag → s .round ≡ x .round → Shape form s
     pub kind : x .kind ≡ kind-in (x .stage)
     pub round : x .round ≡ round-in (x .stage)
@@ -126,7 +126,7 @@ module _ (form : Form) where
                 (those-all (Known n (k .stage)) (has-value proposed) h (known n k F)));
           }
 
-      pub inits-ready : Ready n (k .question) (after-inits n h)
+      pub inits-ready : Sendable n (k .question) (after-inits n h)
       unfolding d-get-group pick
       inits-ready =
           record {
@@ -297,7 +297,7 @@ module _ (form : Form) where
       vote-holds : vote-value h < none → Holds (proposals n r (Only (vote-value h)) Any) h
       vote-holds = vote-cases (λ v. v < none → Holds (proposals n r (Only v) Any) h) (λ a l. equal-hold 0 a) (λ a l. equal-hold 1 a) (λ a b l. absurd (omega arith))
 
-      pub votes-ready : Ready n (k .question) (after-proposals r k)
+      pub votes-ready : Sendable n (k .question) (after-proposals r k)
       votes-ready =
           record {
             shape = λ s a b c d. vote a (omega (arith, in-round .0)) (omega (arith, in-round .1)) (omega (arith, vote-low)) c;
@@ -348,7 +348,7 @@ module _ (form : Form) where
       any-hold =
           record { size = F .size; rising = F .rising; each = all-map (λ s p. asked-for (quorum n) kind-P r Any Any s (p .kind) (p .round) refl refl) h p-facts }
 
-      early-hold : Given h → r ≡ 1 → Holds (proposals n 1 Any (Only D-GET)) h
+      early-hold : EarlyDGet h → r ≡ 1 → Holds (proposals n 1 Any (Only D-GET)) h
       early-hold early x =
           record {
             size = F .size;
@@ -357,7 +357,7 @@ module _ (form : Form) where
                 (all-two P-facts (λ s. s .round ≡ 1 → s .kind ≡ kind-P → s .flag ≡ D-GET) h p-facts early);
           }
 
-      six-seven : Given h → (s : Statement) → s .kind ≡ kind-V → s .round ≡ r → some-value 0 h ≡ true → some-value 1 h ≡ true → s .value ≡ none
+      six-seven : EarlyDGet h → (s : Statement) → s .kind ≡ kind-V → s .round ≡ r → some-value 0 h ≡ true → some-value 1 h ≡ true → s .value ≡ none
           → Backed n s (h ++ second-of none)
       six-seven early s a d x y w = go (ltb 1 r) refl
         where
@@ -370,7 +370,7 @@ module _ (form : Form) where
               let e' : h ≡ h ++ second-of none = sym (append-nil h) ∙ ap (λ (l : List Statement). h ++ l) (sym (second-nil none (first-asks one))) in
               subst (λ (l : List Statement). Backed n s l) e' (rule-6 a w (d ∙ one) (early-hold early one) (x, y))
 
-      pub votes-backed : Given h → (s : Statement) → s .kind ≡ kind-V → s .value ≡ vote-value h → s .round ≡ r → Backed n s (h ++ second-of (vote-value h))
+      pub votes-backed : EarlyDGet h → (s : Statement) → s .kind ≡ kind-V → s .value ≡ vote-value h → s .round ≡ r → Backed n s (h ++ second-of (vote-value h))
       votes-backed early s a b d =
           vote-cases (λ v. s .value ≡ v → Backed n s (h ++ second-of v)) (five s a d 0 (omega arith)) (five s a d 1 (omega arith)) (six-seven early s a d) b
 
@@ -463,7 +463,7 @@ module _ (form : Form) where
 
       abbrev P-ready : ℕ → ℕ → Type 0
       P-ready coin v =
-          Ready n (k .question)
+          Sendable n (k .question)
           (pick (ltb v none)
           (record { kind = kind-P; value = v; flag = D-GET; round = r + 1; first = k .for-value; second = []; stage = Proposing (record { 0 = r + 1 }) D-GET })
           (record { kind = kind-P; value = coin; flag = R-GET; round = r + 1; first = h; second = []; stage = Proposing (record { 0 = r + 1 }) R-GET }))
@@ -509,7 +509,7 @@ module _ (form : Form) where
           not-given s b (inl z) = omega (arith, eqb-true (r + 1) 1 z, from-1)
           not-given s b (inr z) = omega (arith, eqb-true (s .flag) D-GET z)
 
-      pub proposals-ready : (coin : ℕ) → coin < 2 → Ready n (k .question) (after-votes r k coin)
+      pub proposals-ready : (coin : ℕ) → coin < 2 → Sendable n (k .question) (after-votes r k coin)
       proposals-ready coin low =
           carried-cases (P-ready coin) (carried-ready coin 0 1 (omega arith) (omega arith) (λ z. omega arith)) (carried-ready coin 1 0 (omega arith) (omega arith) (λ z. omega arith))
           (tossed-ready coin low)

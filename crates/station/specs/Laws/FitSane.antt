@@ -159,7 +159,7 @@ module _ (form : Form) where
       go true = omega arith
 
   -- ---- the whole
-  module _ (n number : ℕ) (t : Station) (top : n ≤ most-stations form) (lo : 1 ≤ number) (hi : number ≤ n) (L : Lengths form t) where
+  module _ (n site : ℕ) (t : Station) (top : n ≤ most-stations form) (lo : 1 ≤ site) (hi : site ≤ n) (L : Lengths form t) where
     flag-out : (g : Stage) (w : ℕ) → stage-fits form g w ≡ true → InRounds form g × ((s : Statement) → s .flag ≡ flag-of w → FlagOf g s)
     flag-out Gathering w h = (tt, λ s e. tt)
     flag-out (Proposing r f) w h =
@@ -168,28 +168,28 @@ module _ (form : Form) where
         ((leb-true _ _ (b .0), leb-true _ _ (b .1)), λ s e. eqb-true f (flag-of w) (a .1) ∙ sym e)
     flag-out (Voting r) w h = let b = both (leb 1 (r .0)) _ h in ((leb-true _ _ (b .0), leb-true _ _ (b .1)), λ s e. tt)
 
-    pub fits-sane : fits form n number t ≡ true → t .closed ≡ false → Sane form n number (state-of form t)
+    pub fits-sane : fits form n site t ≡ true → t .closed ≡ false → Sane form n site (state-of form t)
     unfolding fits state-of
     fits-sane h shut =
-        let a = both (eqb (t .identity .n) n && eqb (t .identity .station) number) _ h in
+        let a = both (eqb (t .identity .n) n && eqb (t .identity .station) site) _ h in
         let same : t .identity .n ≡ n = eqb-true _ _ (both (eqb (t .identity .n) n) _ (a .0) .0) in
-        let b = both (held-fits form n number t) (rest-fits form n number t) (rw shut at (a .1)) in
-        let c = both (ltb (t .held .heard) (2 ^ sites form) && ltb (ones (t .held .heard)) (quorum n) && bit (t .held .heard) (number - 1)) _ (b .0) in
+        let b = both (held-fits form n site t) (rest-fits form n site t) (rw shut at (a .1)) in
+        let c = both (ltb (t .held .heard) (2 ^ sites form) && ltb (ones (t .held .heard)) (quorum n) && bit (t .held .heard) (site - 1)) _ (b .0) in
         let d = both (ltb (t .held .heard) (2 ^ sites form) && ltb (ones (t .held .heard)) (quorum n)) _ (c .0) in
         let e = both (ltb (t .held .heard) (2 ^ sites form)) _ (d .0) in
-        let u = both (stage-fits form (t .stage) (getD (t .held .slots) ((number - 1) * statement-words form) 0) && leb (t .lasting .decision) none
+        let u = both (stage-fits form (t .stage) (getD (t .held .slots) ((site - 1) * statement-words form) 0) && leb (t .lasting .decision) none
         && group-fits form n (t .identity .question) (kept-for-value n (t .stage) (held-by form t)) (t .groups .value)) _ (b .1) in
-        let v = both (stage-fits form (t .stage) (getD (t .held .slots) ((number - 1) * statement-words form) 0) && leb (t .lasting .decision) none) _ (u .0) in
-        let w = both (stage-fits form (t .stage) (getD (t .held .slots) ((number - 1) * statement-words form) 0)) _ (v .0) in
+        let v = both (stage-fits form (t .stage) (getD (t .held .slots) ((site - 1) * statement-words form) 0) && leb (t .lasting .decision) none) _ (u .0) in
+        let w = both (stage-fits form (t .stage) (getD (t .held .slots) ((site - 1) * statement-words form) 0)) _ (v .0) in
         let room : (0 + sites form) * statement-words form ≤ length (t .held .slots) = omega (arith, L .slots) in
         let R = read-slots n (t .identity .question) (stage-step (t .stage)) (t .held .heard) (t .held .slots) (sites form) 0 room (c .1) in
-        let F = flag-out (t .stage) (getD (t .held .slots) ((number - 1) * statement-words form) 0) (w .0) in
+        let F = flag-out (t .stage) (getD (t .held .slots) ((site - 1) * statement-words form) 0) (w .0) in
         let count : length (held-by form t) ≡ ones (t .held .heard)
         = held-count (t .held .heard) (t .held .slots) (sites form) 0 (rw zero-add (ltb-true _ _ (e .0))) ∙ ap ones (div-one (t .held .heard)) in
         let few : length (held-by form t) < quorum n = omega (arith, ltb-true (ones (t .held .heard)) (quorum n) (e .1)) in
-        let mine : held-of number (held-by form t) ≡ true
+        let mine : held-of site (held-by form t) ≡ true
         = ap (λ (k : ℕ). held-of k (held-by form t)) (omega arith)
-        ∙ bit-held n (t .identity .question) (stage-step (t .stage)) (t .held .heard) (t .held .slots) (sites form) 0 (number - 1) room (c .1) (omega arith) (omega arith) (d .1) in
+        ∙ bit-held n (t .identity .question) (stage-step (t .stage)) (t .held .heard) (t .held .slots) (sites form) 0 (site - 1) room (c .1) (omega arith) (omega arith) (d .1) in
         let one : Kept form n (t .identity .question) (kept-for-value n (t .stage) (held-by form t)) (statements form (t .groups .value) 0 (kept-for-value n (t .stage) (held-by form t) .size))
         = kept-out n (t .identity .question) (kept-for-value n (t .stage) (held-by form t)) (t .groups .value) (L .for-value) (for-value-size n (t .stage) (held-by form t) top) (v .1) in
         let two : Kept form n (t .identity .question) (kept-for-none n (t .stage) (held-by form t)) (statements form (t .groups .none) 0 (kept-for-none n (t .stage) (held-by form t) .size))
@@ -208,5 +208,5 @@ module _ (form : Form) where
           for-none = rw same two;
         }
       where
-        own : (s : Statement) → s ≡ statement form (t .held .slots) ((s .station - 1) * statement-words form) → s .station ≡ number → s .flag ≡ flag-of (getD (t .held .slots) ((number - 1) * statement-words form) 0)
+        own : (s : Statement) → s ≡ statement form (t .held .slots) ((s .station - 1) * statement-words form) → s .station ≡ site → s .flag ≡ flag-of (getD (t .held .slots) ((site - 1) * statement-words form) 0)
         own s p e = ap (λ (x : Statement). x .flag) p ∙ ap (λ (k : ℕ). flag-of (getD (t .held .slots) ((k - 1) * statement-words form) 0)) e

@@ -35,7 +35,7 @@ use Rattle.format.specs.Laws.ReadBack.{Proper}
 use Rattle.station.specs.Laws.Sane.{Kept, InRounds, FlagOf, Sane, sane-fits}
 use Rattle.station.specs.Laws.FitSane.{fits-sane}
 use Rattle.station.specs.Laws.Keep.{Fitting, keep-sane, all-take, taken-for-value, taken-for-none, stage-of-rounds, stage-of-flag}
-use Rattle.station.specs.Laws.End.{Full, Given, Ready, inits-ready, inits-backed, votes-ready, votes-backed, proposals-ready, proposals-backed}
+use Rattle.station.specs.Laws.End.{Full, EarlyDGet, Sendable, inits-ready, inits-backed, votes-ready, votes-backed, proposals-ready, proposals-backed}
 use Rattle.station.specs.Laws.Views.{InRange, Accepted, Jumping, jump-statement, after, lasting-then, sent-statement, Gives, refuses, holds-on, shuts, goes-on, enters, gives-view, sane-before, full-after, init-statement, Opens, no-opening, begins, opens-view}
 use Rattle.station.specs.Returns.{unrefused}
 use Rattle.station.specs.declared.Lasting.{Lasting}
@@ -62,7 +62,7 @@ decision-low (Voting r) old h e = go (ltb old none)
 
 module _ (form : Form) where
   -- ---- a station that has just sent
-  module _ (n number question : ℕ) (l : Lasting) (g : Stage) (s : Statement) (c : List Statement) (big : least-stations ≤ n) (p : Proper form n s) (mine : s .station ≡ number)
+  module _ (n site question : ℕ) (l : Lasting) (g : Stage) (s : Statement) (c : List Statement) (big : least-stations ≤ n) (p : Proper form n s) (mine : s .station ≡ site)
       (low : 1 ≤ s .station) (asked : s .question ≡ question) (steps : step s ≡ stage-step g) (r : InRounds form g) (f : FlagOf g s) (e : l .decision ≤ none)
       (cp : All (Proper form n) c) (ca : All (λ s. s .question ≡ question) c)
       (one : supplies-for-value g s ≡ true → Holds (value-group n g (s .value)) (take (quorum n) c))
@@ -89,7 +89,7 @@ module _ (form : Form) where
         go true x = kept-front (none-votes n (round-in g - 1)) (two x)
         go false x = nothing
 
-    pub began-sane : Sane form n number (began n question l g s c)
+    pub began-sane : Sane form n site (began n question l g s c)
     unfolding some
     began-sane =
         record {
@@ -98,7 +98,7 @@ module _ (form : Form) where
           proper = (p, tt);
           alike = ((asked, steps), tt);
           few = omega arith;
-          mine = left (eqb (s .station) number) false (eq-eqb _ _ mine);
+          mine = left (eqb (s .station) site) false (eq-eqb _ _ mine);
           rounds = r;
           flag = ((λ z. f), tt);
           decision = e;
@@ -106,9 +106,9 @@ module _ (form : Form) where
           for-none = for-none-kept;
         }
 
-  decision-before : (n number : ℕ) (t : Station) → Sane form n number (state-of form t) → t .lasting .decision ≤ none
+  decision-before : (n site : ℕ) (t : Station) → Sane form n site (state-of form t) → t .lasting .decision ≤ none
   unfolding state-of
-  decision-before n number t S = S .decision
+  decision-before n site t S = S .decision
 
   -- a round that is not the last is below it
   below-last : (r : ℕ) → r ≤ last-round form → eqb r (last-round form) ≡ false → r < last-round form
@@ -116,13 +116,13 @@ module _ (form : Form) where
 
   -- ---- what follows is ready, and backed
   module _ (n : ℕ) (k : State) (F : Full form n k) (coin : ℕ) (bit : coin < 2) where
-    pub ready : (g : Stage) → k .stage ≡ g → closes (last-round form) g ≡ false → Ready form n (k .question) (follows n g k coin)
+    pub ready : (g : Stage) → k .stage ≡ g → closes (last-round form) g ≡ false → Sendable form n (k .question) (follows n g k coin)
     unfolding follows
     ready Gathering e c = inits-ready form n k F e
     ready (Proposing r f) e c = votes-ready form n k F (r .0) f e
     ready (Voting r) e c = proposals-ready form n k F (r .0) e (below-last (r .0) (subst (InRounds form) e (F .rounds) .1) c) coin bit
 
-    pub backed : Given (k .held) → (g : Stage) → k .stage ≡ g → closes (last-round form) g ≡ false → (s : Statement)
+    pub backed : EarlyDGet (k .held) → (g : Stage) → k .stage ≡ g → closes (last-round form) g ≡ false → (s : Statement)
         → s .kind ≡ follows n g k coin .kind → s .value ≡ follows n g k coin .value → s .flag ≡ follows n g k coin .flag → s .round ≡ follows n g k coin .round
         → Backed n s (follows n g k coin .first ++ follows n g k coin .second)
     unfolding follows pick
@@ -170,9 +170,9 @@ module _ (form : Form) where
       unfolding state-of
       question-same = refl
 
-      pub next-ready : length (k .held) ≡ quorum (m .n) → closes (last-round form) (t .stage) ≡ false → Ready form (m .n) (t .identity .question) (follows (m .n) (t .stage) k coin)
+      pub next-ready : length (k .held) ≡ quorum (m .n) → closes (last-round form) (t .stage) ≡ false → Sendable form (m .n) (t .identity .question) (follows (m .n) (t .stage) k coin)
       next-ready size c =
-          subst (λ (q : ℕ). Ready form (m .n) q (follows (m .n) (t .stage) k coin)) question-same
+          subst (λ (q : ℕ). Sendable form (m .n) q (follows (m .n) (t .stage) k coin)) question-same
           (ready (m .n) k (full-after form mac m t ws coin out L A size) coin (A .cleared .coin-bit) (t .stage) stage-same c)
 
       pub sent-proper : length (k .held) ≡ quorum (m .n) → closes (last-round form) (t .stage) ≡ false → Proper form (m .n) (sent-statement form mac m t ws coin out)
@@ -263,9 +263,9 @@ module _ (form : Form) where
           (taken-for-none form (m .n) (state-of form t .question) (stage-of (main-of form ws)) u (certificate-of form ws) jump-fitting jump-rounds)
 
     -- each station that is returned is one of these four
-    shut-fits : (n number : ℕ) (t : State) → t .closed ≡ true → fits form n number (W.as-station form n number t) ≡ true
+    shut-fits : (n site : ℕ) (t : State) → t .closed ≡ true → fits form n site (W.as-station form n site t) ≡ true
     unfolding fits W.as-station
-    shut-fits n number t e = join (eqb n n && eqb number number) _ (join (eqb n n) _ (eq-eqb n n refl) (eq-eqb number number refl)) (rw e)
+    shut-fits n site t e = join (eqb n n && eqb site site) _ (join (eqb n n) _ (eq-eqb n n refl) (eq-eqb site site refl)) (rw e)
 
     pub giving-fits : (m : Module) (t : Station) (ws : List ℕ) (coin : ℕ) (out : List ℕ) → Lengths form t
         → unrefused (giving form mac m t ws coin out .number) ≡ true → fits form (m .n) (m .station) (giving form mac m t ws coin out .station) ≡ true

@@ -175,7 +175,7 @@ module _ (form : Form) where
             rw (some-insert p m h, e, f, leading-old p m 0 h r f) (rw z at K)
         go false e b f = rw (some-insert p m h, e, leading-other p m h e) K
 
-  module _ (n number : ℕ) (t : State) (m : Statement) (c : List Statement) (S : Sane form n number t) (F : Fitting n (t .question) (t .stage) m c)
+  module _ (n site : ℕ) (t : State) (m : Statement) (c : List Statement) (S : Sane form n site t) (F : Fitting n (t .question) (t .stage) m c)
       (new : held-of (m .station) (t .held) ≡ false) where
     supplied : (g : Group) → Holds g (take (quorum n) c) → Kept form n (t .question) g (take (quorum n) c)
     supplied g h = record { as-asked = h; proper = all-take (Proper form n) (quorum n) c (F .certificate); alike = all-take (λ s. s .question ≡ t .question) (quorum n) c (F .alike) }
@@ -197,8 +197,8 @@ module _ (form : Form) where
       pub rising : Rising 0 (insert m (t .held))
       pub proper : All (Proper form n) (insert m (t .held))
       pub alike : All (λ s. (s .question ≡ t .question) × (step s ≡ stage-step (t .stage))) (insert m (t .held))
-      pub mine : held-of number (insert m (t .held)) ≡ true
-      pub flag : All (λ s. s .station ≡ number → FlagOf (t .stage) s) (insert m (t .held))
+      pub mine : held-of site (insert m (t .held)) ≡ true
+      pub flag : All (λ s. s .station ≡ site → FlagOf (t .stage) s) (insert m (t .held))
 
     pub grown : Grown
     grown =
@@ -207,18 +207,18 @@ module _ (form : Form) where
           rising = insert-rising m 0 (t .held) (f .low) new (S .rising);
           proper = insert-all (Proper form n) m (t .held) (F .proper) (S .proper);
           alike = insert-all (λ s. (s .question ≡ t .question) × (step s ≡ stage-step (t .stage))) m (t .held) (F .asked, F .in-step) (S .alike);
-          mine = some-insert (λ s. eqb (s .station) number) m (t .held) ∙ either-way (eqb (m .station) number) (S .mine);
-          flag = insert-all (λ s. s .station ≡ number → FlagOf (t .stage) s) m (t .held) (λ e. absurd (other e)) (S .flag);
+          mine = some-insert (λ s. eqb (s .station) site) m (t .held) ∙ either-way (eqb (m .station) site) (S .mine);
+          flag = insert-all (λ s. s .station ≡ site → FlagOf (t .stage) s) m (t .held) (λ e. absurd (other e)) (S .flag);
         }
       where
-        either-way : (b : Bool) → held-of number (t .held) ≡ true → (b || held-of number (t .held)) ≡ true
+        either-way : (b : Bool) → held-of site (t .held) ≡ true → (b || held-of site (t .held)) ≡ true
         either-way true e = refl
         either-way false e = e
 
-        other : m .station ≡ number → ⊥
-        other e = never (held-of number (t .held)) (ap (λ (k : ℕ). held-of k (t .held)) (sym e) ∙ new) (S .mine)
+        other : m .station ≡ site → ⊥
+        other e = never (held-of site (t .held)) (ap (λ (k : ℕ). held-of k (t .held)) (sym e) ∙ new) (S .mine)
 
-    pub keep-sane : length (insert m (t .held)) < quorum n → Sane form n number (keeping n t m c)
+    pub keep-sane : length (insert m (t .held)) < quorum n → Sane form n site (keeping n t m c)
     keep-sane few =
         record {
           still-open = S .still-open;

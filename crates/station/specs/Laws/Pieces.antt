@@ -93,17 +93,17 @@ none-some p (s ∷ h) e = go (p s) refl e (none-some p h)
     go false x y ih = (x, ih y)
 
 -- one that passes
-pub record Found (P : Statement → Type 0) (p : Statement → Bool) : Type 0 where
+pub record SomeWith (P : Statement → Type 0) (p : Statement → Bool) : Type 0 where
   pub one : Statement
   pub has : P one
   pub passes : p one ≡ true
 
-pub find-some : (P : Statement → Type 0) (p : Statement → Bool) (h : List Statement) → All P h → some p h ≡ true → Found P p
+pub find-some : (P : Statement → Type 0) (p : Statement → Bool) (h : List Statement) → All P h → some p h ≡ true → SomeWith P p
 unfolding some
 find-some P p [] a e = never false refl e
 find-some P p (s ∷ h) a e = go (p s) refl e (find-some P p h (a .1))
   where
-    go : (b : Bool) → p s ≡ b → (b || some p h) ≡ true → (some p h ≡ true → Found P p) → Found P p
+    go : (b : Bool) → p s ≡ b → (b || some p h) ≡ true → (some p h ≡ true → SomeWith P p) → SomeWith P p
     go true x y ih = record { one = s; has = a .0; passes = x }
     go false x y ih = ih y
 

@@ -95,15 +95,15 @@ module _ (form : Form) where
   InRounds (Proposing r f) = (1 ≤ r .0) × (r .0 ≤ last-round form)
   InRounds (Voting r) = (1 ≤ r .0) × (r .0 ≤ last-round form)
 
-  pub record Sane (n number : ℕ) (t : State) : Type 0 where
+  pub record Sane (n site : ℕ) (t : State) : Type 0 where
     pub still-open : t .closed ≡ false
     pub rising : Rising 0 (t .held)
     pub proper : All (Proper form n) (t .held)
     pub alike : All (λ s. (s .question ≡ t .question) × (step s ≡ stage-step (t .stage))) (t .held)
     pub few : length (t .held) < quorum n
-    pub mine : held-of number (t .held) ≡ true
+    pub mine : held-of site (t .held) ≡ true
     pub rounds : InRounds (t .stage)
-    pub flag : All (λ s. s .station ≡ number → FlagOf (t .stage) s) (t .held)
+    pub flag : All (λ s. s .station ≡ site → FlagOf (t .stage) s) (t .held)
     pub decision : t .lasting .decision ≤ none
     pub for-value : Kept n (t .question) (kept-for-value n (t .stage) (t .held)) (t .for-value)
     pub for-none : Kept n (t .question) (kept-for-none n (t .stage) (t .held)) (t .for-none)
@@ -210,20 +210,20 @@ module _ (form : Form) where
           ∙ zero-list (kept-words form - length c * statement-words form) []
 
   -- ---- the words of a sane state
-  module _ (n number : ℕ) (t : State) (top : n ≤ most-stations form) (lo : 1 ≤ number) (hi : number ≤ n) (S : Sane n number t) where
-    pub held-read : held-by form (W.as-station form n number t) ≡ t .held
+  module _ (n site : ℕ) (t : State) (top : n ≤ most-stations form) (lo : 1 ≤ site) (hi : site ≤ n) (S : Sane n site t) where
+    pub held-read : held-by form (W.as-station form n site t) ≡ t .held
     unfolding W.as-station
     held-read = held-back form n (t .held) top (S .rising) (S .proper)
 
-    stage-ok : stage-fits form (t .stage) (getD (slots-of form (t .held) 1 (sites form)) ((number - 1) * statement-words form) 0) ≡ true
-    stage-ok = go (find P number (t .held) all-P (S .mine))
+    stage-ok : stage-fits form (t .stage) (getD (slots-of form (t .held) 1 (sites form)) ((site - 1) * statement-words form) 0) ≡ true
+    stage-ok = go (find P site (t .held) all-P (S .mine))
       where
         P : Statement → Type 0
-        P s = (s .station ≡ number → FlagOf (t .stage) s) × (Proper form n s × (slot-of form (t .held) (s .station) ≡ written form s))
+        P s = (s .station ≡ site → FlagOf (t .stage) s) × (Proper form n s × (slot-of form (t .held) (s .station) ≡ written form s))
 
         all-P : All P (t .held)
         all-P =
-            all-two (λ s. s .station ≡ number → FlagOf (t .stage) s) (λ s. Proper form n s × (slot-of form (t .held) (s .station) ≡ written form s)) (t .held) (S .flag)
+            all-two (λ s. s .station ≡ site → FlagOf (t .stage) s) (λ s. Proper form n s × (slot-of form (t .held) (s .station) ≡ written form s)) (t .held) (S .flag)
             (all-two (Proper form n) (λ s. slot-of form (t .held) (s .station) ≡ written form s) (t .held) (S .proper) (slot-held form 0 (t .held) (S .rising)))
 
         by : (g : Stage) (w : ℕ) (s : Statement) → flag-of w ≡ s .flag → InRounds g → FlagOf g s → stage-fits form g w ≡ true
@@ -232,43 +232,43 @@ module _ (form : Form) where
             join (leb 1 (r .0) && leb (r .0) (last-round form)) _ (join (leb 1 (r .0)) _ (le-leb _ _ (b .0)) (le-leb _ _ (b .1))) (eq-eqb x (flag-of w) (f ∙ sym e))
         by (Voting r) w s e b f = join (leb 1 (r .0)) _ (le-leb _ _ (b .0)) (le-leb _ _ (b .1))
 
-        at-own : (s : Statement) → s .station ≡ number → P s → stage-fits form (t .stage) (getD (slots-of form (t .held) 1 (sites form)) ((number - 1) * statement-words form) 0) ≡ true
+        at-own : (s : Statement) → s .station ≡ site → P s → stage-fits form (t .stage) (getD (slots-of form (t .held) 1 (sites form)) ((site - 1) * statement-words form) 0) ≡ true
         at-own s e p =
-            let rest : List ℕ = slots-of form (t .held) (suc (suc (number - 1))) (sites form - suc (number - 1)) in
-            let x : suc (number - 1) ≡ s .station = omega arith in
-            let d : drop ((number - 1) * statement-words form) (slots-of form (t .held) 1 (sites form)) ≡ written form s ++ rest
-            = slot-at form n (t .held) (number - 1) (S .proper) (omega arith) ∙ ap (λ (l : List ℕ). l ++ rest) (ap (slot-of form (t .held)) x ∙ p .1 .1) in
-            let w : getD (slots-of form (t .held) 1 (sites form)) ((number - 1) * statement-words form) 0 ≡ word-0 form s
-            = getD-at (slots-of form (t .held) 1 (sites form)) ((number - 1) * statement-words form) (written form s ++ rest) d in
+            let rest : List ℕ = slots-of form (t .held) (suc (suc (site - 1))) (sites form - suc (site - 1)) in
+            let x : suc (site - 1) ≡ s .station = omega arith in
+            let d : drop ((site - 1) * statement-words form) (slots-of form (t .held) 1 (sites form)) ≡ written form s ++ rest
+            = slot-at form n (t .held) (site - 1) (S .proper) (omega arith) ∙ ap (λ (l : List ℕ). l ++ rest) (ap (slot-of form (t .held)) x ∙ p .1 .1) in
+            let w : getD (slots-of form (t .held) 1 (sites form)) ((site - 1) * statement-words form) 0 ≡ word-0 form s
+            = getD-at (slots-of form (t .held) 1 (sites form)) ((site - 1) * statement-words form) (written form s ++ rest) d in
             rw w (by (t .stage) (word-0 form s) s (word-back form n s top (p .1 .0 .formed) .flag) (S .rounds) (p .0 e))
 
-        go : At P number → stage-fits form (t .stage) (getD (slots-of form (t .held) 1 (sites form)) ((number - 1) * statement-words form) 0) ≡ true
+        go : At P site → stage-fits form (t .stage) (getD (slots-of form (t .held) 1 (sites form)) ((site - 1) * statement-words form) 0) ≡ true
         go f = at-own (f .one) (f .of-station) (f .has)
 
-    pub sane-fits : fits form n number (W.as-station form n number t) ≡ true
+    pub sane-fits : fits form n site (W.as-station form n site t) ≡ true
     unfolding fits W.as-station
     sane-fits =
         let h = t .held in
-        let own-bit : bit (set-of h) (number - 1) ≡ true
-        = bit-set h (S .rising) (number - 1) ∙ ap (λ (k : ℕ). held-of k h) (suc-pred number lo) ∙ S .mine in
+        let own-bit : bit (set-of h) (site - 1) ≡ true
+        = bit-set h (S .rising) (site - 1) ∙ ap (λ (k : ℕ). held-of k h) (suc-pred site lo) ∙ S .mine in
         let small : set-of h < 2 ^ sites form = set-low (sites form) h (S .rising) (all-map (λ s p. omega (arith, formed-out form n s (p .formed) .high)) h (S .proper)) in
         let count : ones (set-of h) < quorum n = omega (arith, ones-set h (S .rising), S .few) in
         let slots = slots-ok n (t .question) (stage-step (t .stage)) h top (S .rising) (S .proper) (S .alike) (sites form) 0 (omega arith) in
         let one = group-ok n (t .question) (kept-for-value n (t .stage) h) (t .for-value) top (S .for-value) in
         let two = group-ok n (t .question) (kept-for-none n (t .stage) h) (t .for-none) top (S .for-none) in
-        join (eqb n n && eqb number number) _ (join (eqb n n) _ (eq-eqb n n refl) (eq-eqb number number refl))
+        join (eqb n n && eqb site site) _ (join (eqb n n) _ (eq-eqb n n refl) (eq-eqb site site refl))
         (right (t .closed) _
-        (join (ltb (set-of h) (2 ^ sites form) && ltb (ones (set-of h)) (quorum n) && bit (set-of h) (number - 1)
+        (join (ltb (set-of h) (2 ^ sites form) && ltb (ones (set-of h)) (quorum n) && bit (set-of h) (site - 1)
         && slots-fit form n (t .question) (stage-step (t .stage)) (set-of h) (slots-of form h 1 (sites form)) 0 (sites form)) _
-        (join (ltb (set-of h) (2 ^ sites form) && ltb (ones (set-of h)) (quorum n) && bit (set-of h) (number - 1)) _
+        (join (ltb (set-of h) (2 ^ sites form) && ltb (ones (set-of h)) (quorum n) && bit (set-of h) (site - 1)) _
         (join (ltb (set-of h) (2 ^ sites form) && ltb (ones (set-of h)) (quorum n)) _ (join (ltb (set-of h) (2 ^ sites form)) _ (lt-ltb _ _ small) (lt-ltb _ _ count)) own-bit) slots)
         (rw held-read
-        (join (stage-fits form (t .stage) (getD (slots-of form h 1 (sites form)) ((number - 1) * statement-words form) 0) && leb (t .lasting .decision) none
+        (join (stage-fits form (t .stage) (getD (slots-of form h 1 (sites form)) ((site - 1) * statement-words form) 0) && leb (t .lasting .decision) none
         && group-fits form n (t .question) (kept-for-value n (t .stage) h) (group-words form (t .for-value))) _
-        (join (stage-fits form (t .stage) (getD (slots-of form h 1 (sites form)) ((number - 1) * statement-words form) 0) && leb (t .lasting .decision) none) _
-        (join (stage-fits form (t .stage) (getD (slots-of form h 1 (sites form)) ((number - 1) * statement-words form) 0)) _ stage-ok (le-leb _ _ (S .decision))) one) two))))
+        (join (stage-fits form (t .stage) (getD (slots-of form h 1 (sites form)) ((site - 1) * statement-words form) 0) && leb (t .lasting .decision) none) _
+        (join (stage-fits form (t .stage) (getD (slots-of form h 1 (sites form)) ((site - 1) * statement-words form) 0)) _ stage-ok (le-leb _ _ (S .decision))) one) two))))
 
-    pub state-back : state-of form (W.as-station form n number t) ≡ t
+    pub state-back : state-of form (W.as-station form n site t) ≡ t
     unfolding state-of W.as-station
     state-back =
         let h = held-read in

@@ -18,18 +18,18 @@ use Rattle.station_words.specs.Words.{stage-at, closed-at, decision-at, 
 
 -- ---- the head: eight settings and the set
 abbrev head : ℕ → ℕ → ℕ → Stage → Bool → ℕ → ℕ → List ℕ
-head n number question g c d h = (n ∷ number ∷ question ∷ (stage-words g ++ (truth-word c ∷ d ∷ []))) ++ (h ∷ [])
+head n site question g c d h = (n ∷ site ∷ question ∷ (stage-words g ++ (truth-word c ∷ d ∷ []))) ++ (h ∷ [])
 
-pub head-length : (n number question : ℕ) (g : Stage) (c : Bool) (d h : ℕ) → length (head n number question g c d h) ≡ slots-at
+pub head-length : (n site question : ℕ) (g : Stage) (c : Bool) (d h : ℕ) → length (head n site question g c d h) ≡ slots-at
 unfolding stage-words
-head-length n number question Gathering c d h = refl
-head-length n number question (Proposing r f) c d h = refl
-head-length n number question (Voting r) c d h = refl
+head-length n site question Gathering c d h = refl
+head-length n site question (Proposing r f) c d h = refl
+head-length n site question (Voting r) c d h = refl
 
 -- what stands at each place of it, whatever is behind
-record Heads (n number question : ℕ) (g : Stage) (c : Bool) (d h : ℕ) (ws : List ℕ) : Type 0 where
+record Heads (n site question : ℕ) (g : Stage) (c : Bool) (d h : ℕ) (ws : List ℕ) : Type 0 where
   at-0 : getD ws 0 0 ≡ n
-  at-1 : getD ws 1 0 ≡ number
+  at-1 : getD ws 1 0 ≡ site
   at-2 : getD ws 2 0 ≡ question
   stage : stage-in (getD ws stage-at 0) (getD ws (stage-at + 1) 0) (getD ws (stage-at + 2) 0) ≡ g
   staged : is-stage (getD ws stage-at 0) (getD ws (stage-at + 1) 0) (getD ws (stage-at + 2) 0) ≡ true
@@ -43,14 +43,14 @@ below-2 f e = let l : f < 2 = ltb-true f 2 e in le-leb f 1 (omega arith)
 true-or : (x y : Bool) → x ≡ true → (x || y) ≡ true
 true-or x y e = rw e
 
-heads : (n number question : ℕ) (g : Stage) (c : Bool) (d h : ℕ) (rest : List ℕ) → flag-fits g ≡ true
-    → Heads n number question g c d h (head n number question g c d h ++ rest)
+heads : (n site question : ℕ) (g : Stage) (c : Bool) (d h : ℕ) (rest : List ℕ) → flag-fits g ≡ true
+    → Heads n site question g c d h (head n site question g c d h ++ rest)
 unfolding stage-words stage-in pick flag-fits
-heads n number question Gathering c d h rest fit =
+heads n site question Gathering c d h rest fit =
     record { at-0 = refl; at-1 = refl; at-2 = refl; stage = refl; staged = refl; at-6 = refl; at-7 = refl; at-8 = refl }
-heads n number question (Proposing r f) c d h rest fit =
+heads n site question (Proposing r f) c d h rest fit =
     record { at-0 = refl; at-1 = refl; at-2 = refl; stage = refl; staged = true-or (leb f 1) false (below-2 f fit); at-6 = refl; at-7 = refl; at-8 = refl }
-heads n number question (Voting r) c d h rest fit =
+heads n site question (Voting r) c d h rest fit =
     record { at-0 = refl; at-1 = refl; at-2 = refl; stage = refl; staged = refl; at-6 = refl; at-7 = refl; at-8 = refl }
 
 truth-back : (c : Bool) → eqb (truth-word c) 1 ≡ c

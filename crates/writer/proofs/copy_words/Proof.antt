@@ -4,14 +4,14 @@ use mathlib.Core.Path.{_≡_, refl, _∙_}
 use native.Mathlib.Omega.{arith}
 use lib.ListN.{length, length-set}
 use Rattle.laws.specs.Over.{over}
-use Rattle.writer.specs.Written.{part}
+use Rattle.writer.specs.Written.{segment}
 use Rattle.writer.specs.Laws.Writing.{part-begin, part-turn}
 use borrow.Author.Needs.{needs}
 use Rattle.writer.proofs.copy_words.Statement.{statement}
 use Rattle.writer.proofs.copy_words.Tie as tie
 
 abbrev Inv-loop : tie.InvT-loop
-Inv-loop out₀ ws at n i₀ out i = (i ≤ n) × (length out ≡ length out₀) × (out ≡ over (part i at ws) out₀)
+Inv-loop out₀ ws at n i₀ out i = (i ≤ n) × (length out ≡ length out₀) × (out ≡ over (segment i at ws) out₀)
 
 abbrev μ-loop : tie.MeasureT-loop
 μ-loop out₀ ws at n i₀ out i = n - i

@@ -9,7 +9,7 @@ use mathlib.Core.Logic.{⊎-elim}
 use Rattle.laws.specs.Pick.{via}
 use Rattle.laws.specs.Sets.{bit}
 use Rattle.laws.specs.Over.{over, length-over, put-behind}
-use Rattle.writer.specs.Written.{part, held-words}
+use Rattle.writer.specs.Written.{segment, held-words}
 use Rattle.writer.specs.Laws.Writing.{held-begin, held-in-turn, held-out-turn, held-longer}
 use borrow.Author.Needs.{needs}
 use Rattle.writer.proofs.write_held.Statement.{statement}
@@ -69,12 +69,12 @@ loop-again c =
     ⊎-elim
     (λ w.
     let e : bit (a .set) (v .i) ≡ true = via (c .before .in-set .result) _ true (c .before .in-set .ensures) (w .0 .taken) in
-    let h : held-words (a .set) l 0 (v .i + 1) ≡ held-words (a .set) l 0 (v .i) ++ part 10 (v .i * 10) l = held-in-turn (a .set) l (v .i) e in
+    let h : held-words (a .set) l 0 (v .i + 1) ≡ held-words (a .set) l 0 (v .i) ++ segment 10 (v .i * 10) l = held-in-turn (a .set) l (v .i) e in
     let n : v .at + 10 ≡ length (held-words (a .set) l 0 (v .i + 1)) = held-longer (a .set) l (v .i) (v .at) e (v .inv .2) in
     let room : length (held-words (a .set) l 0 (v .i + 1)) ≤ length (a .out .now) = omega (arith, n) in
     let o : c .if1 .out ≡ over (held-words (a .set) l 0 (v .i + 1)) (a .out .now) =
     w .6
-    ∙ put-behind (held-words (a .set) l 0 (v .i)) (part 10 (v .i * 10) l) (a .out .now) (v .out) (w .3 .last .0) (v .at) (length (v .out) - v .at)
+    ∙ put-behind (held-words (a .set) l 0 (v .i)) (segment 10 (v .i * 10) l) (a .out .now) (v .out) (w .3 .last .0) (v .at) (length (v .out) - v .at)
     (v .inv .4) (sym (v .inv .2)) refl (w .3 .ensures)
     ∙ ap (λ (x : List ℕ). over x (a .out .now)) (sym h) in
     (omega arith, omega arith, w .7 ∙ n, ap length o ∙ length-over (held-words (a .set) l 0 (v .i + 1)) (a .out .now) room, o))

@@ -6,7 +6,7 @@ use native.Mathlib.Omega.{arith}
 use lib.Count.{ones}
 use lib.ListN.{length}
 use Rattle.laws.specs.Over.{over}
-use Rattle.writer.specs.Written.{part, held-words, main-words, words-of}
+use Rattle.writer.specs.Written.{segment, held-words, main-words, words-of}
 use Rattle.writer.specs.Laws.Writing.{parts-done, length-main, held-length}
 use borrow.Author.Needs.{needs}
 use Rattle.writer.proofs.write_parts.Statement.{statement}
@@ -69,7 +69,7 @@ returns c =
     let a = m .before .before .before .args in
     let p = main-words (a .count + a .k) (a .w0) (a .question) in
     let h = held-words (a .set) (a .slots .now) 0 31 in
-    let g = part (a .k * 10) 0 (a .group .now) in
+    let g = segment (a .k * 10) 0 (a .group .now) in
     let n : a .count ≡ ones (a .set) = m .before .before .before .pre .4 in
     let x : length h ≡ ones (a .set) * 10 = held-length (a .set) (a .slots .now) (m .before .before .before .pre .1) in (
       omega arith,

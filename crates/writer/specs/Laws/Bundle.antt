@@ -30,19 +30,19 @@ use Rattle.station.specs.Laws.Slots.{rising-above, below-not-held, bit-set, one
 use Rattle.station.specs.Laws.Pieces.{those-all, those-rising, take-rising}
 use Rattle.station.specs.Laws.Keep.{all-take}
 use Rattle.station.specs.Present.{slot-of, slots-of, group-words, sites}
-use Rattle.writer.specs.Written.{part, held-words, main-words, words-of, writable, lent-after, count-after}
+use Rattle.writer.specs.Written.{segment, held-words, main-words, words-of, writable, lent-after, count-after}
 
--- ---- a part of a list
-part-take : (n at : ℕ) (l : List ℕ) → n ≤ length (drop at l) → part n at l ≡ take n (drop at l)
-unfolding part
+-- ---- a segment of a list
+part-take : (n at : ℕ) (l : List ℕ) → n ≤ length (drop at l) → segment n at l ≡ take n (drop at l)
+unfolding segment
 part-take zero at l h = refl
 part-take (suc n) at l h =
     let w : getD (drop at l) n 0 ≡ getD l (at + n) 0 = getD-drop at l n 0 in
-    let ih : part n at l ≡ take n (drop at l) = part-take n at l (omega arith) in
+    let ih : segment n at l ≡ take n (drop at l) = part-take n at l (omega arith) in
     ap (λ (x : List ℕ). x ++ (getD l (at + n) 0 ∷ [])) ih ∙ ap (λ (x : ℕ). take n (drop at l) ++ (x ∷ [])) (sym w) ∙ sym (take-suc (drop at l) n 0 (omega arith))
 
 -- the words that stand at a place
-pub part-is : (n at : ℕ) (l p rest : List ℕ) → length p ≡ n → drop at l ≡ p ++ rest → part n at l ≡ p
+pub part-is : (n at : ℕ) (l p rest : List ℕ) → length p ≡ n → drop at l ≡ p ++ rest → segment n at l ≡ p
 part-is n at l p rest e d =
     let room : n ≤ length (drop at l) = rw (d, length-append p rest) (omega arith) in
     part-take n at l room ∙ ap (take n) d ∙ take-at p rest n e
@@ -50,7 +50,7 @@ part-is n at l p rest e d =
 -- ---- the held statements
 -- the slot of a statement's station has its words
 abbrev pub InSlot : List ℕ → Statement → Type 0
-InSlot slots s = part statement-words ((s .station - 1) * statement-words) slots ≡ written s
+InSlot slots s = segment statement-words ((s .station - 1) * statement-words) slots ≡ written s
 
 gathered : (h : ℕ) (slots : List ℕ) (k i : ℕ) (c : List Statement) → Rising i c → All (λ s. s .station ≤ i + k) c
     → ((j : ℕ) → i ≤ j → bit h j ≡ held-of (suc j) c) → All (InSlot slots) c → held-words h slots i k ≡ all-written c
@@ -65,12 +65,12 @@ gathered h slots (suc k) i (s ∷ c) r a b w = go (eqb (s .station) (suc i)) ref
         → ((j : ℕ) → suc i ≤ j → bit h j ≡ held-of (suc j) l) → All (InSlot slots) l → held-words h slots (suc i) k ≡ all-written l
 
     go : (d : Bool) → eqb (s .station) (suc i) ≡ d → Rest
-        → pick (bit h i) (part statement-words (i * statement-words) slots ++ held-words h slots (suc i) k) (held-words h slots (suc i) k) ≡ written s ++ all-written c
+        → pick (bit h i) (segment statement-words (i * statement-words) slots ++ held-words h slots (suc i) k) (held-words h slots (suc i) k) ≡ written s ++ all-written c
     go true e ih =
         let x : s .station ≡ suc i = eqb-true _ _ e in
         let y : bit h i ≡ true = b i (omega arith) ∙ rw e in
         let p : (s .station - 1) * 10 ≡ i * 10 = omega arith in
-        let one : part 10 (i * 10) slots ≡ written s = ap (λ (at : ℕ). part 10 at slots) (sym p) ∙ w .0 in
+        let one : segment 10 (i * 10) slots ≡ written s = ap (λ (at : ℕ). segment 10 at slots) (sym p) ∙ w .0 in
         let more : held-words h slots (suc i) k ≡ all-written c
         = ih c (subst (λ (z : ℕ). Rising z c) x (r .1)) (all-map (λ t z. omega arith) c (a .1))
         (λ j z. b j (omega arith) ∙ rw (ne-eqb (s .station) (suc j) (λ q. omega arith))) (w .1) in
@@ -102,7 +102,7 @@ in-slots n h top r a =
         (length-written present-form n s (p .1 .0)) d
 
 -- ---- a kept group
-pub group-written : (n : ℕ) (c : List Statement) (group rest : List ℕ) → All (Proper present-form n) c → group ≡ all-written c ++ rest → part (length c * statement-words) 0 group ≡ all-written c
+pub group-written : (n : ℕ) (c : List Statement) (group rest : List ℕ) → All (Proper present-form n) c → group ≡ all-written c ++ rest → segment (length c * statement-words) 0 group ≡ all-written c
 group-written n c group rest a e = part-is (length c * 10) 0 group (all-written c) rest (length-all present-form n c a) e
 
 all-written-append : (c d : List Statement) → all-written (c ++ d) ≡ all-written c ++ all-written d
@@ -135,7 +135,7 @@ module _ (n : ℕ) (first second : List Statement) (slots group : List ℕ) (C :
   unfolding words-of main-words Rattle.format.specs.Bundle.bundle-of
   words-bundle s e =
       let h : held-words (set-of first) slots 0 sites ≡ all-written first = held-written first slots (C .rising) low (C .slotted) in
-      let g : part (length second * 10) 0 group ≡ all-written second = group-written n second group (C .rest) (C .more-proper) (C .kept) in
+      let g : segment (length second * 10) 0 group ≡ all-written second = group-written n second group (C .rest) (C .more-proper) (C .kept) in
       (λ i. ((3 * 2 ^ 30 + number i) ∷ word-0 s ∷ s .question ∷ sym e i) ++ h i ++ g i)
       ∙ append-assoc ((3 * 2 ^ 30 + length (first ++ second)) ∷ written s) (all-written first) (all-written second)
       ∙ ap (λ (x : List ℕ). (3 * 2 ^ 30 + length (first ++ second)) ∷ (written s ++ x)) (sym (all-written-append first second))

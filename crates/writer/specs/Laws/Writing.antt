@@ -1,4 +1,4 @@
--- Laws of writing: a loop that writes word by word, a part that is lent from the middle on, and the words of the set's slots one by one.
+-- Laws of writing: a loop that writes word by word, a segment that is lent from the middle on, and the words of the set's slots one by one.
 use Prim.Native.Nat.{ℕ, zero, suc, _+_, _*_, _-_, _/_, _%_, _^_, _≤_, _<_}
 use mathlib.Core.Path.{_≡_, refl, sym, ap, _∙_}
 use mathlib.Core.Bool.{Bool, true, false, not, _&&_}
@@ -22,52 +22,52 @@ use Rattle.format.specs.Bundle.{head-mark, mark-bit}
 use Rattle.format.specs.Numbers.{code-words}
 use Rattle.format.specs.Present.{bundle-words, most-statements, output-words, place-of, statement-words}
 use Rattle.station.specs.Present.{sites}
-use Rattle.writer.specs.Written.{part, held-words, main-words, words-of, writable, lent-after, count-after, with-word, copyable, copy-after, copy-count}
+use Rattle.writer.specs.Written.{segment, held-words, main-words, words-of, writable, lent-after, count-after, with-word, copyable, copy-after, copy-count}
 
--- ---- a part of a list
-pub length-part : (n at : ℕ) (l : List ℕ) → length (part n at l) ≡ n
-unfolding part
+-- ---- a segment of a list
+pub length-part : (n at : ℕ) (l : List ℕ) → length (segment n at l) ≡ n
+unfolding segment
 length-part zero at l = refl
-length-part (suc n) at l = length-append (part n at l) _ ∙ add-one (length (part n at l)) ∙ ap suc (length-part n at l)
+length-part (suc n) at l = length-append (segment n at l) _ ∙ add-one (length (segment n at l)) ∙ ap suc (length-part n at l)
 
-pub part-begin : (at : ℕ) (l out : List ℕ) → out ≡ over (part 0 at l) out
-unfolding part
+pub part-begin : (at : ℕ) (l out : List ℕ) → out ≡ over (segment 0 at l) out
+unfolding segment
 part-begin at l out = refl
 
-pub part-turn : (i at : ℕ) (l out : List ℕ) → i < length out → set (over (part i at l) out) i (getD l (at + i) 0) ≡ over (part (i + 1) at l) out
-unfolding part
-part-turn i at l out h = rw (add-one i) (over-snoc (part i at l) (getD l (at + i) 0) out i (length-part i at l) h)
+pub part-turn : (i at : ℕ) (l out : List ℕ) → i < length out → set (over (segment i at l) out) i (getD l (at + i) 0) ≡ over (segment (i + 1) at l) out
+unfolding segment
+part-turn i at l out h = rw (add-one i) (over-snoc (segment i at l) (getD l (at + i) 0) out i (length-part i at l) h)
 
 -- a whole list
-part-front : (l : List ℕ) (k : ℕ) → k ≤ length l → part k 0 l ≡ take k l
-unfolding part
+part-front : (l : List ℕ) (k : ℕ) → k ≤ length l → segment k 0 l ≡ take k l
+unfolding segment
 part-front l zero h = refl
 part-front l (suc k) h = ap (λ (x : List ℕ). x ++ (getD l (0 + k) 0 ∷ [])) (part-front l k (omega arith)) ∙ rw (zero-add k) (sym (take-suc l k 0 (omega arith)))
 
-part-all : (l : List ℕ) → part (length l) 0 l ≡ l
+part-all : (l : List ℕ) → segment (length l) 0 l ≡ l
 part-all l = part-front l (length l) (omega arith) ∙ take-length l
 
 -- ---- the slots of a set
 module _ (h : ℕ) (slots : List ℕ) where
   -- one slot more, at the end
-  held-snoc : (k i : ℕ) → held-words h slots i (suc k) ≡ held-words h slots i k ++ pick (bit h (i + k)) (part statement-words ((i + k) * statement-words) slots) []
+  held-snoc : (k i : ℕ) → held-words h slots i (suc k) ≡ held-words h slots i k ++ pick (bit h (i + k)) (segment statement-words ((i + k) * statement-words) slots) []
   unfolding held-words pick
   held-snoc zero i = rw (add-zero i) (go (bit h i))
     where
-      go : (b : Bool) → pick b (part statement-words (i * statement-words) slots ++ []) [] ≡ [] ++ pick b (part statement-words (i * statement-words) slots) []
+      go : (b : Bool) → pick b (segment statement-words (i * statement-words) slots ++ []) [] ≡ [] ++ pick b (segment statement-words (i * statement-words) slots) []
       go true = append-nil _
       go false = refl
   held-snoc (suc k) i =
       let e : i + suc k ≡ suc i + k = omega arith in
       rw e (go (bit h i) (held-snoc k (suc i)))
     where
-      go : (b : Bool) → held-words h slots (suc i) (suc k) ≡ held-words h slots (suc i) k ++ pick (bit h (suc i + k)) (part statement-words ((suc i + k) * statement-words) slots) []
-          → pick b (part statement-words (i * statement-words) slots ++ held-words h slots (suc i) (suc k)) (held-words h slots (suc i) (suc k))
-          ≡ pick b (part statement-words (i * statement-words) slots ++ held-words h slots (suc i) k) (held-words h slots (suc i) k) ++ pick (bit h (suc i + k)) (part statement-words ((suc i + k) * statement-words) slots) []
-      go true ih = rw ih (sym (append-assoc (part 10 (i * 10) slots) (held-words h slots (suc i) k) _))
+      go : (b : Bool) → held-words h slots (suc i) (suc k) ≡ held-words h slots (suc i) k ++ pick (bit h (suc i + k)) (segment statement-words ((suc i + k) * statement-words) slots) []
+          → pick b (segment statement-words (i * statement-words) slots ++ held-words h slots (suc i) (suc k)) (held-words h slots (suc i) (suc k))
+          ≡ pick b (segment statement-words (i * statement-words) slots ++ held-words h slots (suc i) k) (held-words h slots (suc i) k) ++ pick (bit h (suc i + k)) (segment statement-words ((suc i + k) * statement-words) slots) []
+      go true ih = rw ih (sym (append-assoc (segment 10 (i * 10) slots) (held-words h slots (suc i) k) _))
       go false ih = ih
 
-  pub held-in-turn : (k : ℕ) → bit h k ≡ true → held-words h slots 0 (k + 1) ≡ held-words h slots 0 k ++ part statement-words (k * statement-words) slots
+  pub held-in-turn : (k : ℕ) → bit h k ≡ true → held-words h slots 0 (k + 1) ≡ held-words h slots 0 k ++ segment statement-words (k * statement-words) slots
   held-in-turn k e =
       let z : 0 + k ≡ k = omega arith in
       rw (add-one k) ((rw z at (held-snoc k 0)) ∙ ap (λ (x : List ℕ). held-words h slots 0 k ++ x) (sym (here (bit h k) _ _ e)))
@@ -80,7 +80,7 @@ module _ (h : ℕ) (slots : List ℕ) where
 
   pub held-longer : (k at : ℕ) → bit h k ≡ true → at ≡ length (held-words h slots 0 k) → at + statement-words ≡ length (held-words h slots 0 (k + 1))
   held-longer k at e l =
-      sym (ap length (held-in-turn k e) ∙ length-append (held-words h slots 0 k) (part 10 (k * 10) slots) ∙ omega (arith, length-part 10 (k * 10) slots))
+      sym (ap length (held-in-turn k e) ∙ length-append (held-words h slots 0 k) (segment 10 (k * 10) slots) ∙ omega (arith, length-part 10 (k * 10) slots))
 
   pub held-begin : (out : List ℕ) → (0 ≡ length (held-words h slots 0 0)) × (out ≡ over (held-words h slots 0 0) out)
   unfolding held-words
@@ -93,13 +93,13 @@ digit-more h k =
     let e : h % 2 ^ suc k ≡ (h / 2 ^ k % 2) * 2 ^ k + h % 2 ^ k = rw (one-add k) at m in
     ap ones e ∙ ones-cat k (h / 2 ^ k % 2) (h % 2 ^ k) (mod-lt h (pow-pos k))
 
-slot-ones : (h k : ℕ) (l : List ℕ) (b : Bool) → bit h k ≡ b → length (pick (bit h k) (part statement-words (k * statement-words) l) []) ≡ ones (h / 2 ^ k % 2) * statement-words
+slot-ones : (h k : ℕ) (l : List ℕ) (b : Bool) → bit h k ≡ b → length (pick (bit h k) (segment statement-words (k * statement-words) l) []) ≡ ones (h / 2 ^ k % 2) * statement-words
 slot-ones h k l true e =
     let d : h / 2 ^ k % 2 ≡ 1 = eqb-true (h / 2 ^ k % 2) 1 e in
-    ap length (sym (here (bit h k) (part 10 (k * 10) l) [] e)) ∙ length-part 10 (k * 10) l ∙ rw d (omega (arith, ones-ones 1))
+    ap length (sym (here (bit h k) (segment 10 (k * 10) l) [] e)) ∙ length-part 10 (k * 10) l ∙ rw d (omega (arith, ones-ones 1))
 slot-ones h k l false e =
     let d : h / 2 ^ k % 2 ≡ 0 = omega (arith, eqb-false (h / 2 ^ k % 2) 1 e) in
-    ap length (sym (skip (bit h k) (part 10 (k * 10) l) [] [] e refl)) ∙ rw d (omega (arith, ones-ones 0))
+    ap length (sym (skip (bit h k) (segment 10 (k * 10) l) [] [] e refl)) ∙ rw d (omega (arith, ones-ones 0))
 
 held-ones : (h : ℕ) (l : List ℕ) (k : ℕ) → length (held-words h l 0 k) ≡ ones (h % 2 ^ k) * statement-words
 unfolding held-words
@@ -109,7 +109,7 @@ held-ones h l zero =
 held-ones h l (suc k) =
     let z : 0 + k ≡ k = omega arith in
     ap length (rw z at (held-snoc h l k 0))
-    ∙ length-append (held-words h l 0 k) (pick (bit h k) (part 10 (k * 10) l) [])
+    ∙ length-append (held-words h l 0 k) (pick (bit h k) (segment 10 (k * 10) l) [])
     ∙ omega (arith, held-ones h l k, slot-ones h k l (bit h k) refl, digit-more h k)
 
 pub held-length : (h : ℕ) (l : List ℕ) → h < 2 ^ sites → length (held-words h l 0 sites) ≡ ones h * statement-words
@@ -126,9 +126,9 @@ main-begin count w0 question out h =
 
 pub main-done : (count w0 question : ℕ) (out ys : List ℕ) (k : ℕ) → place-of 1 ≤ length out
     → k ≡ length (set (set (set out 0 (head-mark * 2 ^ mark-bit + count)) 1 w0) 2 question) - 3
-    → ys ≡ over (part code-words 0 (replicate code-words 0)) (take k (drop 3 (set (set (set out 0 (head-mark * 2 ^ mark-bit + count)) 1 w0) 2 question)))
+    → ys ≡ over (segment code-words 0 (replicate code-words 0)) (take k (drop 3 (set (set (set out 0 (head-mark * 2 ^ mark-bit + count)) 1 w0) 2 question)))
     → putMid 3 k (set (set (set out 0 (head-mark * 2 ^ mark-bit + count)) 1 w0) 2 question) ys ≡ over (main-words count w0 question) out
-unfolding main-words part
+unfolding main-words segment
 main-done count w0 question out ys k h kk y =
     put-behind ((3 * 2 ^ 30 + count) ∷ w0 ∷ question ∷ []) (replicate 8 0) out (set (set (set out 0 (3 * 2 ^ 30 + count)) 1 w0) 2 question) ys 3 k
     (main-begin count w0 question out h) refl kk y
@@ -187,7 +187,7 @@ set-front [] r i w h = absurd (omega arith)
 set-front (x ∷ ws) r zero w h = refl
 set-front (x ∷ ws) r (suc i) w h = ap (λ (l : List ℕ). x ∷ l) (set-front ws r i w (omega arith))
 
-pub copied : (w0 : ℕ) (ws out xs : List ℕ) → (leb (place-of 1) (length ws) && leb (length ws) (length out)) ≡ true → xs ≡ over (part (length ws) 0 ws) out
+pub copied : (w0 : ℕ) (ws out xs : List ℕ) → (leb (place-of 1) (length ws) && leb (length ws) (length out)) ≡ true → xs ≡ over (segment (length ws) 0 ws) out
     → (length ws ≡ copy-count (length ws) (length out)) × (set xs 1 w0 ≡ copy-after w0 ws out)
 unfolding copy-count copy-after copyable pick with-word
 copied w0 ws out xs fit e =
