@@ -1,13 +1,6 @@
 pub mod Demand
 pub mod Present
 pub mod Maths
-pub mod Prefix
-pub mod Theorem
-pub mod Forms
 pub mod FirstVotes
-pub mod Computed
-pub mod Toy
-pub mod Example
-pub mod Edges
-pub mod Unbacked
 pub mod Laws
+pub mod Theorems

@@ -12,20 +12,19 @@ use Rattle.hmac.specs.Code.{hmac-code}
 use Rattle.format.specs.Bundle.{count-in, main-of, certificate-of, bundle-fits}
 use Rattle.rules.specs.declared.Which.{Which}
 use Rattle.rules.specs.declared.Which.the-variants.{Any}
-use Rattle.rules.specs.Rules.{which, rule}
+use Rattle.rules.specs.Rules.{which}
+use Rattle.rules.specs.Test.{rule}
 
--- "all of the main statement's question"
 abbrev pub one-question : Statement → List Statement → Bool
-one-question m c = every (λ s. eqb (s .question) (m .question)) c
+one-question m c = every (λ s. eqb (s .question) (m .question)) c  -- "all of the main statement's question"
 
 -- 4: "a question differs from the main statement's", or the main statement's from the one that is asked for, if one is
 abbrev pub question-fits : Which → Statement → List Statement → Bool
 question-fits asked m c = one-question m c && which asked (m .question)
 
 module _ (form : Form) where
-  -- "all codes verified", the main statement's too
   abbrev pub all-verify : (List ℕ → List ℕ) → List Statement → Bool
-  all-verify code c = every (verifies form code) c
+  all-verify code c = every (verifies form code) c  -- "all codes verified", the main statement's too
 
   -- for a code function: what is tested of a bundle, in this order; a station that is given one tests the same
   abbrev pub bundle-tests : (List ℕ → List ℕ) → ℕ → Which → List ℕ → List Test
@@ -43,9 +42,8 @@ module _ (form : Form) where
   unfoldable pub check-by : (List ℕ → List ℕ) → ℕ → Which → List ℕ → ℕ
   check-by code n asked ws = first-failed (check-tests code n asked ws)
 
-  -- the answer under a group's key and n, of bundles of one question or of any
   unfoldable pub judged : List ℕ → ℕ → Which → List ℕ → ℕ
-  judged key n asked ws = check-by (hmac-code key) n asked ws
+  judged key n asked ws = check-by (hmac-code key) n asked ws  -- the answer under a group's key and n, of bundles of one question or of any
 
   unfoldable pub checked : List ℕ → ℕ → List ℕ → ℕ
   checked key n ws = judged key n Any ws

@@ -5,41 +5,32 @@ use mathlib.Core.List.{List, [], _∷_, _++_}
 use lib.ListN.{length, getD}
 use lib.Bits.{bitAnd, bitOr, bitXor}
 
--- 2.2.2: "+": addition modulo 2 ^ 32
 abbrev pub plus : ℕ → ℕ → ℕ
-plus a b = (a + b) % 2 ^ 32
+plus a b = (a + b) % 2 ^ 32  -- 2.2.2: "+": addition modulo 2 ^ 32
 
--- 3.2: ROTR n (x) = (x >> n) ∨ (x << w - n)
 abbrev pub rotr : ℕ → ℕ → ℕ
-rotr n x = bitOr (x / 2 ^ n) (x * 2 ^ (32 - n) % 2 ^ 32)
+rotr n x = bitOr (x / 2 ^ n) (x * 2 ^ (32 - n) % 2 ^ 32)  -- 3.2: ROTR n (x) = (x >> n) ∨ (x << w - n)
 
--- 3.2: SHR n (x) = x >> n
 abbrev pub shr : ℕ → ℕ → ℕ
-shr n x = x / 2 ^ n
+shr n x = x / 2 ^ n  -- 3.2: SHR n (x) = x >> n
 
--- 4.1.2 (4.2): Ch (x, y, z) = (x ∧ y) ⊕ (¬x ∧ z)
 abbrev pub Ch : ℕ → ℕ → ℕ → ℕ
-Ch x y z = bitXor (bitAnd x y) (bitAnd (2 ^ 32 - 1 - x) z)
+Ch x y z = bitXor (bitAnd x y) (bitAnd (2 ^ 32 - 1 - x) z)  -- 4.1.2 (4.2): Ch (x, y, z) = (x ∧ y) ⊕ (¬x ∧ z)
 
--- 4.1.2 (4.3): Maj (x, y, z) = (x ∧ y) ⊕ (x ∧ z) ⊕ (y ∧ z)
 abbrev pub Maj : ℕ → ℕ → ℕ → ℕ
-Maj x y z = bitXor (bitXor (bitAnd x y) (bitAnd x z)) (bitAnd y z)
+Maj x y z = bitXor (bitXor (bitAnd x y) (bitAnd x z)) (bitAnd y z)  -- 4.1.2 (4.3): Maj (x, y, z) = (x ∧ y) ⊕ (x ∧ z) ⊕ (y ∧ z)
 
--- 4.1.2 (4.4): Σ0 (x) = ROTR 2 (x) ⊕ ROTR 13 (x) ⊕ ROTR 22 (x)
 abbrev pub Σ0 : ℕ → ℕ
-Σ0 x = bitXor (bitXor (rotr 2 x) (rotr 13 x)) (rotr 22 x)
+Σ0 x = bitXor (bitXor (rotr 2 x) (rotr 13 x)) (rotr 22 x)  -- 4.1.2 (4.4): Σ0 (x) = ROTR 2 (x) ⊕ ROTR 13 (x) ⊕ ROTR 22 (x)
 
--- 4.1.2 (4.5): Σ1 (x) = ROTR 6 (x) ⊕ ROTR 11 (x) ⊕ ROTR 25 (x)
 abbrev pub Σ1 : ℕ → ℕ
-Σ1 x = bitXor (bitXor (rotr 6 x) (rotr 11 x)) (rotr 25 x)
+Σ1 x = bitXor (bitXor (rotr 6 x) (rotr 11 x)) (rotr 25 x)  -- 4.1.2 (4.5): Σ1 (x) = ROTR 6 (x) ⊕ ROTR 11 (x) ⊕ ROTR 25 (x)
 
--- 4.1.2 (4.6): σ0 (x) = ROTR 7 (x) ⊕ ROTR 18 (x) ⊕ SHR 3 (x)
 abbrev pub σ0 : ℕ → ℕ
-σ0 x = bitXor (bitXor (rotr 7 x) (rotr 18 x)) (shr 3 x)
+σ0 x = bitXor (bitXor (rotr 7 x) (rotr 18 x)) (shr 3 x)  -- 4.1.2 (4.6): σ0 (x) = ROTR 7 (x) ⊕ ROTR 18 (x) ⊕ SHR 3 (x)
 
--- 4.1.2 (4.7): σ1 (x) = ROTR 17 (x) ⊕ ROTR 19 (x) ⊕ SHR 10 (x)
 abbrev pub σ1 : ℕ → ℕ
-σ1 x = bitXor (bitXor (rotr 17 x) (rotr 19 x)) (shr 10 x)
+σ1 x = bitXor (bitXor (rotr 17 x) (rotr 19 x)) (shr 10 x)  -- 4.1.2 (4.7): σ1 (x) = ROTR 17 (x) ⊕ ROTR 19 (x) ⊕ SHR 10 (x)
 
 -- 4.2.2: the sixty-four constants K
 unfoldable pub constants : List ℕ
@@ -64,13 +55,11 @@ unfoldable pub extended : ℕ → List ℕ → List ℕ
 extended zero ws = ws
 extended (suc n) ws = extended n (ws ++ (next ws ∷ []))
 
--- 6.2.2, step 3: T1 = h + Σ1 (e) + Ch (e, f, g) + K t + W t
 unfoldable pub T1 : ℕ → ℕ → ℕ → ℕ → ℕ → ℕ → ℕ
-T1 e f g h k w = plus (plus (plus (plus h (Σ1 e)) (Ch e f g)) k) w
+T1 e f g h k w = plus (plus (plus (plus h (Σ1 e)) (Ch e f g)) k) w  -- 6.2.2, step 3: T1 = h + Σ1 (e) + Ch (e, f, g) + K t + W t
 
--- 6.2.2, step 3: T2 = Σ0 (a) + Maj (a, b, c)
 unfoldable pub T2 : ℕ → ℕ → ℕ → ℕ
-T2 a b c = plus (Σ0 a) (Maj a b c)
+T2 a b c = plus (Σ0 a) (Maj a b c)  -- 6.2.2, step 3: T2 = Σ0 (a) + Maj (a, b, c)
 
 -- 6.2.2, step 3, for each constant and each word of the schedule: h = g, g = f, f = e, e = d + T1, d = c, c = b, b = a, a = T1 + T2
 unfoldable pub rounds : List ℕ → List ℕ → ℕ → ℕ → ℕ → ℕ → ℕ → ℕ → ℕ → ℕ → List ℕ
@@ -90,6 +79,5 @@ summed [] t = []
 summed (x ∷ s) [] = []
 summed (x ∷ s) (y ∷ t) = plus x y ∷ summed s t
 
--- 6.2.2: the state after a block
 unfoldable pub compressed : List ℕ → List ℕ → List ℕ
-compressed s block = summed s (roundsFrom (extended 48 block) s)
+compressed s block = summed s (roundsFrom (extended 48 block) s)  -- 6.2.2: the state after a block

@@ -13,7 +13,8 @@ use Rattle.format.specs.Group.{backing}
 use Rattle.format.specs.Statement.{Statement}
 use Rattle.format.specs.Present.{last-round}
 use Rattle.rules.specs.declared.Which.the-variants.{Any, Only}
-use Rattle.rules.specs.Rules.{some-D-GET, has-second}
+use Rattle.rules.specs.Rules.{some-D-GET}
+use Rattle.rules.specs.Test.{has-second}
 use Rattle.station.specs.declared.Stage.{Stage}
 use Rattle.station.specs.declared.Stage.the-variants.{Gathering, Proposing, Voting}
 use Rattle.station.specs.Machine.{State, Next, next, proposing, voting, round-in, first-value, vote-value, carried, follows, closes}

@@ -12,7 +12,7 @@ ghost use Prim.Native.Nat.{_≤_};
 ghost use Rattle.format.specs.Present.{most-stations, size-fits};
 ghost use Rattle.modules.specs.Present.{module-fits};
 ghost use Rattle.station.specs.Present.{stage-fits, fits};
-ghost use Rattle.fitness.specs.Parts.{words-fit};
+ghost use Rattle.fitness.specs.Laws.Parts.{words-fit};
 
 // Whether the stage's round is in range, and a proposing station's flag that of its own proposal, whose word 0 is w.
 fn stage_fits(stage: Stage, w: u32) -> bool

@@ -7,9 +7,8 @@ use lib.ListN.{getD, length}
 use Rattle.format.specs.Form.{Form, most-statements, head-bits, fields-at, statement-words, bundle-words}
 use Rattle.format.specs.Statement.{Statement, formed, statement, statements, written}
 
--- "a head word (bits 31..30 are 3, bits 29..16 zero, bits 15..0 the count of certificate statements, 0 to 32)"
 abbrev pub head-mark : ℕ
-head-mark = 3
+head-mark = 3  -- "a head word (bits 31..30 are 3, bits 29..16 zero, bits 15..0 the count of certificate statements, 0 to 32)"
 
 abbrev pub mark-bit : ℕ
 mark-bit = 30
@@ -32,9 +31,8 @@ module _ (form : Form) where
   unfoldable pub laid-out : List ℕ → Bool
   laid-out ws = head-fits (getD ws 0 0) && eqb (length ws) (bundle-words form (count-in ws))
 
-  -- "one main statement, then the certificate"
   abbrev pub main-of : List ℕ → Statement
-  main-of ws = statement form ws 1
+  main-of ws = statement form ws 1  -- "one main statement, then the certificate"
 
   abbrev pub certificate-of : List ℕ → List Statement
   certificate-of ws = statements form ws (1 + statement-words form) (count-in ws)
@@ -44,9 +42,8 @@ module _ (form : Form) where
   all-formed n ws at zero = true
   all-formed n ws at (suc k) = formed form n (fields-at form ws at) && all-formed n ws (at + statement-words form) k
 
-  -- the words are a bundle, and its statements are well-formed
   unfoldable pub bundle-fits : ℕ → List ℕ → Bool
-  bundle-fits n ws = laid-out ws && all-formed n ws 1 (suc (count-in ws))
+  bundle-fits n ws = laid-out ws && all-formed n ws 1 (suc (count-in ws))  -- the words are a bundle, and its statements are well-formed
 
   -- ---- writing
   -- statements, one behind the other

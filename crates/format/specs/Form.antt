@@ -16,9 +16,8 @@ pub data Form : Type 0 where
   first-form : Form
   wide-form : Form
 
--- the form that the functions read and write
 abbrev pub present-form : Form
-present-form = first-form
+present-form = first-form  -- the form that the functions read and write
 
 -- ---- what a form decides: document 01's sentence, then Job 10's
 -- "A group has n stations, 2 to 31"; Job 10 says nothing of it
@@ -79,9 +78,8 @@ statement-words form = covered-words form + code-words
 abbrev pub place-of : Form → ℕ → ℕ
 place-of form k = 1 + k * statement-words form
 
--- "It has 1 + 10 × (1 + count) words"
 abbrev pub bundle-words : Form → ℕ → ℕ
-bundle-words form count = 1 + statement-words form * (1 + count)
+bundle-words form count = 1 + statement-words form * (1 + count)  -- "It has 1 + 10 × (1 + count) words"
 
 -- "lent output below 331 words"; "A bundle has at most 364 words …, which replace the limits in 1"
 abbrev pub output-words : Form → ℕ

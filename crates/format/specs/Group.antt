@@ -1,21 +1,17 @@
 -- The group and its thresholds, for any n, with the laws that they are chosen for.
-use mathlib.Core.Path.{_≡_, refl}
-use mathlib.Core.Bool.{Bool, true, false, not}
-use mathlib.Core.List.{List, [], _∷_}
+use mathlib.Core.Path.{_≡_}
+use mathlib.Core.Bool.{Bool, not}
 use Prim.Native.Nat.{ℕ, _+_, _-_, _*_, _/_, _≤_, _<_}
 use native.Mathlib.Omega.{arith}
 use lib.Dec.{eqb}
 use Rattle.laws.specs.Pick.{pick}
-use Rattle.laws.specs.All.{All}
 use Rattle.laws.specs.Count.{count, Shared, meet, count-not}
 
--- "At most (n − 1)/2 rounded down are faulty."
 abbrev pub most-faulty : ℕ → ℕ
-most-faulty n = (n - 1) / 2
+most-faulty n = (n - 1) / 2  -- "At most (n − 1)/2 rounded down are faulty."
 
--- "The quorum q is n/2 rounded down, plus 1."
 abbrev pub quorum : ℕ → ℕ
-quorum n = n / 2 + 1
+quorum n = n / 2 + 1  -- "The quorum q is n/2 rounded down, plus 1."
 
 -- "for value 0 it is n/4 rounded down, plus 1; for value 1 it is (n + 2)/4 rounded down, plus 1", and since Job 1 of document 02: "The two backings
 -- trade places between 0 and 1."
@@ -62,32 +58,3 @@ enough-0 n zeros ones all enough = omega (arith, backing-0 n)
 
 pub enough-1 : (n ones : ℕ) → backing n 1 ≤ ones → quorum n ≤ 2 * ones
 enough-1 n ones enough = omega (arith, backing-1 n)
-
-pick-most : (b : Bool) (x y most : ℕ) → x ≤ most → y ≤ most → pick b x y ≤ most
-unfolding pick
-pick-most true x y most p q = p
-pick-most false x y most p q = q
-
--- no backing is over the quorum
-pub backing-most : (n v : ℕ) → backing n v ≤ quorum n
-unfolding backing
-backing-most n v = pick-most _ _ _ (quorum n) (omega arith) (omega arith)
-
--- ---- the thresholds at three sizes
-pub record Counts : Type 0 where
-  pub n : ℕ
-  pub q : ℕ
-  pub of-0 : ℕ
-  pub of-1 : ℕ
-
-abbrev pub counts : ℕ → ℕ → ℕ → ℕ → Counts
-counts n q a b = record { n = n; q = q; of-0 = a; of-1 = b }
-
--- "n 2: q 2, backings 1 and 2; n 6: q 4, backings 2 and 3; n 31: q 16, backings 8 and 9", and since Job 1: "the backings at n 2, 6 and 31 change sides".
--- The marked table of all examples stands in station
-abbrev pub samples : List Counts
-samples = counts 2 2 2 1 ∷ counts 6 4 3 2 ∷ counts 31 16 9 8 ∷ []
-
-pub samples-hold : All (λ r. (quorum (r .n) ≡ r .q) × (backing (r .n) 0 ≡ r .of-0) × (backing (r .n) 1 ≡ r .of-1)) samples
-unfolding backing pick
-samples-hold = ((refl, refl, refl), ((refl, refl, refl), ((refl, refl, refl), tt)))

@@ -5,3 +5,4 @@ pub mod Covered
 pub mod Parts
 pub mod ReadBack
 pub mod Apart
+pub mod Group

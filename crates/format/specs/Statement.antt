@@ -86,9 +86,8 @@ module _ (form : Form) where
   abbrev pub statement-code : (List ℕ → List ℕ) → Statement → List ℕ
   statement-code code s = code (covered s)
 
-  -- a statement's code verifies: it is the code of its covered words
   unfoldable pub verifies : (List ℕ → List ℕ) → Statement → Bool
-  verifies code s = same-words (s .code) (code (covered s))
+  verifies code s = same-words (s .code) (code (covered s))  -- a statement's code verifies: it is the code of its covered words
 
   -- the words of a statement: the code behind those that it covers
   abbrev pub written : Statement → List ℕ

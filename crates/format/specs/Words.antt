@@ -54,9 +54,8 @@ spare-of w = w / 2 ^ spare-bit % spare-size
 abbrev pub station-of : ℕ → ℕ
 station-of w = w / 2 ^ station-bit % station-size
 
--- bits 15..0, which are the round but in the wide form
 abbrev pub low-of : ℕ → ℕ
-low-of w = w % 2 ^ station-bit
+low-of w = w % 2 ^ station-bit  -- bits 15..0, which are the round but in the wide form
 
 abbrev pub round-of : ℕ → ℕ
 round-of w = low-of w

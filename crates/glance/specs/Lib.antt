@@ -1,3 +1,2 @@
-pub mod Formed
 pub mod Glance
-pub mod Behind
+pub mod Theorems

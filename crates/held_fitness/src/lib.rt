@@ -8,7 +8,7 @@ ghost use Prim.Native.Nat.{_*_, _<_};
 ghost use Rattle.format.specs.Present.{statement-words};
 ghost use Rattle.station.specs.Fit.{zeros};
 ghost use Rattle.station.specs.Present.{sites, slot-fits, slots-fit};
-ghost use Rattle.held_fitness.specs.Parts.{slot-right, held-words-fit};
+ghost use Rattle.held_fitness.specs.Laws.Parts.{slot-right, held-words-fit};
 
 // Whether the ten words of slot i are zero.
 fn slot_empty(slots: &[u32; SLOTS_WORDS], i: u32) -> bool

@@ -13,9 +13,8 @@ use Rattle.hmac.specs.declared.Prepared.{Prepared}
 use Rattle.hmac.specs.declared.Keyed.{Keyed}
 use Rattle.hmac.specs.declared.Code.{Code}
 
--- 2, step 1: "append zeros to the end of K to create a B byte string"
 unfoldable pub zero-filled : List ℕ → List ℕ
-zero-filled k = k ++ replicate (64 - length k) 0
+zero-filled k = k ++ replicate (64 - length k) 0  -- 2, step 1: "append zeros to the end of K to create a B byte string"
 
 -- 2: "Applications that use keys longer than B bytes will first hash the key using H and then use the resultant L byte string"
 unfoldable pub key-block : List ℕ → List ℕ
@@ -32,9 +31,8 @@ ipad = 0x36
 abbrev pub opad : ℕ
 opad = 0x5c
 
--- 2: H(K XOR opad, H(K XOR ipad, text))
 unfoldable pub hmac : List ℕ → List ℕ → List ℕ
-hmac k m = sha256 (masked opad (key-block k) ++ sha256 (masked ipad (key-block k) ++ m))
+hmac k m = sha256 (masked opad (key-block k) ++ sha256 (masked ipad (key-block k) ++ m))  -- 2: H(K XOR opad, H(K XOR ipad, text))
 
 -- the public code function: 0 and the code; 3 and zeros where a hashed input would reach the limit, which are the inner one, of one block and
 -- the message, and a key over 64 bytes

@@ -1,4 +1,4 @@
 pub mod Hmac
-pub mod Prepared
 pub mod Code
 pub mod Laws
+pub mod Theorems

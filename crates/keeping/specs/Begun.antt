@@ -18,7 +18,7 @@ use Rattle.format.specs.Lists.{some, every}
 use Rattle.rules.specs.declared.Group.{Group}
 use Rattle.station.specs.declared.Stage.{Stage}
 use Rattle.station.specs.declared.Station.{Station}
-use Rattle.rules.specs.Rules.{holds, in-order}
+use Rattle.rules.specs.Test.{holds, in-order}
 use Rattle.station.specs.Machine.{State, stage-step, keeping, insert, held-of, began, supplies-for-value, supplies-for-none, kept-for-value, kept-for-none, no-group}
 use Rattle.station.specs.Present as W
 use Rattle.format.specs.Laws.ReadBack.{Proper}

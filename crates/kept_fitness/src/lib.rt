@@ -14,11 +14,11 @@ ghost use lib.Dec.{eqb};
 ghost use Rattle.format.specs.Group.{quorum};
 ghost use Rattle.format.specs.Lists.{every};
 ghost use Rattle.format.specs.Present.{statement-words, size-fits, statements, all-formed};
-ghost use Rattle.rules.specs.Rules.{holds};
+ghost use Rattle.rules.specs.Test.{holds};
 ghost use Rattle.station.specs.Machine.{no-group, value-group, kept-for-value as KeptForValue, kept-for-none as KeptForNone};
 ghost use Rattle.station.specs.Fit.{zeros};
 ghost use Rattle.station.specs.Present.{held-in, sites, kept-words, group-fits};
-ghost use Rattle.kept_fitness.specs.Parts.{groups-fit};
+ghost use Rattle.kept_fitness.specs.Laws.Parts.{groups-fit};
 
 // The group that asks for nothing.
 fn no_group() -> Group

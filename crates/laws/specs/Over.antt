@@ -1,5 +1,4 @@
--- Words written over the front of a list that is lent: what stands there afterwards, word by word, and how a writer gets there, each word or part put behind
--- what is written.
+-- Words written over the front of a list that is lent: what stands there afterwards, and how a writer gets there, each word or part put after those before.
 use Prim.Native.Nat.{ℕ, suc, _+_, _-_, _≤_, _<_}
 use mathlib.Core.List.{List, [], _∷_, _++_, append-assoc, append-nil}
 use mathlib.Core.Path.{_≡_, sym, ap, _∙_}
@@ -44,7 +43,7 @@ over-snoc p w out i e h =
 pub paste-front : (ws out : List ℕ) → paste out 0 ws (length ws) ≡ over ws out
 paste-front ws out = rw (take-length ws, zero-add (length ws))
 
--- words put in behind those that end at `at`
+-- words put in after those that end at `at`
 pub paste-behind : (p ws out : List ℕ) (at : ℕ) → length p ≡ at → paste (over p out) at ws (length ws) ≡ over (p ++ ws) out
 paste-behind p ws out at e =
     let d : drop (at + length ws) (p ++ drop (length p) out) ≡ drop (length p + length ws) out
@@ -53,7 +52,7 @@ paste-behind p ws out at e =
     ∙ drop-drop (length ws) (length p) out in
     rw (take-at p (drop (length p) out) at e, take-length ws, d, length-append p ws)
 
--- a part from `at` on, written and put back, behind words that end at `at`
+-- a part from `at` on, written and put back, after words that end at `at`
 part-behind : (p ws out : List ℕ) (at : ℕ) → length p ≡ at → take at (over p out) ++ over ws (drop at (over p out)) ≡ over (p ++ ws) out
 part-behind p ws out at e =
     rw (take-at p (drop (length p) out) at e, drop-at p (drop (length p) out) at e, drop-drop, length-append)

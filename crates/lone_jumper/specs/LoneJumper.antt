@@ -9,10 +9,10 @@ use Rattle.laws.specs.Count.{count}
 use Rattle.format.specs.Numbers.{kind-P, kind-V, none, D-GET}
 use Rattle.format.specs.Group.{backing}
 use Rattle.agreement.specs.Demand.{opens, codes, Call, call}
-use Rattle.agreement.specs.Computed.{computes, off-out}
-use Rattle.agreement.specs.Toy.{toy, out}
-use Rattle.agreement.specs.Example.{give, bundle, lent, of-3}
-use Rattle.agreement.specs.Unbacked.{unbacked-none, facts, comes-to, Unbacked, unbacked, too-few}
+use Rattle.agreement.specs.Theorems.Computed.{computes, off-out}
+use Rattle.agreement.specs.Theorems.Toy.{toy, out}
+use Rattle.agreement.specs.Theorems.Example.{give, bundle, lent, of-3}
+use Rattle.agreement.specs.Theorems.Unbacked.{unbacked-none, facts, comes-to, Unbacked, unbacked, too-few}
 use Rattle.agreement.specs.Present.{proposed, log, Sound, JumpOff, Decides}
 
 -- ---- the list

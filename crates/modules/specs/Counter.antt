@@ -11,9 +11,8 @@ use Rattle.format.specs.Words.{of-group}
 use Rattle.modules.specs.declared.Last.{Last}
 use Rattle.modules.specs.declared.Module.{Module}
 
--- "the last (question, step) that it coded, or none"
 abbrev pub no-pair : Last
-no-pair = record { coded = false; question = 0; step = record { 0 = 0 } }
+no-pair = record { coded = false; question = 0; step = record { 0 = 0 } }  -- "the last (question, step) that it coded, or none"
 
 abbrev pub pair : ℕ → ℕ → Last
 pair question step = record { coded = true; question = question; step = record { 0 = step } }
@@ -39,9 +38,8 @@ pub record Made : Type 0 where
 abbrev pub fresh : List ℕ → ℕ → ℕ → Module
 fresh key n site = record { key = key; n = n; station = site; last = no-pair }
 
--- a refused making returns the all-zero module, which every call refuses by 1 or 2
 abbrev pub no-module : Module
-no-module = fresh (replicate 32 0) 0 0
+no-module = fresh (replicate 32 0) 0 0  -- a refused making returns the all-zero module, which every call refuses by 1 or 2
 
 module _ (form : Form) where
   -- a module whose n and station number are in range: 2 is returned for any other

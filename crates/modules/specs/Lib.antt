@@ -1,3 +1,3 @@
 pub mod Counter
-pub mod Above
 pub mod Present
+pub mod Theorems

@@ -1,5 +1,3 @@
 pub mod Claim
-pub mod Theorem
-pub mod LastOnly
-pub mod Example
 pub mod Laws
+pub mod Theorems

@@ -6,7 +6,8 @@ use Rattle.laws.specs.Pick.{pick}
 use Rattle.format.specs.Numbers.{kind-P, none, D-GET}
 use Rattle.rules.specs.declared.Which.the-variants.{Any, Only}
 use Rattle.rules.specs.declared.Group.{Group}
-use Rattle.rules.specs.Rules.{proposals, none-votes, d-get-group, first-group}
+use Rattle.rules.specs.Rules.{proposals, none-votes}
+use Rattle.rules.specs.Test.{d-get-group, first-group}
 
 -- `first-group` for a P, and for a V
 unfoldable pub proposal-group : ℕ → ℕ → ℕ → ℕ → Group

@@ -1,4 +1,4 @@
 pub mod Rules
-pub mod Backed
-pub mod Copied
 pub mod Groups
+pub mod Theorems
+pub mod Test

@@ -9,7 +9,8 @@ use format::Round;
 use format::V;
 ghost use mathlib.Core.Path.{_≡_};
 ghost use Prim.Native.Nat.{_-_};
-ghost use Rattle.rules.specs.Rules.{which, wanted, inits as Inits, proposals as Proposals, none-votes, d-get-group, first-group, second-group, has-second, early-toss};
+ghost use Rattle.rules.specs.Rules.{which, wanted, inits as Inits, proposals as Proposals, none-votes};
+ghost use Rattle.rules.specs.Test.{d-get-group, first-group, second-group, has-second, early-toss};
 ghost use Rattle.rules.specs.Groups.{proposal-group, vote-group};
 
 // What a group asks of a value or a flag.

@@ -23,7 +23,8 @@ use Rattle.modules.specs.declared.Module.{Module}
 use Rattle.modules.specs.Counter.{above, last-for, advanced}
 use Rattle.modules.specs.Present.{module-fits}
 use Rattle.sealed.specs.Sealed.{Coded, by-plain, by-coin, with-value, tossed}
-use Rattle.sealed.specs.Answers.{Answered, Tested, word-with, lent-with}
+use Rattle.sealed.specs.Answers.{Answered}
+use Rattle.sealed.specs.Laws.Answers.{Tested, word-with, lent-with}
 use Rattle.sealed.specs.Present.{signed, coding, coding-tests, coding-plain, coding-coin}
 
 -- the same, by its words

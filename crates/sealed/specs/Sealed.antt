@@ -17,9 +17,8 @@ pub record Coded : Type 0 where
   pub after : Module
   pub lent : List ℕ
 
--- "a P flagged R-GET", by kind and flag
 abbrev pub is-R-GET : ℕ → ℕ → Bool
-is-R-GET kind flag = eqb kind kind-P && eqb flag R-GET
+is-R-GET kind flag = eqb kind kind-P && eqb flag R-GET  -- "a P flagged R-GET", by kind and flag
 
 -- what each way is for: "The coin way is only for a P flagged R-GET"; "The plain way takes every other statement and refuses an R-GET"
 abbrev pub by-coin : ℕ → ℕ → Bool
@@ -36,9 +35,8 @@ abbrev pub with-value : ℕ → Statement → Statement
 with-value v s =
     record { kind = s .kind; value = v; flag = s .flag; station = s .station; round = s .round; question = s .question; code = s .code }
 
--- "it puts the coin in as the value"
 abbrev pub tossed : ℕ → Statement → Statement
-tossed coin s = with-value coin s
+tossed coin s = with-value coin s  -- "it puts the coin in as the value"
 
 module _ (form : Form) where
   -- the statement with the code of the words that it covers

@@ -12,7 +12,8 @@ ghost use Rattle.format.specs.Numbers.{out-of-range, malformed, wrong-code, not
 ghost use Rattle.format.specs.Present.{statement-words, statement};
 ghost use Rattle.hmac.specs.Code.{hmac-code};
 ghost use Rattle.sealed.specs.Sealed.{with-value};
-ghost use Rattle.sealed.specs.Answers.{Answered, Tested, lent-with};
+ghost use Rattle.sealed.specs.Answers.{Answered};
+ghost use Rattle.sealed.specs.Laws.Answers.{Tested, lent-with};
 ghost use Rattle.sealed.specs.Present.{coding, coding-plain, coding-coin};
 
 // What coding answers: the returned number and the module after the call. The statement's words are lent.

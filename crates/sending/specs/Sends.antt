@@ -23,7 +23,7 @@ use Rattle.modules.specs.declared.Module.{Module}
 use Rattle.modules.specs.Counter.{above, last-for, advanced}
 use Rattle.modules.specs.Present.{module-fits}
 use Rattle.sealed.specs.Sealed.{is-toss, Coded}
-use Rattle.sealed.specs.Ways.{with-code, coded-as, own-plain, own-coin}
+use Rattle.sealed.specs.Theorems.Ways.{with-code, coded-as, own-plain, own-coin}
 use Rattle.sealed.specs.Present.{coding-plain, coding-coin}
 use Rattle.station.specs.declared.Stage.{Stage}
 use Rattle.station.specs.Machine.{own, began}
@@ -33,7 +33,7 @@ use Rattle.station.specs.Present as W
 use Rattle.format.specs.Laws.ReadBack.{Proper, length-written}
 use Rattle.format.specs.Present.{bundle-words, most-stations, most-statements, output-words, written, statement-code, all-written, bundle-of, place-of, statement-words}
 use Rattle.station.specs.Laws.Bundles.{ws-length}
-use Rattle.station.specs.Seal.{main-words}
+use Rattle.station.specs.Theorems.Seal.{main-words}
 use Rattle.station.specs.declared.Lasting.{Lasting}
 use Rattle.writer.specs.Written.{with-word, copyable, copy-after, copy-count}
 use Rattle.writer.specs.Laws.Bundle.{Certificate, lent-bundle, count-bundle}

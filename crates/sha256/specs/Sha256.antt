@@ -47,13 +47,11 @@ unfoldable pub blocks : ℕ → List ℕ → List ℕ → List ℕ
 blocks zero s m = s
 blocks (suc n) s m = blocks n (compressed s (words (take 64 m))) (drop 64 m)
 
--- 6.2.2: the state after all blocks of a padded message
 unfoldable pub hashed : List ℕ → List ℕ → List ℕ
-hashed s m = blocks (length m / 64) s m
+hashed s m = blocks (length m / 64) s m  -- 6.2.2: the state after all blocks of a padded message
 
--- 6.2: the hash of a message
 unfoldable pub sha256 : List ℕ → List ℕ
-sha256 m = bytes (hashed initial (m ++ padding (length m)))
+sha256 m = bytes (hashed initial (m ++ padding (length m)))  -- 6.2: the hash of a message
 
 -- 1, table 1: a message has fewer than 2 ^ 64 bits. Document 01: "where a hashed input, the code's own 64-byte block included, would reach
 -- 2^61 bytes, 3 is returned"

@@ -30,9 +30,8 @@ pub record Returned : Type 0 where
   pub after : Module
   pub lent : List ℕ
 
--- what is done unless a test fails
 abbrev pub unless : List Test → Outcome → Outcome
-unless l o = pick (eqb (first-failed l) 0) o (refused (first-failed l))
+unless l o = pick (eqb (first-failed l) 0) o (refused (first-failed l))  -- what is done unless a test fails
 
 module _ (form : Form) where
   -- "Where no bundle is written the word count is zero. At a refusal station, module and lent words keep their values."

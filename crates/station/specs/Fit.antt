@@ -16,7 +16,7 @@ use Rattle.format.specs.Statement.{statements, formed}
 use Rattle.format.specs.Lists.{every}
 use Rattle.format.specs.Bundle.{all-formed}
 use Rattle.rules.specs.declared.Group.{Group}
-use Rattle.rules.specs.Rules.{holds}
+use Rattle.rules.specs.Test.{holds}
 use Rattle.station.specs.declared.Stage.{Stage}
 use Rattle.station.specs.declared.Stage.the-variants.{Gathering, Proposing, Voting}
 use Rattle.station.specs.declared.Station.{Station}

@@ -9,3 +9,4 @@ pub mod End
 pub mod Views
 pub mod Fits
 pub mod Bundles
+pub mod Returns

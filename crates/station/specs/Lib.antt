@@ -7,15 +7,6 @@ pub mod Demand
 pub mod Present
 pub mod First
 pub mod Marked
-pub mod Order
-pub mod Coin
-pub mod Jump
-pub mod Decision
-pub mod Written
 pub mod Answers
-pub mod Refused
-pub mod NoStation
-pub mod Seal
-pub mod Theorem
-pub mod AsCalled
 pub mod Laws
+pub mod Theorems

@@ -13,7 +13,8 @@ use Rattle.format.specs.Statement.{Statement, step}
 use Rattle.format.specs.Lists.{some, every, number-of, those, leading}
 use Rattle.rules.specs.declared.Group.{Group}
 use Rattle.rules.specs.declared.Which.the-variants.{Any, Only}
-use Rattle.rules.specs.Rules.{group, proposals, some-D-GET, some-value, none-votes, d-get-group, has-second}
+use Rattle.rules.specs.Rules.{group, proposals, some-D-GET, some-value, none-votes}
+use Rattle.rules.specs.Test.{d-get-group, has-second}
 use Rattle.modules.specs.declared.Last.{Last}
 use Rattle.modules.specs.Counter.{above}
 use Rattle.station.specs.declared.Lasting.{Lasting}
@@ -84,9 +85,8 @@ supplies-for-none (Voting r) s = false
 abbrev pub takes : (Statement → Bool) → List Statement → Statement → Bool
 takes p held m = p m && not (some (λ s. p s && ltb (s .station) (m .station)) held)
 
--- no statement at all
 abbrev pub no-group : Group
-no-group = group 0 0 0 Any Any
+no-group = group 0 0 0 Any Any  -- no statement at all
 
 -- what the kept groups are, by the stage and the statements held: there exactly where one of these supplies it
 abbrev pub value-group : ℕ → Stage → ℕ → Group
@@ -131,17 +131,15 @@ first-value h = pick (leb (length h) (2 * number-of (has-value 1) h)) 1 0
 unfoldable pub vote-value : List Statement → ℕ
 vote-value h = pick (every (has-value 0) h) 0 (pick (every (has-value 1) h) 1 none)
 
--- "V: all q the same 0 or 1 decides it."
 unfoldable pub decided : List Statement → ℕ
-decided h = vote-value h
+decided h = vote-value h  -- "V: all q the same 0 or 1 decides it."
 
 -- "At least one with 0 or 1: P of the next round with it": that value, or none where all are none
 unfoldable pub carried : List Statement → ℕ
 carried h = pick (some-value 0 h) 0 (pick (some-value 1 h) 1 none)
 
--- "The first decision is kept"
 abbrev pub decision-after : ℕ → ℕ → ℕ
-decision-after old new = pick (ltb old none) old new
+decision-after old new = pick (ltb old none) old new  -- "The first decision is kept"
 
 -- the statement that follows a step, but for its station, question and code; its certificate; and the next stage
 pub record Next : Type 0 where
@@ -192,9 +190,8 @@ decision-at Gathering old h = old
 decision-at (Proposing r f) old h = old
 decision-at (Voting r) old h = decision-after old (decided h)
 
--- what outlasts the end of a step
 abbrev pub lasting-at : Stage → Lasting → List Statement → Lasting
-lasting-at g l h = with-decision (decision-at g (l .decision) h) l
+lasting-at g l h = with-decision (decision-at g (l .decision) h) l  -- what outlasts the end of a step
 
 -- ---- what a call does
 pub data Outcome : Type 0 where

@@ -15,7 +15,8 @@ use Rattle.format.specs.Words.{fields-of, word-of, step-of}
 use Rattle.format.specs.Statement.{Statement, step}
 use Rattle.format.specs.Lists.{some, every, number-of, those}
 use Rattle.format.specs.Present.{last-round, written, statement-code}
-use Rattle.rules.specs.Rules.{rule, wanted, in-order, holds, d-get-group, first-group, second-group, has-second, early-toss, rest-holds, spread, groups-hold}
+use Rattle.rules.specs.Rules.{wanted}
+use Rattle.rules.specs.Test.{rule, in-order, holds, d-get-group, first-group, second-group, has-second, early-toss, rest-holds, spread, groups-hold}
 use Rattle.modules.specs.declared.Last.{Last}
 use Rattle.modules.specs.declared.Module.{Module}
 use Rattle.modules.specs.Counter.{no-pair, pair, above}

@@ -88,9 +88,8 @@ module _ (form : Form) where
   slots-of h i zero = []
   slots-of h i (suc k) = slot-of h i ++ slots-of h (suc i) k
 
-  -- a group's words, with zeros behind
   abbrev pub group-words : List Statement → List ℕ
-  group-words c = all-written form c ++ replicate (kept-words - length c * statement-words form) 0
+  group-words c = all-written form c ++ replicate (kept-words - length c * statement-words form) 0  -- a group's words, with zeros behind
 
   unfoldable pub as-station : ℕ → ℕ → State → Station
   as-station n site t =

@@ -1,3 +1,3 @@
 pub mod Words
-pub mod Theorem
 pub mod Laws
+pub mod Theorems

@@ -1,8 +1,8 @@
 // The console program valley (document 01, "The program valley"): it reads standard input in pieces, feeds them to the run, and writes what the run
 // prints. What is printed for an input is the definition `valley` of the crate world, however the input is cut (`every-cutting` of console).
-use valley_console::Run;
 use libc::STDIN_FILENO;
 use libc::STDOUT_FILENO;
+use valley_console::Run;
 use valley_world::Phase;
 ghost use mathlib.Core.Path.{_≡_};
 ghost use Prim.Native.Nat.{_≤_, _<_};

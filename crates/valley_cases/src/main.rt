@@ -1,8 +1,8 @@
 // Feeds the run of valley (the crate console) with the inputs on standard input, each cut into pieces of a given size, and prints what it prints
 // (docs/SCRIPT.md, "Valley"). The inputs and the expected lines come from the second implementation (second/).
-use valley_console::Run;
 use libc::STDIN_FILENO;
 use libc::STDOUT_FILENO;
+use valley_console::Run;
 use valley_world::Phase;
 ghost use Prim.Native.Nat.{_≤_, _<_};
 ghost use lib.ListN.{length};

@@ -1,3 +1,3 @@
 pub mod Walk
 pub mod Laws
-pub mod WalkFinds
+pub mod Theorems

@@ -16,7 +16,8 @@ use Rattle.format.specs.Bundle.{count-in}
 use Rattle.format.specs.Present.{place-of, size-fits, formed, statement, fields-at, verifies, laid-out, main-of}
 use Rattle.rules.specs.declared.Which.{Which}
 use Rattle.rules.specs.declared.Group.{Group}
-use Rattle.rules.specs.Rules.{which, matches, first-group, second-group, has-second, early-toss}
+use Rattle.rules.specs.Rules.{which, matches}
+use Rattle.rules.specs.Test.{first-group, second-group, has-second, early-toss}
 use Rattle.walk.specs.declared.Findings.{Findings}
 
 -- a code is computed only while no fault has been found that is answered before a wrong one

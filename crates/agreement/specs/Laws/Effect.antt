@@ -27,7 +27,8 @@ use Rattle.station.specs.Calls.{returned, opening, giving, opening-outcome, giv
 use Rattle.format.specs.Laws.ReadBack.{Proper}
 use Rattle.format.specs.Laws.Covered.{covered-front, covered-alone}
 use Rattle.station.specs.Laws.Views.{Opens, no-opening, begins, opens-view, Gives, refuses, holds-on, shuts, goes-on, enters, gives-view}
-use Rattle.station.specs.Returns.{unrefused, wrote, wrote-unrefused, sent-wrote}
+use Rattle.station.specs.Returns.{unrefused, wrote}
+use Rattle.station.specs.Laws.Returns.{wrote-unrefused, sent-wrote}
 use Rattle.agreement.specs.Laws.Ground.{Ground}
 use Rattle.agreement.specs.Demand.{Action, opens, gives, codes, tosses, view, Entry, act, bundle-coded, statement-coded, coded-in, as-returned}
 

@@ -21,7 +21,7 @@ use Rattle.station.specs.Words.{state-of}
 use Rattle.station.specs.Laws.Sane.{Sane}
 use Rattle.station.specs.Laws.Views.{Accepted, Jumping, jump-statement, after, lasting-then, sent-statement}
 use Rattle.station.specs.Laws.Fits.{sent-proper, jump-fitting, jump-sane}
-use Rattle.station.specs.Written.{shut-lengths}
+use Rattle.station.specs.Theorems.Written.{shut-lengths}
 use Rattle.agreement.specs.Maths.Safe.{Just, Split}
 use Rattle.agreement.specs.Maths.Just.{bare, Coded, backed-just}
 use Rattle.agreement.specs.Maths.Standing.{Open, Standing}

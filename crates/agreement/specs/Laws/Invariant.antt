@@ -17,7 +17,7 @@ use Rattle.format.specs.Statement.{Statement, statement, covered, step}
 use Rattle.format.specs.Laws.Shape.{Shape, init, proposal, vote, Formed, formed-out}
 use Rattle.modules.specs.declared.Module.{Module}
 use Rattle.modules.specs.Counter.{above, last-for, advanced, making}
-use Rattle.modules.specs.Above.{stays-below, coded-below}
+use Rattle.modules.specs.Theorems.Above.{stays-below, coded-below}
 use Rattle.station.specs.Demand.{OfGroup}
 use Rattle.format.specs.Laws.ReadBack.{Proper, word-back}
 use Rattle.format.specs.Laws.Covered.{covered-round, covered-code}

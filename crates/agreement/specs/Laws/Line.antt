@@ -25,7 +25,7 @@ use Rattle.station.specs.Machine.{State}
 use Rattle.station.specs.Words as W
 use Rattle.station.specs.Words.{state-of, Lengths}
 use Rattle.station.specs.Laws.Sane.{Sane, state-back}
-use Rattle.station.specs.Written.{lengths-of}
+use Rattle.station.specs.Theorems.Written.{lengths-of}
 use Rattle.agreement.specs.Maths.Votes.{votes}
 use Rattle.agreement.specs.Maths.Log.{In}
 use Rattle.agreement.specs.Maths.Just.{Coded}

@@ -31,7 +31,8 @@ use Rattle.station.specs.Calls.{Returned, returned, opening, giving, opening-ou
 use Rattle.format.specs.Laws.ReadBack.{Proper, statement-drop, statement-back}
 use Rattle.station.specs.Laws.Keep.{steps-0}
 use Rattle.station.specs.Laws.Views.{InRange, init-statement, Opens, no-opening, begins, opens-view, Gives, refuses, holds-on, shuts, goes-on, enters, gives-view, sent-statement, jump-statement, Accepted, Jumping, after, lasting-then}
-use Rattle.station.specs.Returns.{unrefused, wrote, took-given, wrote-unrefused, sent-wrote, sent-took-given}
+use Rattle.station.specs.Returns.{unrefused, wrote, took-given}
+use Rattle.station.specs.Laws.Returns.{wrote-unrefused, sent-wrote, sent-took-given}
 use Rattle.station.specs.Laws.Fits.{own-proper, init-sane, sent-proper, jump-proper}
 use Rattle.station.specs.Demand.{OfGroup}
 use Rattle.agreement.specs.Maths.Safe.{Just, Split}

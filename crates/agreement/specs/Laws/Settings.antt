@@ -15,7 +15,7 @@ use Rattle.station.specs.Machine.{Outcome}
 use Rattle.station.specs.Words as W
 use Rattle.station.specs.Calls.{Returned, returned, opening, opening-outcome, no-station}
 use Rattle.station.specs.Returns.{unrefused}
-use Rattle.station.specs.Jump.{setting-kept}
+use Rattle.station.specs.Theorems.Jump.{setting-kept}
 use Rattle.station.specs.Laws.Views.{Opens, no-opening, begins, opens-view}
 use Rattle.agreement.specs.Laws.Lists.{same-line}
 use Rattle.agreement.specs.Demand.{opens, gives, codes, tosses, Call, call, Lineage, Found, nothing, found, started, gave, act, modules, answer, openings, lineage, Presents, Sound, JumpOff, Given}

@@ -22,7 +22,7 @@ use Rattle.station.specs.declared.Stage.{Stage}
 use Rattle.station.specs.Machine.{stage-step, has-value, began, supplies-for-value, supplies-for-none}
 use Rattle.station.specs.Laws.Sane.{Sane}
 use Rattle.station.specs.Laws.Keep.{all-take}
-use Rattle.station.specs.Written.{backed-given}
+use Rattle.station.specs.Theorems.Written.{backed-given}
 use Rattle.station.specs.declared.Lasting.{Lasting}
 use Rattle.agreement.specs.Maths.Safe.{Just}
 use Rattle.agreement.specs.Maths.Just.{bare, Coded, backed-just, just-more, coded-more}

@@ -29,7 +29,7 @@ use Rattle.station.specs.Laws.Keep.{Fitting, keep-sane, all-take, steps-P, step
 use Rattle.station.specs.Laws.Pieces.{SomeWith, find-some}
 use Rattle.station.specs.Laws.End.{Full, full-grown, EarlyDGet, Known, known, Sendable, both-values}
 use Rattle.station.specs.Laws.Fits.{began-sane, decision-low, ready, backed}
-use Rattle.station.specs.Written.{next-all, backed-given}
+use Rattle.station.specs.Theorems.Written.{next-all, backed-given}
 use Rattle.agreement.specs.Maths.Log.{In, all-at}
 use Rattle.agreement.specs.Maths.Safe.{Just, Split}
 use Rattle.agreement.specs.Maths.Just.{bare, Coded, backed-just, bare-just}

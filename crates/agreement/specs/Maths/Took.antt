@@ -16,7 +16,7 @@ use Rattle.format.specs.Statement.{Statement, step}
 use Rattle.format.specs.Lists.{some, every, number-of}
 use Rattle.rules.specs.Rules as R
 use Rattle.station.specs.Machine.{has-value, vote-value, decided}
-use Rattle.certificate.specs.Exact.{every-out}
+use Rattle.certificate.specs.Theorems.Exact.{every-out}
 use Rattle.station.specs.Laws.Pieces.{SomeWith, find-some}
 use Rattle.station.specs.Laws.Keep.{steps-V}
 use Rattle.agreement.specs.Maths.Counting.{count-mono}

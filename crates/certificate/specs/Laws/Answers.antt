@@ -19,7 +19,7 @@ use Rattle.hmac.specs.Code.{hmac-code}
 use Rattle.walk.specs.declared.Findings.{Findings}
 use Rattle.certificate.specs.Check.{one-question}
 use Rattle.walk.specs.Walk.{started, through, findings, answer, walk}
-use Rattle.certificate.specs.WalkExact.{walk-exact}
+use Rattle.certificate.specs.Theorems.WalkExact.{walk-exact}
 use Rattle.certificate.specs.Laws.Read.{word-0-read, word-1-read, fields-read, statement-read}
 use Rattle.certificate.specs.Present.{check-by, judged}
 

@@ -13,11 +13,11 @@ use Rattle.laws.specs.Least.{least, least-fits}
 use Rattle.format.specs.declared.Fields.{Fields}
 use Rattle.format.specs.Present.{statement-words, place-of, formed, statement, words-at, fields-at}
 use Rattle.rules.specs.declared.Group.{Group}
-use Rattle.rules.specs.Rules.{first-group, second-group}
+use Rattle.rules.specs.Test.{first-group, second-group}
 use Rattle.walk.specs.declared.Findings.{Findings}
 use Rattle.walk.specs.Walk.{noted, turned, walked, first-size, between, through, answer}
 use Rattle.glance.specs.Glance.{glanced, left}
-use Rattle.glance.specs.Behind.{glance-behind, behind-fault}
+use Rattle.glance.specs.Theorems.Behind.{glance-behind, behind-fault}
 use Rattle.certificate.specs.Laws.Read.{fields-read, statement-read}
 use Rattle.walk.specs.Laws.Turns.{onward}
 

@@ -11,7 +11,7 @@ use Rattle.laws.specs.Pick.{here}
 use Rattle.format.specs.Numbers.{code-words}
 use Rattle.sha256.specs.Sha256.{limit}
 use Rattle.hmac.specs.Hmac.{prepared, keyed, code-from}
-use Rattle.hmac.specs.Prepared.{code-is-hmac}
+use Rattle.hmac.specs.Theorems.Prepared.{code-is-hmac}
 use Rattle.format.specs.Words.{fields-of}
 use Rattle.format.specs.Present.{covered-words, statement-words, statement, words-at, code-at, fields-at}
 use Rattle.hmac.specs.Code.{hmac-code}

@@ -1,6 +1,6 @@
 -- The module's range is tested first: what the other tests ask follows from it.
 use Rattle.station.specs.Present as F
-use Rattle.fitness.specs.Parts.{whole, range-out, refused, rest-decides}
+use Rattle.fitness.specs.Laws.Parts.{whole, range-out, refused, rest-decides}
 use borrow.Author.Needs.{needs}
 use Rattle.fitness.proofs.fits_module.Statement.{statement}
 use Rattle.fitness.proofs.fits_module.Tie as tie

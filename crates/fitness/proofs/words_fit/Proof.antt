@@ -1,5 +1,5 @@
 -- Each test is one of the definition, on the station's own words.
-use Rattle.fitness.specs.Parts.{words-are}
+use Rattle.fitness.specs.Laws.Parts.{words-are}
 use borrow.Author.Needs.{needs}
 use Rattle.fitness.proofs.words_fit.Statement.{statement}
 use Rattle.fitness.proofs.words_fit.Tie as tie

@@ -16,8 +16,9 @@ use Rattle.format.specs.Group.{quorum, backing}
 use Rattle.format.specs.declared.Fields.{Fields}
 use Rattle.format.specs.Statement.{Statement, step}
 use Rattle.format.specs.Lists.{every, those}
-use Rattle.rules.specs.Rules.{some-D-GET, has-second, d-get-group}
-use Rattle.rules.specs.Backed.{d-get-size, d-get-most, two-out, two-later}
+use Rattle.rules.specs.Rules.{some-D-GET}
+use Rattle.rules.specs.Test.{has-second, d-get-group}
+use Rattle.rules.specs.Theorems.Backed.{d-get-size, d-get-most, two-out, two-later}
 use Rattle.modules.specs.declared.Module.{Module}
 use Rattle.modules.specs.Counter.{above, last-for, advanced}
 use Rattle.modules.specs.Present.{module-fits}

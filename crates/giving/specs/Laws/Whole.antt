@@ -34,7 +34,7 @@ use Rattle.station.specs.Laws.Insert.{insert-length}
 use Rattle.station.specs.Laws.End.{Full, Sendable}
 use Rattle.station.specs.Laws.Views.{Accepted, after, lasting-then, sane-before, full-after}
 use Rattle.station.specs.Laws.Fits.{next-ready, sent-proper}
-use Rattle.station.specs.Seal.{range-fits}
+use Rattle.station.specs.Theorems.Seal.{range-fits}
 use Rattle.station.specs.Present.{sites, slots-of, held-in, held-by, state-of, returned, give-tests, giving, Lengths, by-module, on-bundle}
 use Rattle.station.specs.declared.Lasting.{Lasting}
 use Rattle.laws.specs.Below.{Below}

@@ -1,6 +1,6 @@
 -- The top five bits are kind, value and flag.
 use Prim.Native.Nat.{_^_, _<_}
-use Rattle.glance.specs.Formed.{formed-word}
+use Rattle.glance.specs.Theorems.Formed.{formed-word}
 use borrow.Author.Needs.{needs}
 use Rattle.glance.proofs.word_formed.Statement.{statement}
 use Rattle.glance.proofs.word_formed.Tie as tie

@@ -1,5 +1,5 @@
 -- Each test is one of the definition.
-use Rattle.held_fitness.specs.Parts.{held-words-fit}
+use Rattle.held_fitness.specs.Laws.Parts.{held-words-fit}
 use borrow.Author.Needs.{needs}
 use Rattle.held_fitness.proofs.held_fits.Statement.{statement}
 use Rattle.held_fitness.proofs.held_fits.Tie as tie

@@ -1,7 +1,7 @@
 -- The bit says which of the two tests the slot has to pass.
 use mathlib.Core.Path.{sym, _∙_}
 use Rattle.laws.specs.Pick.{here, skip}
-use Rattle.held_fitness.specs.Parts.{slot-right}
+use Rattle.held_fitness.specs.Laws.Parts.{slot-right}
 use borrow.Author.Needs.{needs}
 use Rattle.held_fitness.proofs.slot_matches.Statement.{statement}
 use Rattle.held_fitness.proofs.slot_matches.Tie as tie

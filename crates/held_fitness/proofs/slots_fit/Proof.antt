@@ -4,7 +4,7 @@ use mathlib.Core.Bool.{false, not}
 use mathlib.Core.Path.{_≡_, refl, sym, _∙_}
 use Rattle.laws.specs.Pick.{pick, here, skip, via-not}
 use Rattle.station.specs.Present.{sites, slots-fit}
-use Rattle.held_fitness.specs.Parts.{slot-right, slots-turn, slots-end}
+use Rattle.held_fitness.specs.Laws.Parts.{slot-right, slots-turn, slots-end}
 use borrow.Author.Needs.{needs}
 use Rattle.held_fitness.proofs.slots_fit.Statement.{statement}
 use Rattle.held_fitness.proofs.slots_fit.Tie as tie

@@ -19,8 +19,8 @@ use Rattle.station.specs.Machine.{Outcome, refused, sends, began, stage-of, cop
 use Rattle.station.specs.Calls.{Returned}
 use Rattle.station.specs.Laws.Views.{Jumping, jump-statement}
 use Rattle.station.specs.Laws.Fits.{jump-proper}
-use Rattle.station.specs.Written.{jump-few}
-use Rattle.station.specs.Seal.{range-fits}
+use Rattle.station.specs.Theorems.Written.{jump-few}
+use Rattle.station.specs.Theorems.Seal.{range-fits}
 use Rattle.station.specs.Present.{state-of, returned, on-bundle}
 use Rattle.keeping.specs.Laws.Back.{bundle-back}
 use Rattle.sending.specs.Sends.{own-fields, copy-count-is, copy-lent-is, copy-station-is, copy-after-is}

@@ -19,7 +19,8 @@ use Rattle.format.specs.Statement.{Statement}
 use Rattle.format.specs.Lists.{every}
 use Rattle.format.specs.Present.{most-stations, statement-words, statement, statements, written, all-formed}
 use Rattle.rules.specs.declared.Group.{Group}
-use Rattle.rules.specs.Rules.{Rising, holds}
+use Rattle.rules.specs.Rules.{Rising}
+use Rattle.rules.specs.Test.{holds}
 use Rattle.station.specs.declared.Station.{Station}
 use Rattle.station.specs.Machine.{stage-step, kept-for-value, kept-for-none}
 use Rattle.station.specs.Words.{set-of}

@@ -1,7 +1,7 @@
 -- A group that is to be kept has at most 16 statements, since n is at most 31; each is held against its words.
 use Rattle.station.specs.Laws.FitSane.{for-value-size, for-none-size}
 use Rattle.station.specs.Present.{held-in, sites}
-use Rattle.kept_fitness.specs.Parts.{groups-fit, few, refused, rest-decides}
+use Rattle.kept_fitness.specs.Laws.Parts.{groups-fit, few, refused, rest-decides}
 use borrow.Author.Needs.{needs}
 use Rattle.format.specs.Form.{present-form}
 use Rattle.kept_fitness.proofs.groups_fit.Statement.{statement}

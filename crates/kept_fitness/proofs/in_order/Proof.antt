@@ -5,7 +5,8 @@ use mathlib.Core.Path.{_≡_, refl, sym, ap, _∙_}
 use lib.Dec.{ltb}
 use Rattle.laws.specs.Pick.{pick, here, skip}
 use Rattle.format.specs.Present.{statements}
-use Rattle.rules.specs.Rules.{wanted, in-order, holds}
+use Rattle.rules.specs.Rules.{wanted}
+use Rattle.rules.specs.Test.{in-order, holds}
 use Rattle.kept_fitness.specs.Laws.Turns.{order-end}
 use Rattle.kept_fitness.specs.Laws.Groups.{rest, order-start, order-next}
 use borrow.Author.Needs.{needs}

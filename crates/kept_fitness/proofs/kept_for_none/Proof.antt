@@ -1,5 +1,5 @@
 -- Where the scan finds a station that supplies the group, it is a quorum of none votes of the round before.
-use Rattle.kept_fitness.specs.Parts.{for-none-found, for-none-missing}
+use Rattle.kept_fitness.specs.Laws.Parts.{for-none-found, for-none-missing}
 use borrow.Author.Needs.{needs}
 use Rattle.kept_fitness.proofs.kept_for_none.Statement.{statement}
 use Rattle.kept_fitness.proofs.kept_for_none.Tie as tie

@@ -1,7 +1,7 @@
 -- Where the scan finds a station that supplies the group, the value is that of the lowest-numbered, in the slot of the lowest bit.
 use Prim.Native.Nat.{_<_}
 use native.Mathlib.Omega.{arith}
-use Rattle.kept_fitness.specs.Parts.{for-value-slot, for-value-found, for-value-missing}
+use Rattle.kept_fitness.specs.Laws.Parts.{for-value-slot, for-value-found, for-value-missing}
 use borrow.Author.Needs.{needs}
 use Rattle.kept_fitness.proofs.kept_for_value.Statement.{statement}
 use Rattle.kept_fitness.proofs.kept_for_value.Tie as tie

@@ -13,7 +13,8 @@ use Rattle.format.specs.Statement.{Statement}
 use Rattle.format.specs.Lists.{every}
 use Rattle.format.specs.Present.{statement-words, formed, statements, all-formed}
 use Rattle.rules.specs.declared.Group.{Group}
-use Rattle.rules.specs.Rules.{wanted, in-order, holds}
+use Rattle.rules.specs.Rules.{wanted}
+use Rattle.rules.specs.Test.{in-order, holds}
 use Rattle.kept_fitness.specs.Laws.Turns.{parts-start, order-turn, holds-start, every-turn, formed-start, formed-turn}
 
 module _ (ws : List ℕ) (size : ℕ) where

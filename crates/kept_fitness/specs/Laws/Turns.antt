@@ -15,7 +15,8 @@ use Rattle.format.specs.Words.{fields-of}
 use Rattle.format.specs.Statement.{Statement}
 use Rattle.format.specs.Lists.{every}
 use Rattle.rules.specs.declared.Group.{Group}
-use Rattle.rules.specs.Rules.{wanted, in-order, holds}
+use Rattle.rules.specs.Rules.{wanted}
+use Rattle.rules.specs.Test.{in-order, holds}
 use Rattle.format.specs.Laws.Parts.{parts-length}
 use Rattle.format.specs.Present.{statement-words, formed, statement, statements, all-formed}
 

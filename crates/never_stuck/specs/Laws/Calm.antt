@@ -17,7 +17,7 @@ use Rattle.format.specs.Statement.{Statement, step}
 use Rattle.format.specs.Lists.{every}
 use Rattle.format.specs.Laws.Shape.{Shape, init, proposal, vote, formed-out}
 use Rattle.format.specs.Laws.ReadBack.{Proper}
-use Rattle.certificate.specs.Exact.{every-in}
+use Rattle.certificate.specs.Theorems.Exact.{every-in}
 use Rattle.station.specs.declared.Station.{Station}
 use Rattle.station.specs.Machine.{State, stage-step, has-value}
 use Rattle.station.specs.Laws.Keep.{steps-P, steps-V, steps-0}
@@ -29,7 +29,7 @@ use Rattle.agreement.specs.Maths.Just.{Coded}
 use Rattle.agreement.specs.Laws.Ground.{Ground}
 use Rattle.agreement.specs.Laws.Line.{Line, line-open, reads}
 use Rattle.agreement.specs.Laws.Run.{Inv}
-use Rattle.agreement.specs.Theorem.{at, here, rest, rest-few, log-ok, bad-few, sound}
+use Rattle.agreement.specs.Theorems.Theorem.{at, here, rest, rest-few, log-ok, bad-few, sound}
 use Rattle.agreement.specs.Demand.{Call}
 use Rattle.agreement.specs.Present.{log}
 use Rattle.never_stuck.specs.Claim.{Quorate, Waits}

@@ -17,7 +17,7 @@ use Rattle.format.specs.Statement.{Statement, same-words}
 use Rattle.format.specs.Bundle.{count-in}
 use Rattle.format.specs.Present.{statement-words, place-of, formed, statement, statements, covered, covered-at, all-formed}
 use Rattle.certificate.specs.Present.{IsBundle}
-use Rattle.station.specs.Written.{same-self}
+use Rattle.station.specs.Theorems.Written.{same-self}
 use Rattle.agreement.specs.Maths.Log.{In}
 use Rattle.agreement.specs.Maths.Just.{bare, Coded}
 use Rattle.agreement.specs.Laws.Line.{reads, AtSite, covered-there}

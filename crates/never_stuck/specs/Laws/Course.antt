@@ -18,7 +18,7 @@ use Rattle.format.specs.Bundle.{count-in}
 use Rattle.format.specs.Laws.ReadBack.{Proper}
 use Rattle.format.specs.Present.{most-statements, place-of, statements, main-of, bundle-of}
 use Rattle.rules.specs.declared.Which.the-variants.{Any}
-use Rattle.certificate.specs.Exact.{found-valid}
+use Rattle.certificate.specs.Theorems.Exact.{found-valid}
 use Rattle.certificate.specs.Present.{check-by}
 use Rattle.modules.specs.declared.Last.{Last}
 use Rattle.modules.specs.declared.Module.{Module}
@@ -28,7 +28,7 @@ use Rattle.station.specs.Machine.{State, sends, stage-step}
 use Rattle.station.specs.Calls.{Returned}
 use Rattle.station.specs.Returns.{wrote}
 use Rattle.station.specs.Demand.{message}
-use Rattle.station.specs.Written.{bundle-front}
+use Rattle.station.specs.Theorems.Written.{bundle-front}
 use Rattle.station.specs.Laws.Bundles.{main-is, all-in}
 use Rattle.station.specs.Present.{state-of, returned, Reached}
 use Rattle.agreement.specs.Maths.Log.{In, all-at}

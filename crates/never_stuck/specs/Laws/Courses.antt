@@ -11,10 +11,10 @@ use Rattle.format.specs.Form.{present-form}
 use Rattle.format.specs.Statement.{Statement}
 use Rattle.modules.specs.declared.Module.{Module}
 use Rattle.sealed.specs.Sealed as Sealed
-use Rattle.sealed.specs.Rises.{Did, coded, refused, plain-rises, coin-rises}
+use Rattle.sealed.specs.Theorems.Rises.{Did, coded, refused, plain-rises, coin-rises}
 use Rattle.agreement.specs.Laws.Ground.{Ground}
 use Rattle.agreement.specs.Laws.Lists.{module-other, module-same, lineage-other}
-use Rattle.agreement.specs.Theorem.{inv, AllSound}
+use Rattle.agreement.specs.Theorems.Theorem.{inv, AllSound}
 use Rattle.agreement.specs.Demand.{opens, gives, codes, tosses, Call, call, site, member}
 use Rattle.agreement.specs.Present.{modules, answer, lineage, Given}
 use Rattle.never_stuck.specs.Laws.Course.{Course, still}

@@ -19,8 +19,9 @@ use Rattle.modules.specs.Counter.{above, last-for}
 use Rattle.station.specs.declared.Station.{Station}
 use Rattle.station.specs.Machine.{State, Next, Outcome, keeps, sends, began, shut, stage-of, follows, closes, stage-step}
 use Rattle.station.specs.Calls.{Returned}
-use Rattle.station.specs.Returns.{unrefused, wrote, wrote-unrefused, sent-wrote}
-use Rattle.station.specs.Written.{reached-good, sent-backed, jump-few}
+use Rattle.station.specs.Returns.{unrefused, wrote}
+use Rattle.station.specs.Laws.Returns.{wrote-unrefused, sent-wrote}
+use Rattle.station.specs.Theorems.Written.{reached-good, sent-backed, jump-few}
 use Rattle.station.specs.Laws.Insert.{every-insert}
 use Rattle.station.specs.Laws.Sane.{state-back}
 use Rattle.station.specs.Laws.Bundles.{backed-few}

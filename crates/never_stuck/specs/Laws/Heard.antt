@@ -20,19 +20,19 @@ use Rattle.format.specs.Statement.{Statement, step}
 use Rattle.format.specs.Bundle.{count-in}
 use Rattle.format.specs.Present.{output-words, last-round, most-stations, size-fits, statements, main-of, certificate-of, bundle-fits}
 use Rattle.rules.specs.declared.Which.the-variants.{Any, Only}
-use Rattle.rules.specs.Rules.{rule}
+use Rattle.rules.specs.Test.{rule}
 use Rattle.certificate.specs.Check.{one-question}
 use Rattle.certificate.specs.Present.{all-verify, bundle-tests, check-tests}
 use Rattle.modules.specs.declared.Last.{Last}
 use Rattle.modules.specs.declared.Module.{Module}
 use Rattle.modules.specs.Counter.{above, pair, last-for}
-use Rattle.modules.specs.Above.{above-in, later-step}
+use Rattle.modules.specs.Theorems.Above.{above-in, later-step}
 use Rattle.modules.specs.Present.{module-fits}
 use Rattle.station.specs.declared.Station.{Station}
 use Rattle.station.specs.Machine.{Next, refused, keeps, sends, began, shut, stage-of, jumps, moved, ended, taken, follows, closes, lasting-at, held-of, conflict, stage-step, place-tests, step-tests}
 use Rattle.station.specs.Returns.{unrefused}
 use Rattle.station.specs.Demand.{by-opening, by-giving, OfGroup}
-use Rattle.station.specs.Written.{reached-good}
+use Rattle.station.specs.Theorems.Written.{reached-good}
 use Rattle.station.specs.Laws.Fits.{opening-fits, giving-fits}
 use Rattle.station.specs.Laws.Sane.{Sane}
 use Rattle.station.specs.Laws.FitSane.{fits-sane}
@@ -42,7 +42,7 @@ use Rattle.station.specs.declared.Lasting.{Lasting}
 use Rattle.agreement.specs.Maths.Taking.{steps-up}
 use Rattle.agreement.specs.Laws.Ground.{Ground}
 use Rattle.agreement.specs.Laws.Lists.{same-line}
-use Rattle.agreement.specs.Theorem.{claim, at, in-group, rest, rest-i, rest-sound}
+use Rattle.agreement.specs.Theorems.Theorem.{claim, at, in-group, rest, rest-i, rest-sound}
 use Rattle.agreement.specs.Demand.{Call, call, gives, Lineage}
 use Rattle.agreement.specs.Present.{modules, answer, lineage, Presents, Sound}
 use Rattle.never_stuck.specs.Claim.{room, Waits}

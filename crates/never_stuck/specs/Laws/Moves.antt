@@ -22,8 +22,9 @@ use Rattle.station.specs.declared.Station.{Station}
 use Rattle.station.specs.Machine as Mach
 use Rattle.station.specs.Machine.{State, Next, Outcome, keeps, sends, own, began, stage-of, follows, closes, decision-at, keeping, stage-step, has-value, copied-value, with-decision, lasting-at}
 use Rattle.station.specs.Calls.{Returned}
-use Rattle.station.specs.Returns.{unrefused, wrote, took-given, sent-took-given}
-use Rattle.station.specs.Written.{reached-good}
+use Rattle.station.specs.Returns.{unrefused, wrote, took-given}
+use Rattle.station.specs.Laws.Returns.{sent-took-given}
+use Rattle.station.specs.Theorems.Written.{reached-good}
 use Rattle.station.specs.Laws.Insert.{insert-all}
 use Rattle.station.specs.Laws.Sane.{state-back}
 use Rattle.station.specs.Laws.End.{Full, Known, known}
@@ -37,7 +38,7 @@ use Rattle.agreement.specs.Maths.Took.{enough-after, held-enough}
 use Rattle.agreement.specs.Laws.Ground.{Ground}
 use Rattle.agreement.specs.Laws.Line.{Line, line-open, reads}
 use Rattle.agreement.specs.Laws.Lists.{module-now}
-use Rattle.agreement.specs.Theorem.{at, here, in-group}
+use Rattle.agreement.specs.Theorems.Theorem.{at, here, in-group}
 use Rattle.agreement.specs.Demand.{Call, call, gives}
 use Rattle.agreement.specs.Present.{modules, answer, log, Presents, Sound}
 use Rattle.never_stuck.specs.Claim.{room, Waits}

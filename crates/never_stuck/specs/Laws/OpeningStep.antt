@@ -19,7 +19,7 @@ use Rattle.certificate.specs.Present.{check-by}
 use Rattle.modules.specs.declared.Last.{Last}
 use Rattle.modules.specs.declared.Module.{Module}
 use Rattle.modules.specs.Counter.{above, pair, last-for}
-use Rattle.modules.specs.Above.{Above, first, later-question, later-step, above-out}
+use Rattle.modules.specs.Theorems.Above.{Above, first, later-question, later-step, above-out}
 use Rattle.station.specs.declared.Stage.the-variants.{Gathering}
 use Rattle.station.specs.declared.Station.{Station}
 use Rattle.station.specs.Machine.{State, Outcome, sends, began, stage-step, undecided}
@@ -27,7 +27,7 @@ use Rattle.station.specs.Present as W
 use Rattle.station.specs.Calls.{Returned}
 use Rattle.station.specs.Returns.{unrefused, wrote}
 use Rattle.station.specs.Demand.{message, by-opening}
-use Rattle.station.specs.Written.{opening-written}
+use Rattle.station.specs.Theorems.Written.{opening-written}
 use Rattle.station.specs.Laws.Sane.{state-back}
 use Rattle.station.specs.Laws.Keep.{steps-0}
 use Rattle.station.specs.Laws.Fits.{own-proper, init-sane}

@@ -17,7 +17,7 @@ use Rattle.format.specs.Statement.{Statement}
 use Rattle.format.specs.Lists.{every}
 use Rattle.format.specs.Present.{last-round}
 use Rattle.rules.specs.Rules.{some-value}
-use Rattle.certificate.specs.Exact.{every-out}
+use Rattle.certificate.specs.Theorems.Exact.{every-out}
 use Rattle.station.specs.declared.Stage.{Stage}
 use Rattle.station.specs.declared.Stage.the-variants.{Gathering, Proposing, Voting}
 use Rattle.station.specs.Machine.{State, Next, kind-in, round-in, follows, closes, decision-at, decided, stage-step, has-value, carried, vote-value, after-votes}

@@ -18,7 +18,7 @@ use Rattle.certificate.specs.Present.{check-by}
 use Rattle.modules.specs.declared.Last.{Last}
 use Rattle.modules.specs.declared.Module.{Module}
 use Rattle.modules.specs.Counter.{above, pair, last-for}
-use Rattle.modules.specs.Above.{Above, first, later-question, later-step, above-out}
+use Rattle.modules.specs.Theorems.Above.{Above, first, later-question, later-step, above-out}
 use Rattle.station.specs.declared.Stage.{Stage}
 use Rattle.station.specs.declared.Station.{Station}
 use Rattle.station.specs.Machine.{State, sends, began, stage-step}
@@ -26,7 +26,7 @@ use Rattle.station.specs.Present as W
 use Rattle.station.specs.Calls.{Returned}
 use Rattle.station.specs.Returns.{unrefused, wrote}
 use Rattle.station.specs.Demand.{message}
-use Rattle.station.specs.Written.{giving-written}
+use Rattle.station.specs.Theorems.Written.{giving-written}
 use Rattle.station.specs.Laws.Sane.{Sane, state-back}
 use Rattle.station.specs.Present.{state-of, returned, Reached}
 use Rattle.station.specs.declared.Lasting.{Lasting}

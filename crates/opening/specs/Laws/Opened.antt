@@ -21,7 +21,7 @@ use Rattle.station.specs.Laws.Views.{InRange, in-range}
 use Rattle.station.specs.Laws.Fits.{own-proper}
 use Rattle.format.specs.Laws.ReadBack.{Proper}
 use Rattle.format.specs.Present.{output-words, most-stations}
-use Rattle.station.specs.Decision.{opens}
+use Rattle.station.specs.Theorems.Decision.{opens}
 use Rattle.station.specs.Answers.{Answers}
 use Rattle.station.specs.Machine.{undecided}
 use Rattle.station.specs.Present.{opening}

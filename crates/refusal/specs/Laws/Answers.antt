@@ -19,7 +19,7 @@ use Rattle.format.specs.Words.{fields-of, of-group, spare-of, station-of}
 use Rattle.hmac.specs.Code.{hmac-code}
 use Rattle.format.specs.Bundle.{count-in}
 use Rattle.rules.specs.declared.Which.the-variants.{Only}
-use Rattle.rules.specs.Rules.{rule}
+use Rattle.rules.specs.Test.{rule}
 use Rattle.certificate.specs.Check.{question-fits}
 use Rattle.certificate.specs.Present.{all-verify, judged}
 use Rattle.format.specs.Present.{output-words, size-fits, formed, statements, laid-out, main-of, certificate-of, bundle-fits}

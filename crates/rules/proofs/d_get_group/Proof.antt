@@ -1,6 +1,6 @@
 -- Each way out is a case of the definition.
 use Rattle.laws.specs.Pick.{cases}
-use Rattle.rules.specs.Rules.{d-get-group}
+use Rattle.rules.specs.Test.{d-get-group}
 use borrow.Author.Needs.{needs}
 use Rattle.rules.proofs.d_get_group.Statement.{statement}
 use Rattle.rules.proofs.d_get_group.Tie as tie

@@ -1,6 +1,6 @@
 -- The tests are those of the definition.
 use mathlib.Core.Path.{refl}
-use Rattle.rules.specs.Rules.{early-toss}
+use Rattle.rules.specs.Test.{early-toss}
 use Rattle.rules.proofs.early_toss.Statement.{statement}
 use Rattle.rules.proofs.early_toss.Tie as tie
 

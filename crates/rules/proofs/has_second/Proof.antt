@@ -1,6 +1,6 @@
 -- The tests are those of the definition.
 use mathlib.Core.Path.{refl}
-use Rattle.rules.specs.Rules.{has-second}
+use Rattle.rules.specs.Test.{has-second}
 use Rattle.rules.proofs.has_second.Statement.{statement}
 use Rattle.rules.proofs.has_second.Tie as tie
 

@@ -1,6 +1,6 @@
 -- Each way out is a case of the definition.
 use Rattle.laws.specs.Pick.{cases}
-use Rattle.rules.specs.Rules.{second-group}
+use Rattle.rules.specs.Test.{second-group}
 use borrow.Author.Needs.{needs}
 use Rattle.rules.proofs.second_group.Statement.{statement}
 use Rattle.rules.proofs.second_group.Tie as tie

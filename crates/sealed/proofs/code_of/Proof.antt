@@ -7,7 +7,7 @@ use Rattle.hmac.specs.declared.Prepared.{Prepared}
 use Rattle.hmac.specs.declared.Keyed.{Keyed}
 use Rattle.hmac.specs.declared.Code.{Code}
 use Rattle.hmac.specs.Hmac.{code-from, short-code}
-use Rattle.hmac.specs.Prepared.{code-is-hmac}
+use Rattle.hmac.specs.Theorems.Prepared.{code-is-hmac}
 use Rattle.hmac.specs.Code.{hmac-code}
 use Rattle.sealed.proofs.Stored.{short-key}
 use borrow.Author.Needs.{needs}

@@ -3,7 +3,7 @@ use mathlib.Core.Path.{_≡_, ap, _∙_}
 use lib.ListN.{length, set, length-set}
 use Rattle.format.specs.declared.Fields.{Fields}
 use Rattle.format.specs.Words.{fields-of, word-of}
-use Rattle.sealed.specs.Answers.{word-with}
+use Rattle.sealed.specs.Laws.Answers.{word-with}
 use Rattle.sealed.proofs.Coding.{signed-is}
 use borrow.Author.Needs.{needs}
 use Rattle.sealed.proofs.sign.Statement.{statement}

@@ -15,19 +15,21 @@ use Rattle.laws.specs.Bools.{never, both, join, either, left, right, is-false}
 use Rattle.laws.specs.All.{All, all-map, all-two}
 use Rattle.format.specs.Form.{Form, last-round, rounds-there}
 use Rattle.format.specs.Numbers.{kind-INIT, kind-P, kind-V, none, D-GET, R-GET}
-use Rattle.format.specs.Group.{quorum, backing, backing-most}
+use Rattle.format.specs.Group.{quorum, backing}
+use Rattle.format.specs.Laws.Group.{backing-most}
 use Rattle.format.specs.Statement.{Statement, step}
 use Rattle.format.specs.Lists.{some, every, number-of, those, leading}
 use Rattle.format.specs.Laws.Shape.{Shape, init, proposal, vote, Formed, formed-out}
 use Rattle.rules.specs.declared.Which.the-variants.{Any, Only}
-use Rattle.rules.specs.Rules.{which, matches, Rising, Holds, some-D-GET, some-value, inits, proposals, none-votes, d-get-group, has-second, NeedsSecond, Backed, rule-2, rule-3, rule-4, rule-5, rule-6, rule-7}
-use Rattle.rules.specs.Backed.{d-get-first, d-get-later, one-early, two-early, two-none, two-D, two-out}
-use Rattle.certificate.specs.Exact.{every-out}
+use Rattle.rules.specs.Rules.{which, matches, Rising, Holds, some-D-GET, some-value, inits, proposals, none-votes, NeedsSecond, Backed, rule-2, rule-3, rule-4, rule-5, rule-6, rule-7}
+use Rattle.rules.specs.Test.{d-get-group, has-second}
+use Rattle.rules.specs.Theorems.Backed.{d-get-first, d-get-later, one-early, two-early, two-none, two-D, two-out}
+use Rattle.certificate.specs.Theorems.Exact.{every-out}
 use Rattle.station.specs.declared.Stage.{Stage}
 use Rattle.station.specs.declared.Stage.the-variants.{Gathering, Proposing, Voting}
 use Rattle.station.specs.Machine.{State, kind-in, round-in, stage-step, supplies-for-value, supplies-for-none, has-value, first-value, vote-value, carried, Next, after-inits, after-proposals, after-votes, conflict, keeping, held-of, kept-for-value, kept-for-none, value-group}
 use Rattle.format.specs.Laws.ReadBack.{Proper}
-use Rattle.station.specs.First.{first-bit, first-exact}
+use Rattle.station.specs.Theorems.First.{first-bit, first-exact}
 use Rattle.station.specs.Laws.Sane.{Kept, InRounds, FlagOf, Sane}
 use Rattle.station.specs.Laws.Insert.{conflict-insert}
 use Rattle.station.specs.Laws.Keep.{Fitting, same-step, all-take, grown, kept-for-value-on, kept-for-none-on}

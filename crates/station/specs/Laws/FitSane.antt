@@ -23,9 +23,10 @@ use Rattle.format.specs.Lists.{some, every, leading}
 use Rattle.format.specs.Bundle.{all-formed}
 use Rattle.format.specs.Laws.Layout.{formed-well, all-well}
 use Rattle.rules.specs.declared.Group.{Group}
-use Rattle.rules.specs.Rules.{Rising, holds, none-votes}
-use Rattle.rules.specs.Backed.{holds-out, d-get-most}
-use Rattle.certificate.specs.Exact.{every-out}
+use Rattle.rules.specs.Rules.{Rising, none-votes}
+use Rattle.rules.specs.Test.{holds}
+use Rattle.rules.specs.Theorems.Backed.{holds-out, d-get-most}
+use Rattle.certificate.specs.Theorems.Exact.{every-out}
 use Rattle.station.specs.declared.Stage.{Stage}
 use Rattle.station.specs.declared.Stage.the-variants.{Gathering, Proposing, Voting}
 use Rattle.station.specs.declared.Station.{Station}

@@ -20,7 +20,7 @@ use Rattle.format.specs.Bundle.{main-of, certificate-of}
 use Rattle.format.specs.Laws.Shape.{Shape, init, proposal, vote, formed-in, formed-out}
 use Rattle.rules.specs.declared.Group.{Group}
 use Rattle.rules.specs.Rules.{Holds, none-votes, Backed}
-use Rattle.rules.specs.Copied.{backed-copied}
+use Rattle.rules.specs.Theorems.Copied.{backed-copied}
 use Rattle.modules.specs.declared.Module.{Module}
 use Rattle.modules.specs.Counter.{last-for}
 use Rattle.station.specs.declared.Stage.{Stage}

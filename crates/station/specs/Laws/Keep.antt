@@ -14,15 +14,17 @@ use Rattle.laws.specs.Bools.{never, both, either}
 use Rattle.laws.specs.All.{All}
 use Rattle.format.specs.Form.{Form}
 use Rattle.format.specs.Numbers.{kind-INIT, kind-P, kind-V, none, D-GET, R-GET}
-use Rattle.format.specs.Group.{quorum, backing-most}
+use Rattle.format.specs.Group.{quorum}
+use Rattle.format.specs.Laws.Group.{backing-most}
 use Rattle.format.specs.Words.{step-of}
 use Rattle.format.specs.Statement.{Statement, step}
 use Rattle.format.specs.Lists.{some, leading}
 use Rattle.format.specs.Laws.Shape.{Shape, init, proposal, vote, formed-out}
 use Rattle.rules.specs.declared.Group.{Group}
 use Rattle.rules.specs.declared.Which.the-variants.{Any, Only}
-use Rattle.rules.specs.Backed.{d-get-first, d-get-later}
-use Rattle.rules.specs.Rules.{Rising, Holds, inits, proposals, none-votes, d-get-group, Backed, rule-1, rule-2, rule-3, rule-4, rule-5, rule-6, rule-7}
+use Rattle.rules.specs.Theorems.Backed.{d-get-first, d-get-later}
+use Rattle.rules.specs.Rules.{Rising, Holds, inits, proposals, none-votes, Backed, rule-1, rule-2, rule-3, rule-4, rule-5, rule-6, rule-7}
+use Rattle.rules.specs.Test.{d-get-group}
 use Rattle.station.specs.declared.Stage.{Stage}
 use Rattle.station.specs.declared.Stage.the-variants.{Gathering, Proposing, Voting}
 use Rattle.station.specs.Machine.{State, kind-in, round-in, stage-step, stage-of, proposing, voting, held-of, supplies-for-value, supplies-for-none, takes, insert, keeping, kept-for-value, kept-for-none, value-group, no-group}

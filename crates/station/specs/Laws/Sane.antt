@@ -23,9 +23,10 @@ use Rattle.format.specs.Lists.{some, every}
 use Rattle.format.specs.Bundle.{all-formed, all-written}
 use Rattle.format.specs.Laws.Shape.{formed-out}
 use Rattle.rules.specs.declared.Group.{Group}
-use Rattle.rules.specs.Rules.{Rising, Holds, holds}
-use Rattle.rules.specs.Backed.{holds-in}
-use Rattle.certificate.specs.Exact.{every-in}
+use Rattle.rules.specs.Rules.{Rising, Holds}
+use Rattle.rules.specs.Test.{holds}
+use Rattle.rules.specs.Theorems.Backed.{holds-in}
+use Rattle.certificate.specs.Theorems.Exact.{every-in}
 use Rattle.station.specs.declared.Stage.{Stage}
 use Rattle.station.specs.declared.Stage.the-variants.{Gathering, Proposing, Voting}
 use Rattle.station.specs.Machine.{State, stage-step, held-of, kept-for-value, kept-for-none}

@@ -18,12 +18,12 @@ use Rattle.format.specs.Statement.{Statement, statements, well-formed, verifies
 use Rattle.format.specs.Bundle.{count-in, main-of, certificate-of, bundle-fits}
 use Rattle.format.specs.Laws.Layout.{all-well}
 use Rattle.format.specs.Laws.Shape.{formed-out}
-use Rattle.rules.specs.Rules.{rule}
+use Rattle.rules.specs.Test.{rule}
 use Rattle.rules.specs.declared.Which.the-variants.{Only}
 use Rattle.certificate.specs.Check.{one-question, bundle-tests, all-verify}
-use Rattle.rules.specs.Backed.{rule-backed}
+use Rattle.rules.specs.Theorems.Backed.{rule-backed}
 use Rattle.certificate.specs.Valid.{IsBundle}
-use Rattle.certificate.specs.Exact.{bundle-out, every-out}
+use Rattle.certificate.specs.Theorems.Exact.{bundle-out, every-out}
 use Rattle.modules.specs.declared.Module.{Module}
 use Rattle.modules.specs.Counter.{above, module-fits, last-for}
 use Rattle.station.specs.declared.Stage.{Stage}

@@ -1,6 +1,6 @@
 -- What the fitness test found is the definition's choice, and each part is told by the function that reads it.
 use borrow.Author.Needs.{needs}
-use Rattle.status.specs.Read.{refused-is, told-is}
+use Rattle.status.specs.Theorems.Read.{refused-is, told-is}
 use Rattle.status.proofs.read.Statement.{statement}
 use Rattle.status.proofs.read.Tie as tie
 

@@ -1,6 +1,6 @@
 -- What is written is what the end of the input printed, which stands in the lent bytes (`end-enough`).
 use borrow.Author.Needs.{needs}
-use Rattle.valley_console.specs.Within.{end-enough}
+use Rattle.valley_console.specs.Theorems.Within.{end-enough}
 use Rattle.valley.proofs.end.Statement.{statement}
 use Rattle.valley.proofs.end.Tie as tie
 

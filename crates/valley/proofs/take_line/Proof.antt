@@ -1,6 +1,6 @@
 -- A call takes at least one byte of what is left, and none behind its end (`rest-taken`).
 use native.Mathlib.Omega.{arith}
-use Rattle.valley_console.specs.Within.{rest-taken, lent-enough}
+use Rattle.valley_console.specs.Theorems.Within.{rest-taken, lent-enough}
 use borrow.Author.Needs.{needs}
 use Rattle.valley.proofs.take_line.Statement.{statement}
 use Rattle.valley.proofs.take_line.Tie as tie

@@ -17,7 +17,8 @@ use Rattle.format.specs.Words.{fields-of}
 use Rattle.format.specs.Statement.{Statement}
 use Rattle.format.specs.Lists.{some}
 use Rattle.rules.specs.declared.Group.{Group}
-use Rattle.rules.specs.Rules.{some-D-GET, in-order, holds, first-group, second-group, has-second, early-toss, rest-holds, spread, groups-hold, rule}
+use Rattle.rules.specs.Rules.{some-D-GET}
+use Rattle.rules.specs.Test.{in-order, holds, first-group, second-group, has-second, early-toss, rest-holds, spread, groups-hold, rule}
 use Rattle.walk.specs.Walk.{first-size, second-size}
 use Rattle.format.specs.Laws.Parts.{parts-length, parts-take, parts-drop}
 use Rattle.format.specs.Present.{place-of, statement-words, formed, statement, statements, fields-at, all-formed, main-of}

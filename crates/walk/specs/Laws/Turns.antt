@@ -11,7 +11,8 @@ use Rattle.format.specs.Statement.{Statement}
 use Rattle.format.specs.Lists.{some}
 use Rattle.format.specs.Present.{place-of, statement-words, formed, statement, statements, fields-at, verifies, all-formed}
 use Rattle.rules.specs.declared.Group.{Group}
-use Rattle.rules.specs.Rules.{some-D-GET, some-value, matches, in-order}
+use Rattle.rules.specs.Rules.{some-D-GET, some-value, matches}
+use Rattle.rules.specs.Test.{in-order}
 use Rattle.walk.specs.declared.Findings.{Findings}
 use Rattle.walk.specs.Walk.{faulty, noted, turned, walked}
 

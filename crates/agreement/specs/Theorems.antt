@@ -1,0 +1,9 @@
+pub mod Theorem
+pub mod Prefix
+pub mod Computed
+pub mod Toy
+pub mod Example
+pub mod Edges
+pub mod Unbacked
+pub mod Forms
+pub mod FirstVotes

@@ -1,0 +1,3 @@
+pub mod Theorem
+pub mod LastOnly
+pub mod Example

@@ -1,0 +1,2 @@
+pub mod Backed
+pub mod Copied

@@ -1,0 +1,3 @@
+pub mod Rises
+pub mod Ways
+pub mod Order

@@ -1,0 +1,11 @@
+pub mod AsCalled
+pub mod Coin
+pub mod Decision
+pub mod Jump
+pub mod NoStation
+pub mod Order
+pub mod Refused
+pub mod Seal
+pub mod Theorem
+pub mod Written
+pub mod First
