@@ -6,10 +6,10 @@ use mathlib.Core.Path.{_≡_}
 use lib.ListN.{getD, length}
 use Rattle.laws.specs.All.{All}
 use Rattle.format.specs.Form.{Form, most-stations, most-statements, head-bits, bundle-words}
-use Rattle.format.specs.Numbers.{least-stations}
+use Rattle.format.specs.Numbers.{least-stations, head-mark, mark-bit, count-bits, middle-bits}
 use Rattle.format.specs.Statement.{statements, verifies}
 use Rattle.hmac.specs.Code.{hmac-code}
-use Rattle.format.specs.Bundle.{count-in, main-of, certificate-of, all-formed, head-mark, mark-bit, count-bits, middle-bits}
+use Rattle.format.specs.Bundle.{count-in, main-of, certificate-of, all-formed}
 use Rattle.rules.specs.Rules.{Backed}
 use Rattle.certificate.specs.Check.{checked}
 

@@ -98,7 +98,7 @@ fn decision_after(stage: Stage, old: u32, set: u32, slots: &[u32; SLOTS_WORDS]) 
     }
 }
 
-// What outlasts a step, behind its end.
+// What outlasts a step, after its end.
 pub fn lasting_after(stage: Stage, l: Lasting, set: u32, slots: &[u32; SLOTS_WORDS]) -> Lasting
     ensures { λ r. ⌜ r ≡ lasting-at stage l (held-in set (now (slots .entry)) 0 sites) ⌝ }
 {

@@ -4,20 +4,9 @@ use mathlib.Core.Bool.{Bool, true, _&&_}
 use mathlib.Core.List.{List, [], _∷_, _++_}
 use lib.Dec.{eqb, leb}
 use lib.ListN.{getD, length}
+use Rattle.format.specs.Numbers.{head-mark, mark-bit, middle-bits, count-bits}
 use Rattle.format.specs.Form.{Form, most-statements, head-bits, fields-at, statement-words, bundle-words}
 use Rattle.format.specs.Statement.{Statement, formed, statement, statements, written}
-
-abbrev pub head-mark : ℕ
-head-mark = 3  -- "a head word (bits 31..30 are 3, bits 29..16 zero, bits 15..0 the count of certificate statements, 0 to 32)"
-
-abbrev pub mark-bit : ℕ
-mark-bit = 30
-
-abbrev pub middle-bits : ℕ
-middle-bits = 14
-
-abbrev pub count-bits : ℕ
-count-bits = 16
 
 abbrev pub count-in : List ℕ → ℕ
 count-in ws = getD ws 0 0 % 2 ^ count-bits

@@ -8,7 +8,7 @@ use native.Mathlib.Omega.{arith}
 use lib.Dec.{leb}
 use lib.ListN.{getD, length}
 use Rattle.format.specs.declared.Fields.{Fields}
-use Rattle.format.specs.Numbers.{least-stations, code-words}
+use Rattle.format.specs.Numbers.{least-stations, code-words, middle-bits, count-bits}
 use Rattle.format.specs.Group.{quorum}
 use Rattle.format.specs.Words.{station-bit, station-size, round-of, fields-of, wide-fields}
 
@@ -92,7 +92,7 @@ pub record Sizes (form : Form) (largest covered statement longest head last : �
   pub covered-is : covered-words form ≡ covered
   pub statement-is : statement-words form ≡ statement
   pub longest-is : output-words form ≡ longest
-  pub head-is : head-bits form * 2 ^ 16 ≡ head
+  pub head-is : head-bits form * 2 ^ count-bits ≡ head
   pub last-is : last-round form ≡ last
 
 pub first-sizes : Sizes first-form 31 2 10 331 0 65535
@@ -118,11 +118,11 @@ pub with-round-length : (form : Form) (round : ℕ) (ws : List ℕ) → 2 + leng
 with-round-length first-form round ws = refl
 with-round-length wide-form round ws = omega arith
 
-pub count-fits : (form : Form) → most-statements form < 2 ^ 16
+pub count-fits : (form : Form) → most-statements form < 2 ^ count-bits
 count-fits first-form = omega arith
 count-fits wide-form = omega arith
 
-pub head-in-bits : (form : Form) → head-bits form < 2 ^ 14
+pub head-in-bits : (form : Form) → head-bits form < 2 ^ middle-bits
 head-in-bits first-form = omega arith
 head-in-bits wide-form = omega arith
 

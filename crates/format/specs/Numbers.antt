@@ -1,4 +1,4 @@
--- The numbers of document 01 that no form of the words changes: kinds, values, flags, the smallest group, the words of a code, and the table of returns.
+-- The numbers of document 01 that no form of the words changes: kinds, values, flags, the smallest group, the words of a code, the bits of a head, and the table of returns.
 use Prim.Native.Nat.{ℕ}
 
 -- "bits 31..30 kind (0 INIT, 1 P, 2 V; 3 never)"
@@ -25,7 +25,19 @@ abbrev pub least-stations : ℕ
 least-stations = 2  -- "A group has n stations, 2 to 31"
 
 abbrev pub code-words : ℕ
-code-words = 8  -- "Words 2 to 9: the code", behind the covered words
+code-words = 8  -- "Words 2 to 9: the code", after the covered words
+
+abbrev pub head-mark : ℕ
+head-mark = 3  -- "a head word (bits 31..30 are 3, bits 29..16 zero, bits 15..0 the count of certificate statements, 0 to 32)"
+
+abbrev pub mark-bit : ℕ
+mark-bit = 30
+
+abbrev pub middle-bits : ℕ
+middle-bits = 14
+
+abbrev pub count-bits : ℕ
+count-bits = 16
 
 -- ---- the table of returns, by rising number, in document 01's words
 -- 0: "kept, step not ended; also valid, coded, or module made"

@@ -99,7 +99,7 @@ module _ (n site question : ℕ) (l : Lasting) (g : Stage) where
   blank-fit =
       record {
         same-n = refl;
-        same-number = refl;
+        same-site = refl;
         no-more = omega arith;
         slots = none-fit n question (stage-step g) sites 0;
         for-value = ap (λ (x : Group). group-fits n question x (replicate kept-words 0)) no-for-value ∙ no-group-fits n question;

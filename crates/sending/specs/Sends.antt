@@ -14,7 +14,7 @@ use Rattle.laws.specs.Bools.{both, join}
 use Rattle.laws.specs.All.{All, all-append}
 use Rattle.format.specs.Form.{present-form}
 use Rattle.format.specs.declared.Fields.{Fields}
-use Rattle.format.specs.Numbers.{kind-P, code-words}
+use Rattle.format.specs.Numbers.{kind-P, code-words, head-mark, mark-bit}
 use Rattle.format.specs.Words.{word-of}
 use Rattle.format.specs.Statement.{Statement, step}
 use Rattle.hmac.specs.Code.{hmac-code}
@@ -28,7 +28,6 @@ use Rattle.sealed.specs.Present.{coding-plain, coding-coin}
 use Rattle.station.specs.declared.Stage.{Stage}
 use Rattle.station.specs.Machine.{own, began}
 use Rattle.station.specs.Words.{set-of}
-use Rattle.format.specs.Bundle.{head-mark, mark-bit}
 use Rattle.station.specs.Present as W
 use Rattle.format.specs.Laws.ReadBack.{Proper, length-written}
 use Rattle.format.specs.Present.{bundle-words, most-stations, most-statements, output-words, written, statement-code, all-written, bundle-of, place-of, statement-words}

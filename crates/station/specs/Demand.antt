@@ -50,7 +50,7 @@ tossing code n site l question answer r votes coin =
 pub record OfGroup (key : List ℕ) (n site : ℕ) (m : Module) : Type 0 where
   pub same-key : m .key ≡ key
   pub same-n : m .n ≡ n
-  pub same-number : m .station ≡ site
+  pub same-site : m .station ≡ site
 
 module _ (form : Form) (mac : List ℕ → List ℕ → List ℕ) where
   module _ (key : List ℕ) (n : ℕ) where

@@ -21,8 +21,8 @@ ghost use Prim.Native.Nat.{_%_, _^_};
 ghost use lib.Dec.{eqb};
 ghost use lib.ListN.{getD};
 ghost use Rattle.hmac.specs.Hmac.{code-from};
+ghost use Rattle.format.specs.Numbers.{count-bits};
 ghost use Rattle.format.specs.Statement.{same-words};
-ghost use Rattle.format.specs.Bundle.{count-bits};
 ghost use Rattle.format.specs.Present.{bundle-words, formed, statement, code-at, fields-at, covered, head-fits};
 ghost use Rattle.walk.specs.Walk.{code-fails, started, noted, first-size, between as Between, answer as Answer};
 

@@ -8,9 +8,8 @@ use lib.ListN.{length, getD, set, replicate}
 use Rattle.laws.specs.Pick.{pick}
 use Rattle.laws.specs.Sets.{bit}
 use Rattle.laws.specs.Over.{over}
-use Rattle.format.specs.Numbers.{code-words}
+use Rattle.format.specs.Numbers.{code-words, head-mark, mark-bit}
 use Rattle.format.specs.Group.{quorum}
-use Rattle.format.specs.Bundle.{head-mark, mark-bit}
 use Rattle.format.specs.Present.{statement-words, output-words, most-statements, bundle-words, place-of}
 use Rattle.station.specs.Present.{sites}
 

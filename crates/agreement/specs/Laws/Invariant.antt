@@ -80,7 +80,7 @@ module _ (form : Form) where
         made : (i : ℕ) → 1 ≤ i → i ≤ n → OfGroup key n i (making form key n i .made)
         made i lo hi =
             rw (le-leb 2 n low, le-leb n (most-stations form) top, le-leb 1 i lo, le-leb i n hi)
-            (record { same-key = refl; same-n = refl; same-number = refl })
+            (record { same-key = refl; same-n = refl; same-site = refl })
 
     -- a call that codes no statement and leaves its module as it was, whatever else it codes
     pub unchanged : (before off : ℕ → ℕ → Type 0) → ((i q : ℕ) → off i q → before i q) → (f g : ℕ → Module) (es l : List Entry) → reads form es ≡ [] → All (AtSite form) es → ((i : ℕ) → f i ≡ g i)
@@ -135,7 +135,7 @@ module _ (form : Form) where
               let x : i ≡ j = eqb-true i j e in
               let M = I .mods j lo hi in
               subst (λ (z : ℕ). OfGroup key n z (g z)) (sym x) (subst (λ (m : Module). OfGroup key n j m) (sym now)
-              (record { same-key = M .same-key; same-n = M .same-n; same-number = M .same-number }))
+              (record { same-key = M .same-key; same-n = M .same-n; same-site = M .same-site }))
           go false e = subst (λ (m : Module). OfGroup key n i m) (sym (others i (eqb-false i j e))) (I .mods i a b)
 
       abbrev l2 : List Statement

@@ -109,11 +109,11 @@ module _ (form : Form) where
     -- a site's module is the group's: what holds by its words holds by the group's
     of-mine : (i : ℕ) (m : Module) → OfGroup key n i m → (l : List Statement) (t : Station) (took : List Statement)
         → Line form (m .n) l (m .station) t took → Line form n l i t took
-    of-mine i m M l t took L = subst (λ (x : ℕ). Line form x l i t took) (M .same-n) (subst (λ (x : ℕ). Line form (m .n) l x t took) (M .same-number) L)
+    of-mine i m M l t took L = subst (λ (x : ℕ). Line form x l i t took) (M .same-n) (subst (λ (x : ℕ). Line form (m .n) l x t took) (M .same-site) L)
 
     to-mine : (i : ℕ) (m : Module) → OfGroup key n i m → (l : List Statement) (t : Station) (took : List Statement)
         → Line form n l i t took → Line form (m .n) l (m .station) t took
-    to-mine i m M l t took L = subst (λ (x : ℕ). Line form (m .n) l x t took) (sym (M .same-number)) (subst (λ (x : ℕ). Line form x l i t took) (sym (M .same-n)) L)
+    to-mine i m M l t took L = subst (λ (x : ℕ). Line form (m .n) l x t took) (sym (M .same-site)) (subst (λ (x : ℕ). Line form x l i t took) (sym (M .same-n)) L)
 
     came-mine : (i : ℕ) (m : Module) → OfGroup key n i m → (l : List Entry) (ws : List ℕ) → CodesCame form mac key n l ws → CodesCame form mac (m .key) (m .n) l ws
     came-mine i m M l ws c = subst (λ (x : List ℕ). CodesCame form mac x n l ws) (sym (M .same-key)) c
@@ -172,7 +172,7 @@ module _ (form : Form) where
             let M = I .mods (site c) lo hi in
             subst (λ (l : List Entry). LogInv form key n faulty (Off (c ∷ cs)) (modules form mac key n (c ∷ cs)) l) (sym log-is)
             (log-add form key n faulty (Off cs) (Off (c ∷ cs)) off-before (modules form mac key n cs) (modules form mac key n (c ∷ cs)) new (log form mac key n cs) (site c) s e at top lo hi I
-            (subst (λ (x : ℕ). Proper form x s) (M .same-n) p) (mine ∙ M .same-number) high (module-now form mac key n c cs ∙ a) (module-other form mac key n c cs) sj ss)
+            (subst (λ (x : ℕ). Proper form x s) (M .same-n) p) (mine ∙ M .same-site) high (module-now form mac key n c cs ∙ a) (module-other form mac key n c cs) sj ss)
 
         reads-spoke : (s : Statement) → reads form new ≡ bare s ∷ [] → reads form (log form mac key n (c ∷ cs)) ≡ bare s ∷ reads form (log form mac key n cs)
         reads-spoke s e = ap (reads form) log-is ∙ reads-append form new (log form mac key n cs) ∙ ap (λ (x : List Statement). x ++ reads form (log form mac key n cs)) e
@@ -186,7 +186,7 @@ module _ (form : Form) where
         one-read s p mine e =
             let M = I .mods (site c) lo hi in
             let q : Proper form n s = subst (λ (x : ℕ). Proper form x s) (M .same-n) p in
-            rw e (entry-read form n (site c) s top q, entry-at form n (site c) s top q (mine ∙ M .same-number))
+            rw e (entry-read form n (site c) s top q, entry-at form n (site c) s top q (mine ∙ M .same-site))
 
     -- the stations of a site whose call was a coding, and of the others
     keep-lines : (c : Call) (cs : List Call) (I : Inv cs) → ((i k : ℕ) → lineage form mac key n (c ∷ cs) i k ≡ lineage form mac key n cs i k) → Lines (reads form (log form mac key n cs)) (lineage form mac key n (c ∷ cs))

@@ -8,10 +8,9 @@ use native.Mathlib.Omega.{arith}
 use lib.ListN.{getD, take, replicate}
 use Rattle.laws.specs.Count.{count}
 use Rattle.format.specs.Form.{present-form}
-use Rattle.format.specs.Numbers.{kind-P, kind-V, none, D-GET, R-GET}
+use Rattle.format.specs.Numbers.{kind-P, kind-V, none, D-GET, R-GET, head-mark, mark-bit}
 use Rattle.format.specs.Group.{backing}
 use Rattle.format.specs.Words.{value-bit, station-bit}
-use Rattle.format.specs.Bundle.{head-mark, mark-bit}
 use Rattle.format.specs.Present.{statement-words, words-at, main-of}
 use Rattle.rules.specs.declared.Which.the-variants.{Any}
 use Rattle.certificate.specs.Present.{check-by}

@@ -9,9 +9,8 @@ use mathlib.Core.Path.{_≡_, refl, sym, ap, _∙_}
 use native.Mathlib.Omega.{arith}
 use Rattle.laws.specs.Count.{count}
 use Rattle.format.specs.Form.{present-form}
-use Rattle.format.specs.Numbers.{kind-P, kind-V, none, D-GET, conflicting}
+use Rattle.format.specs.Numbers.{kind-P, kind-V, none, D-GET, conflicting, head-mark, mark-bit}
 use Rattle.format.specs.Group.{backing}
-use Rattle.format.specs.Bundle.{head-mark, mark-bit}
 use Rattle.format.specs.Present.{words-at}
 use Rattle.agreement.specs.Demand.{opens, gives, codes, Call, call, found, member}
 use Rattle.agreement.specs.Theorems.Theorem.{demand-3-by}

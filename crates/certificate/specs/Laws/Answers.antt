@@ -8,10 +8,10 @@ use lib.ListN.{length, getD}
 use Rattle.laws.specs.Pick.{pick}
 use Rattle.laws.specs.Bools.{join}
 use Rattle.laws.specs.Refusals.{first-failed}
-use Rattle.format.specs.Numbers.{out-of-range, malformed}
+use Rattle.format.specs.Numbers.{out-of-range, malformed, count-bits}
 use Rattle.format.specs.declared.Fields.{Fields}
 use Rattle.format.specs.Words.{fields-of}
-use Rattle.format.specs.Bundle.{count-bits, count-in}
+use Rattle.format.specs.Bundle.{count-in}
 use Rattle.format.specs.Present.{statement-words, bundle-words, place-of, size-fits, formed, statement, words-at, fields-at, head-fits, laid-out, all-formed, main-of, certificate-of}
 use Rattle.rules.specs.declared.Which.{Which}
 use Rattle.rules.specs.Rules.{which}

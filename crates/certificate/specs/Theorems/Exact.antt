@@ -10,11 +10,12 @@ use borrow.Author.Tests.{eqb-true, eq-eqb, leb-true, le-leb}
 use Rattle.laws.specs.Bools.{both, join}
 use Rattle.laws.specs.Refusals.{all-passed, none-failed}
 use Rattle.laws.specs.All.{All, all-map}
+use Rattle.format.specs.Numbers.{head-mark, mark-bit, middle-bits, count-bits}
 use Rattle.format.specs.Form.{Form, most-stations, head-bits, fields-at, bundle-words}
 use Rattle.format.specs.Statement.{Statement, statements, verifies, well-formed, formed}
 use Rattle.format.specs.Lists.{every}
 use Rattle.hmac.specs.Code.{hmac-code}
-use Rattle.format.specs.Bundle.{head-mark, mark-bit, middle-bits, count-bits, head-fits, count-in, laid-out, main-of, certificate-of, all-formed, bundle-fits}
+use Rattle.format.specs.Bundle.{head-fits, count-in, laid-out, main-of, certificate-of, all-formed, bundle-fits}
 use Rattle.format.specs.Laws.Layout.{formed-well}
 use Rattle.rules.specs.declared.Which.the-variants.{Any}
 use Rattle.certificate.specs.Check.{one-question, check-tests, check-by, judged, checked}

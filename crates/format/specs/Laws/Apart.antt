@@ -8,11 +8,11 @@ use lib.Dec.{eqb}
 use lib.ListN.{getD}
 use borrow.Author.Tests.{eqb-true}
 use Rattle.laws.specs.Bools.{both}
-use Rattle.format.specs.Numbers.{kind-V, D-GET}
+use Rattle.format.specs.Numbers.{kind-V, D-GET, head-mark, mark-bit, middle-bits, count-bits}
 use Rattle.format.specs.Words.{word-of}
 use Rattle.format.specs.Form.{Form, first-form, wide-form, last-round, head-bits}
 use Rattle.format.specs.Statement.{Statement}
-use Rattle.format.specs.Bundle.{head-mark, mark-bit, middle-bits, count-bits, head-fits, laid-out, all-written, bundle-of}
+use Rattle.format.specs.Bundle.{head-fits, laid-out, all-written, bundle-of}
 
 -- station 3's vote for 1 on question 7 in a round, with the code 11 to 18
 abbrev vote-in : ℕ → Statement

@@ -10,9 +10,10 @@ use lib.ListN.{length, getD, take, drop}
 use borrow.Author.Tests.{eqb-true, ltb-true, ltb-false, leb-true}
 use Rattle.laws.specs.Pick.{pick}
 use Rattle.laws.specs.Bools.{both}
+use Rattle.format.specs.Numbers.{head-mark, mark-bit, middle-bits, count-bits}
 use Rattle.format.specs.Form.{Form, most-statements, head-bits, statement-words, place-of, bundle-words}
 use Rattle.format.specs.Statement.{Statement, statement, statements}
-use Rattle.format.specs.Bundle.{head-mark, mark-bit, middle-bits, count-bits, head-fits, count-in, laid-out}
+use Rattle.format.specs.Bundle.{head-fits, count-in, laid-out}
 use Rattle.laws.specs.Least.{least}
 
 module _ (form : Form) where

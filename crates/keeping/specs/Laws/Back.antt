@@ -16,12 +16,12 @@ use Rattle.format.specs.Form.{present-form}
 use Rattle.format.specs.Group.{quorum}
 use Rattle.format.specs.Words.{fields-of, station-of}
 use Rattle.format.specs.Statement.{Statement}
-use Rattle.format.specs.Bundle.{count-in, head-mark, mark-bit}
+use Rattle.format.specs.Bundle.{count-in}
 use Rattle.format.specs.Laws.Layout.{covered-read}
 use Rattle.certificate.specs.Present.{IsBundle}
 use Rattle.format.specs.Laws.Parts.{parts-length}
 use Rattle.format.specs.Present.{statement-words, formed, statement, statements, word-0, written, main-of, certificate-of, all-formed, all-written, bundle-of, place-of}
-use Rattle.format.specs.Numbers.{code-words}
+use Rattle.format.specs.Numbers.{code-words, head-mark, mark-bit}
 use Rattle.station.specs.Words.{set-of}
 use Rattle.station.specs.Fit.{zeros}
 use Rattle.station.specs.Present.{held-in, slot-of, slots-of, group-words, sites, kept-words, slots-words, slot-fits, slots-fit}

@@ -140,7 +140,7 @@ module _ (n site : ℕ) (t : Station) (ws : List ℕ) (top : n ≤ most-stations
       = rw (takes-by (supplies-for-none (t .stage))) (group-after (takes (supplies-for-none (t .stage)) (held-by t) (main-of ws)) (t .groups .none) (state-of t .for-none) (for-none-same n site t L A F top)) in
       λ i.
       record {
-        identity = record { n = F .same-n i; station = F .same-number i; question = t .identity .question };
+        identity = record { n = F .same-n i; station = F .same-site i; question = t .identity .question };
         stage = t .stage;
         closed = t .closed;
         lasting = t .lasting;

@@ -41,7 +41,7 @@ pub record LowWords (t : Station) : Type 0 where
 -- what fits says of an open station's arrays
 pub record Fit (n site : ℕ) (t : Station) : Type 0 where
   pub same-n : t .identity .n ≡ n
-  pub same-number : t .identity .station ≡ site
+  pub same-site : t .identity .station ≡ site
   pub no-more : t .held .heard < 2 ^ sites
   pub slots : slots-fit n (t .identity .question) (stage-step (t .stage)) (t .held .heard) (t .held .slots) 0 sites ≡ true
   pub for-value : group-fits n (t .identity .question) (kept-for-value n (t .stage) (held-by t)) (t .groups .value) ≡ true
@@ -61,7 +61,7 @@ fit-out n site t h shut =
     let v = both (stage-fits (t .stage) (getD (t .held .slots) ((site - 1) * statement-words) 0) && leb (t .lasting .decision) none) _ (u .0) in
     record {
       same-n = eqb-true _ _ (i .0);
-      same-number = eqb-true _ _ (i .1);
+      same-site = eqb-true _ _ (i .1);
       no-more = ltb-true _ _ (e .0);
       slots = c .1;
       for-value = v .1;
@@ -137,7 +137,7 @@ one-form n site t top L A h shut =
     let d = for-none-same n site t L A F top in
     λ i.
     record {
-      identity = record { n = F .same-n i; station = F .same-number i; question = t .identity .question };
+      identity = record { n = F .same-n i; station = F .same-site i; question = t .identity .question };
       stage = t .stage;
       closed = t .closed;
       lasting = t .lasting;

@@ -104,10 +104,10 @@ module _ (G : Ground present-form) where
   -- a station made by opening and changed only by these calls fits
   reached-fits : (i : ℕ) (t : Station) → Reached mac key n i t → fits n i t ≡ true
   reached-fits i _ (by-opening m question v jump out mine u) =
-      subst (λ (z : ℕ). fits n z (opening mac m question v jump out .station) ≡ true) (mine .same-number)
+      subst (λ (z : ℕ). fits n z (opening mac m question v jump out .station) ≡ true) (mine .same-site)
       (subst (λ (z : ℕ). fits z (m .station) (opening mac m question v jump out .station) ≡ true) (mine .same-n) (opening-fits present-form mac eight m question v jump out u))
   reached-fits i _ (by-giving {t} r m ws coin out mine u) =
-      subst (λ (z : ℕ). fits n z (giving mac m t ws coin out .station) ≡ true) (mine .same-number)
+      subst (λ (z : ℕ). fits n z (giving mac m t ws coin out .station) ≡ true) (mine .same-site)
       (subst (λ (z : ℕ). fits z (m .station) (giving mac m t ws coin out .station) ≡ true) (mine .same-n) (giving-fits present-form mac eight m t ws coin out (reached-good present-form mac key n eight i t r .lengths) u))
 
   module _ (cs : List Call) (P : Premises G cs) where
@@ -163,7 +163,7 @@ module _ (G : Ground present-form) where
       ranged : (module-fits m && ltb coin 2 && fits (m .n) (m .station) t) ≡ true
       ranged =
           subst (λ (z : ℕ). ((size-fits z && of-group z (m .station)) && ltb coin 2 && fits z (m .station) t) ≡ true) (sym (mine .same-n))
-          (subst (λ (y : ℕ). ((size-fits n && of-group n y) && ltb coin 2 && fits n y t) ≡ true) (sym (mine .same-number))
+          (subst (λ (y : ℕ). ((size-fits n && of-group n y) && ltb coin 2 && fits n y t) ≡ true) (sym (mine .same-site))
           (join ((size-fits n && of-group n x) && ltb coin 2) _
           (join (size-fits n && of-group n x) _
           (join (size-fits n) _ (join (leb 2 n) _ (le-leb 2 n low) (le-leb n most-stations top)) (join (leb 1 x) _ (le-leb 1 x (range-x .0)) (le-leb x n (range-x .1))))

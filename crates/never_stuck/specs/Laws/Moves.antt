@@ -108,7 +108,7 @@ module _ (G : Ground present-form) (q : ℕ) where
     mm = record { key = key; n = n; station = x; last = modules mac key n cs x .last }
 
     m-is : modules mac key n cs x ≡ mm
-    m-is = λ i. record { key = mine .same-key i; n = mine .same-n i; station = mine .same-number i; last = modules mac key n cs x .last }
+    m-is = λ i. record { key = mine .same-key i; n = mine .same-n i; station = mine .same-site i; last = modules mac key n cs x .last }
 
     a-is : answer mac key n cs g ≡ returned mm t room (giving-outcome mac mm t ws coin room)
     unfolding Rattle.agreement.specs.Demand.act Rattle.station.specs.Calls.giving

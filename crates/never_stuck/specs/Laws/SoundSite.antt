@@ -36,7 +36,7 @@ module _ (G : Ground present-form) where
     module-of = record { key = key; n = n; station = i; last = modules mac key n cs i .last }
 
     pub in-group : OfGroup key n i module-of
-    in-group = record { same-key = refl; same-n = refl; same-number = refl }
+    in-group = record { same-key = refl; same-n = refl; same-site = refl }
 
   module _ (faulty : List ℕ) (cs : List Call) (i : ℕ) (site : SoundSite faulty cs i) where
     open SoundSite site using (low, high, before, course-of)
@@ -45,7 +45,7 @@ module _ (G : Ground present-form) where
     as-shown = before .logs .mods i low high
 
     pub module-is : modules mac key n cs i ≡ module-of cs i
-    module-is = λ z. record { key = as-shown .same-key z; n = as-shown .same-n z; station = as-shown .same-number z; last = modules mac key n cs i .last }
+    module-is = λ z. record { key = as-shown .same-key z; n = as-shown .same-n z; station = as-shown .same-site z; last = modules mac key n cs i .last }
 
     -- a call that is refused changes nothing
     pub refused-course : (a : Action) (t : Station) (out : List ℕ) (k : ℕ) → unrefused k ≡ false → answer mac key n cs (call i a) ≡ returned (module-of cs i) t out (Mach.refused k)

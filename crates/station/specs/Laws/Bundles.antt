@@ -11,10 +11,10 @@ use borrow.Author.Tests.{eqb-true, eqb-false, ltb-true, ltb-false}
 use Rattle.laws.specs.Bools.{never, join}
 use Rattle.laws.specs.All.{All, all-map}
 use Rattle.format.specs.Form.{Form, most-stations, most-statements, head-bits, fields-at, statement-words, bundle-words, count-fits, head-in-bits, groups-fit}
-use Rattle.format.specs.Numbers.{least-stations}
+use Rattle.format.specs.Numbers.{least-stations, head-mark, mark-bit, count-bits}
 use Rattle.format.specs.Laws.Group.{backing-most}
 use Rattle.format.specs.Statement.{Statement, statement, statements, written, verifies, formed}
-use Rattle.format.specs.Bundle.{head-mark, mark-bit, count-bits, count-in, main-of, certificate-of, all-formed, all-written, bundle-of}
+use Rattle.format.specs.Bundle.{count-in, main-of, certificate-of, all-formed, all-written, bundle-of}
 use Rattle.rules.specs.Rules.{Backed, rule-1, rule-2, rule-3, rule-4, rule-5, rule-6, rule-7, some-D-GET}
 use Rattle.certificate.specs.Valid.{IsBundle, Valid}
 use Rattle.station.specs.Laws.ReadBack.{statements-drop, statements-back, length-all}

@@ -256,7 +256,7 @@ module _ (form : Form) where
           go _ (no-opening e) u = never _ e u
           go _ (begins room r p a) u =
               let b = began (m .n) question (undecided (eqb jump 1)) Gathering (init-statement form mac m question v out) [] in
-              subst (λ (i : ℕ). Good i (W.as-station form (m .n) (m .station) b)) (G .same-number)
+              subst (λ (i : ℕ). Good i (W.as-station form (m .n) (m .station) b)) (G .same-site)
               (good-state (m .station) (m .n) b (r .at-most) (r .low) (r .high)
               (init-sane form mac eight m question v (eqb jump 1) r p)
               (subst (λ (c : List ℕ). Certain (mac c) b) (G .same-key)
@@ -274,7 +274,7 @@ module _ (form : Form) where
           of-key {u} c = subst (λ (x : List ℕ). Certain (mac x) u) (G .same-key) c
 
           here : (u : State) → Good (m .station) (W.as-station form (m .n) (m .station) u) → Good site (W.as-station form (m .n) (m .station) u)
-          here u g = subst (λ (i : ℕ). Good i (W.as-station form (m .n) (m .station) u)) (G .same-number) g
+          here u g = subst (λ (i : ℕ). Good i (W.as-station form (m .n) (m .station) u)) (G .same-site) g
 
           go : (o : Outcome) → Gives form mac m t ws coin out o → unrefused (returned form m t out o .number) ≡ true → Good site (returned form m t out o .station)
           go _ (refuses e) u = never _ e u

@@ -18,8 +18,7 @@ use Rattle.laws.specs.Bools.{both, never}
 use Rattle.laws.specs.Sets.{bit}
 use Rattle.laws.specs.Over.{over, over-snoc, put-behind}
 use Rattle.format.specs.Group.{quorum}
-use Rattle.format.specs.Bundle.{head-mark, mark-bit}
-use Rattle.format.specs.Numbers.{code-words}
+use Rattle.format.specs.Numbers.{code-words, head-mark, mark-bit}
 use Rattle.format.specs.Present.{bundle-words, most-statements, output-words, place-of, statement-words}
 use Rattle.station.specs.Present.{sites}
 use Rattle.writer.specs.Written.{segment, held-words, main-words, words-of, writable, lent-after, count-after, with-word, copyable, copy-after, copy-count}
