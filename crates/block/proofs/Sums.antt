@@ -1,5 +1,5 @@
 -- The sums of a block's end. Assumes nothing.
-use Rattle.std.proofs.Common.{◌≡◌, ℕ, suc, ◌+◌, ◌<◌, List, [], ◌∷◌, length, get_or, sym, refl, ap, ◌∙◌, arith, ext_get_or}
+use Rattle.std.proofs.Common.{◌≡◌, ℕ, List, [], ◌∷◌, length, get_or, sym, refl, arith}
 use Rattle.compression.specs.Compression.{plus, summed}
 
 -- a list of eight is its elements
