@@ -6,7 +6,7 @@ ghost use Rattle.format.specs.Present.{statement_words, statement};
 ghost use Rattle.hmac.specs.Code.{hmac_code};
 ghost use Rattle.sealed.specs.Sealed.{with_value};
 ghost use Rattle.sealed.specs.Answers.{Answered};
-ghost use Rattle.sealed.specs.Laws.Answers.{Tested, lent-with};
+ghost use Rattle.sealed.specs.Laws.Answers.{Tested, lent_with};
 ghost use Rattle.sealed.specs.Present.{coding, coding_plain, coding_coin};
 
 use format::{CODE_WORDS, COVERED_WORDS, Fields};
@@ -76,7 +76,7 @@ fn put_code(ws: &mut [u32], code: [u32; CODE_WORDS])
 // The value put in, bits 26..24 zero, and the code over it stored, in one call: no value is handed out before it is coded.
 fn sign(key: [u8; 32], ws: &mut [u32], value: u32)
     requires { length ws.old ≡ statement_words }
-    ensures { ws.new ≡ lent-with key ws.old value }
+    ensures { ws.new ≡ lent_with key ws.old value }
 {
     let f = format::read_fields(ws[0]);
     let round = f.round;

@@ -6,7 +6,7 @@ use Rattle.station.specs.Calls.{Returned}
 
 pub record Answers (x : Returned) (number count : ℕ) (t : Station) (after : Module) (lent : List ℕ) : Type 0 where
   pub number_is : number ≡ x.number
-  pub count-is : count ≡ x.count
-  pub station-is : t ≡ x.station
+  pub count_is : count ≡ x.count
+  pub station_is : t ≡ x.station
   pub after_is : after ≡ x.after
   pub lent_is : lent ≡ x.lent

@@ -30,9 +30,9 @@ pub any_code : (code other : List ℕ → List ℕ) (n : ℕ) (asked : Which) (w
 unfolding Rattle.certificate.specs.Check.check_by first_failed pick Rattle.format.specs.Bundle.bundle_fits Rattle.format.specs.Bundle.all_formed
 any_code code other n asked ws same = go (formed n (fields_at ws (place_of 0))) (which asked (main_of ws).question) refl refl
   where
-    no-right : (a b : Bool) → b ≡ false → (a && b) ≡ false
-    no-right true b e = e
-    no-right false b e = refl
+    no_right : (a b : Bool) → b ≡ false → (a && b) ≡ false
+    no_right true b e = e
+    no_right false b e = refl
 
     no_middle : (a b c : Bool) → b ≡ false → (a && (b && c)) ≡ false
     no_middle true b c e = rw e
@@ -40,22 +40,22 @@ any_code code other n asked ws same = go (formed n (fields_at ws (place_of 0))) 
 
     go : (f b : Bool) → formed n (fields_at ws (place_of 0)) ≡ f → which asked (main_of ws).question ≡ b → check_by code n asked ws ≡ check_by other n asked ws
     go true true p e = ap (λ (c : List ℕ → List ℕ). check_by c n asked ws) (same (join _ _ p e))
-    go true false p e = rw (no-right (one_question (main_of ws) (certificate_of ws)) (which asked (main_of ws).question) e)
+    go true false p e = rw (no_right (one_question (main_of ws) (certificate_of ws)) (which asked (main_of ws).question) e)
     go false b p e = rw (no_middle (laid_out ws) (formed n (fields_at ws (place_of 0))) (all_formed n ws (1 + statement_words) (count_in ws)) p)
 
 module _ (key : List ℕ) (n : ℕ) (asked : Which) (ws : List ℕ) where
-  walk-judged : walk (hmac_code key) n asked ws ≡ judged key n asked ws
+  walk_judged : walk (hmac_code key) n asked ws ≡ judged key n asked ws
   unfolding Rattle.certificate.specs.Check.judged
-  walk-judged = walk_exact (hmac_code key) n asked ws
+  walk_judged = walk_exact (hmac_code key) n asked ws
 
-  pub judged-size : size_fits n ≡ false → out_of_range ≡ judged key n asked ws
+  pub judged_size : size_fits n ≡ false → out_of_range ≡ judged key n asked ws
   unfolding walk pick
-  judged-size a = rw a at walk-judged
+  judged_size a = rw a at walk_judged
 
   module _ (a : size_fits n ≡ true) where
-    pub judged-layout : laid_out ws ≡ false → malformed ≡ judged key n asked ws
+    pub judged_layout : laid_out ws ≡ false → malformed ≡ judged key n asked ws
     unfolding walk pick
-    judged-layout b = rw (a, b) at walk-judged
+    judged_layout b = rw (a, b) at walk_judged
 
     module _ (b : laid_out ws ≡ true) where
       walk_is : (code : List ℕ → List ℕ)
@@ -73,8 +73,8 @@ module _ (key : List ℕ) (n : ℕ) (asked : Which) (ws : List ℕ) where
         first : fields_at t 0 ≡ fields_at ws (place_of 0)
         first = rw read (fields_read ws 1)
 
-        asked-for : get_or t 1 0 ≡ (main_of ws).question
-        asked-for = rw read (word_1_read ws 1)
+        asked_for : get_or t 1 0 ≡ (main_of ws).question
+        asked_for = rw read (word_1_read ws 1)
 
         stated : statement t 0 ≡ main_of ws
         stated = rw read (statement_read ws 1)
@@ -85,8 +85,8 @@ module _ (key : List ℕ) (n : ℕ) (asked : Which) (ws : List ℕ) where
         any : check_by code n asked ws ≡ judged key n asked ws
         unfolding Rattle.certificate.specs.Check.judged
         any =
-            let known : (good && fits) ≡ (formed n (fields_at ws 1) && which asked (main_of ws).question) = rw (p, q, fields, asked-for) in
+            let known : (good && fits) ≡ (formed n (fields_at ws 1) && which asked (main_of ws).question) = rw (p, q, fields, asked_for) in
             any_code code (hmac_code key) n asked ws (λ h. same (known ∙ h))
 
-        pub judged-walk : x ≡ judged key n asked ws
-        judged-walk = found ∙ rw (begins, counted, fields, asked-for) (walk_is code) ∙ walk_exact code n asked ws ∙ any
+        pub judged_walk : x ≡ judged key n asked ws
+        judged_walk = found ∙ rw (begins, counted, fields, asked_for) (walk_is code) ∙ walk_exact code n asked ws ∙ any

@@ -18,7 +18,7 @@ refusal-requires : tie.Need-refusal-requires
 refusal-requires c κs = search rules
 
 finish-requires : tie.Need-finish-requires
-finish-requires c κs = c.before.refusal.ensures.ten-words
+finish-requires c κs = c.before.refusal.ensures.ten_words
 
 same_length : tie.Need-same-length
 same_length c = search rules

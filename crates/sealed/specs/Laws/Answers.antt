@@ -12,14 +12,14 @@ use Rattle.sealed.specs.Present.{coding_tests, signed}
 -- a refusal's number, by the table's order; and that what is not refused has ten words
 pub record Tested (m : Module) (ws : List ℕ) (range way : Bool) (number : ℕ) : Type 0 where
   pub number_is : number ≡ first_failed (test range out_of_range ∷ coding_tests m ws way)
-  pub ten-words : number ≡ 0 → length ws ≡ statement_words
+  pub ten_words : number ≡ 0 → length ws ≡ statement_words
 
 -- word 0 with another value, bits 26..24 zero
-unfoldable pub word-with : ℕ → ℕ → ℕ
-word-with w v =
+unfoldable pub word_with : ℕ → ℕ → ℕ
+word_with w v =
     word_of
     (record { kind = kind_of w; value = v; flag = flag_of w; spare = 0; station = station_of w; round = record { 0 = round_of w } })
 
 -- the ten words of a statement with a value put in and coded
-unfoldable pub lent-with : List ℕ → List ℕ → ℕ → List ℕ
-lent-with key ws v = written (signed (hmac_code key) (with_value v (statement ws 0)))
+unfoldable pub lent_with : List ℕ → List ℕ → ℕ → List ℕ
+lent_with key ws v = written (signed (hmac_code key) (with_value v (statement ws 0)))
