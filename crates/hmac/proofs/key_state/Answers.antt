@@ -1,0 +1,6 @@
+-- The calls, one inside the other, are the definition.
+use borrow.Author.Rules.{rules}
+use Rattle.hmac.proofs.key_state.Goals as goal
+
+pub returns : goal.returns
+returns c = cc
