@@ -7,7 +7,7 @@ use compression::Working;
 use std::num::wrapping_add_u32 as add;
 
 // After forty-eight rounds: the whole schedule, and the working variables.
-#[derive(Drop)]
+#[derive(Clone, Copy)]
 struct Half {
     words: [u32; 64],
     v: Working,

@@ -46,7 +46,7 @@ const ALL_WORDS: usize = BUFFERS_AT + 128 * (BUFFER_WORDS + 1);
 const LINE_BYTES: usize = 800;
 
 // What a setting copies, and whether its numbers are fine.
-#[derive(Drop)]
+#[derive(Clone, Copy)]
 struct Copied {
     fine: bool,
     to: usize,
@@ -55,7 +55,7 @@ struct Copied {
 }
 
 // A run of equal words that a setting puts, the length that it sets and its place, and whether the setting's numbers are fine.
-#[derive(Drop)]
+#[derive(Clone, Copy)]
 struct Run {
     fine: bool,
     at: usize,
@@ -67,7 +67,7 @@ struct Run {
 
 // Where the registers begin that a call names: what it takes, what it lends, and the buffer that is given. Register 0 stands where it names
 // none: nothing of it changes.
-#[derive(Drop)]
+#[derive(Clone, Copy)]
 struct Named {
     readable: bool,
     module: usize,
@@ -77,7 +77,7 @@ struct Named {
 }
 
 // The returned number and the word count.
-#[derive(Drop)]
+#[derive(Clone, Copy)]
 struct Answer {
     number: u32,
     count: usize,
@@ -854,7 +854,7 @@ fn read_line(text: &[u8], registers: &mut [u32]) -> bool
 }
 
 // How far the script is read: how many bytes of the line are there, the line's number from 1 on, and whether the run goes on.
-#[derive(Drop)]
+#[derive(Clone, Copy)]
 struct Place {
     held: usize,
     number: u64,

@@ -5,7 +5,7 @@ ghost use Rattle.compression.specs.Steps.{scheduled, stepped};
 use std::num::wrapping_add_u32 as add;
 
 // The eight working variables.
-#[derive(Drop)]
+#[derive(Clone, Copy)]
 pub struct Working {
     pub a: u32,
     pub b: u32,

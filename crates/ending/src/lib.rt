@@ -13,7 +13,7 @@ use rules::Which;
 use station::{Lasting, SLOTS_WORDS, Stage};
 
 // The kept group that stands in a certificate: none, or the one for a value, which in round 1 is INITs, or the one for a none vote.
-#[derive(Drop)]
+#[derive(Clone, Copy)]
 pub enum Kept {
     Nothing,
     Inits,
@@ -23,7 +23,7 @@ pub enum Kept {
 
 // What follows a step: the statement, but for its station, question and code; its certificate, the held statements of a set of stations and
 // behind them a kept group; and the next stage.
-#[derive(Drop)]
+#[derive(Clone, Copy)]
 pub struct Following {
     pub kind: u32,
     pub value: u32,

@@ -125,15 +125,15 @@ pub const CLOSED_NOW: u32 = 22;
 pub const JUMPED: u32 = 23;
 
 // A round's number. It is compared with rounds only.
-#[derive(Drop)]
+#[derive(Clone, Copy)]
 pub struct Round(pub u32);
 
 // A step's number: 0 for INIT, 2r for P and 2r + 1 for V of round r. It is compared with steps only.
-#[derive(Drop)]
+#[derive(Clone, Copy)]
 pub struct Step(pub u64);
 
 // The fields of word 0 of a statement.
-#[derive(Drop)]
+#[derive(Clone, Copy)]
 pub struct Fields {
     pub kind: u32,
     pub value: u32,

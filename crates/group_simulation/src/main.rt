@@ -37,7 +37,7 @@ const PATIENCE: u32 = 16;
 
 // What a host keeps of its site: module and station as the last call returned them; question and step of its last bundle, the question 0 before the first;
 // whether it has decided, and in how many turns since; and whether its vote of the round behind the deciding one is written, or there was no question yet.
-#[derive(Drop)]
+#[derive(Clone, Copy)]
 struct Site {
     own: Module,
     station: Station,
@@ -49,7 +49,7 @@ struct Site {
 }
 
 // What is counted.
-#[derive(Drop)]
+#[derive(Clone, Copy)]
 struct Counts {
     packets: u64,
     lost: u64,
@@ -60,7 +60,7 @@ struct Counts {
 }
 
 // A site after a call, the number that was answered, and the counts.
-#[derive(Drop)]
+#[derive(Clone, Copy)]
 struct Heard {
     site: Site,
     number: u32,
@@ -68,7 +68,7 @@ struct Heard {
 }
 
 // Both sites after a packet and its answer.
-#[derive(Drop)]
+#[derive(Clone, Copy)]
 struct Passed {
     from: Site,
     to: Site,

@@ -5,21 +5,21 @@ ghost use Rattle.sha256.specs.Sha256.{words, initial, limit};
 ghost use Rattle.hmac.specs.Hmac.{zero_filled, key_block, masked, keyed};
 
 // A key's two states: after the block of the key with ipad, and after that with opad.
-#[derive(Drop)]
+#[derive(Clone, Copy)]
 pub struct Prepared {
     pub inner: [u32; 8],
     pub outer: [u32; 8],
 }
 
 // What preparing a key answers: 0 and the states, or 3 and zeros.
-#[derive(Drop)]
+#[derive(Clone, Copy)]
 pub struct Keyed {
     pub number: u32,
     pub key: Prepared,
 }
 
 // What coding words answers: 0 and the code, or 3 and zeros.
-#[derive(Drop)]
+#[derive(Clone, Copy)]
 pub struct Code {
     pub number: u32,
     pub words: [u32; 8],

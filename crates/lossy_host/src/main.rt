@@ -13,14 +13,14 @@ use libc::STDOUT_FILENO;
 use modules::Module;
 use station::Station;
 
-#[derive(Drop)]
+#[derive(Clone, Copy)]
 struct Bundle {
     words: [u32; OUTPUT_WORDS],
     count: usize,
 }
 
 // What a host keeps of its site: module and station as the last call returned them, and its last bundle.
-#[derive(Drop)]
+#[derive(Clone, Copy)]
 struct Site {
     own: Module,
     station: Station,

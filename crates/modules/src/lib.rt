@@ -7,7 +7,7 @@ ghost use Rattle.modules.specs.Present.{module_fits, making};
 use format::{LEAST_STATIONS, MOST_STATIONS, Step};
 
 // The last pair that a module coded, or none.
-#[derive(Drop)]
+#[derive(Clone, Copy)]
 pub struct Last {
     pub coded: bool,
     pub question: u32,
@@ -15,7 +15,7 @@ pub struct Last {
 }
 
 // A sealed module: the group's key and size, its own station number, and the last pair that it coded.
-#[derive(Drop)]
+#[derive(Clone, Copy)]
 pub struct Module {
     pub key: [u8; 32],
     pub n: u32,
@@ -24,7 +24,7 @@ pub struct Module {
 }
 
 // What making a module answers: 0 and the module, or 2 and the all-zero module.
-#[derive(Drop)]
+#[derive(Clone, Copy)]
 pub struct Made {
     pub number: u32,
     pub made: Module,

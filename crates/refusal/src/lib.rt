@@ -13,7 +13,7 @@ use station::{SLOTS_WORDS, Stage, Station};
 
 // What is found of a bundle given to a station: the number of its first refusal, or 0; the main statement's fields, read off word 1; and whether a statement
 // with these makes the station jump.
-#[derive(Drop)]
+#[derive(Clone, Copy)]
 pub struct Finding {
     pub number: u32,
     pub fields: Fields,

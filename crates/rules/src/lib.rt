@@ -7,14 +7,14 @@ ghost use Rattle.rules.specs.Groups.{proposal_group, vote_group};
 use format::{D_GET, Fields, INIT, NONE, P, R_GET, Round, V};
 
 // What a group asks of a value or a flag.
-#[derive(Drop)]
+#[derive(Clone, Copy)]
 pub enum Which {
     Any,
     Only(u32),
 }
 
 // A certificate group: how many statements, of which kind and round, with which value and flag.
-#[derive(Drop)]
+#[derive(Clone, Copy)]
 pub struct Group {
     pub size: u32,
     pub kind: u32,

@@ -13,7 +13,7 @@ use format::{CODE_WORDS, COVERED_WORDS, Fields};
 use modules::{Last, Module};
 
 // What coding answers: the returned number and the module after the call. The statement's words are lent.
-#[derive(Drop)]
+#[derive(Clone, Copy)]
 pub struct Coded {
     pub number: u32,
     pub after: Module,

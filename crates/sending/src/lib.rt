@@ -9,7 +9,7 @@ use modules::Module;
 use station::{Identity, KEPT_WORDS, Lasting, SLOTS_WORDS, Stage, Station};
 
 // What sending answers: the word count, the station and the module. The bundle's words are lent.
-#[derive(Drop)]
+#[derive(Clone, Copy)]
 pub struct Sent {
     pub count: usize,
     pub station: Station,

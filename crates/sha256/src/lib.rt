@@ -3,14 +3,14 @@ ghost use Rattle.std.specs.Prelude.{◌≡◌, ◌+◌, ◌*◌, ◌/◌, ◌^�
 ghost use Rattle.sha256.specs.Sha256.{words, bytes, initial, blocks};
 
 // What a hash answers: 0 and the digest, or 3 and zeros.
-#[derive(Drop)]
+#[derive(Clone, Copy)]
 pub struct Digest {
     pub number: u32,
     pub bytes: [u8; 32],
 }
 
 // What a hash that goes on from a state answers: 0 and the state, or 3 and zeros.
-#[derive(Drop)]
+#[derive(Clone, Copy)]
 pub struct Hashed {
     pub number: u32,
     pub state: [u32; 8],

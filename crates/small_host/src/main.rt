@@ -17,14 +17,14 @@ use station::Station;
 // The steps whose bundles a site keeps. A real host keeps all of the question; here nobody gets so far.
 const STEPS: usize = 16;
 
-#[derive(Drop)]
+#[derive(Clone, Copy)]
 struct Bundle {
     words: [u32; OUTPUT_WORDS],
     count: usize,
 }
 
 // What a host keeps of its site: module and station as the last call returned them, and its number; its own bundles by step, and the last one.
-#[derive(Drop)]
+#[derive(Clone, Copy)]
 struct Site {
     own: Module,
     station: Station,

@@ -8,7 +8,7 @@ pub const SLOTS_WORDS: usize = MOST_STATIONS as usize * STATEMENT_WORDS;
 pub const KEPT_WORDS: usize = (MOST_STATIONS as usize / 2 + 1) * STATEMENT_WORDS;
 
 // A station is in one of three stages.
-#[derive(Drop)]
+#[derive(Clone, Copy)]
 pub enum Stage {
     Gathering,
     Proposing(Round, u32),
@@ -16,7 +16,7 @@ pub enum Stage {
 }
 
 // Whose station it is, and on which question.
-#[derive(Drop)]
+#[derive(Clone, Copy)]
 pub struct Identity {
     pub n: u32,
     pub station: u32,
@@ -24,28 +24,28 @@ pub struct Identity {
 }
 
 // The statements of the step: the set of stations heard, one bit for each, and a slot of ten words for each station.
-#[derive(Drop)]
+#[derive(Clone, Copy)]
 pub struct Held {
     pub heard: u32,
     pub slots: [u32; SLOTS_WORDS],
 }
 
 // The certificate groups that a later bundle will need: one with a value, and a none vote.
-#[derive(Drop)]
+#[derive(Clone, Copy)]
 pub struct Groups {
     pub value: [u32; KEPT_WORDS],
     pub none: [u32; KEPT_WORDS],
 }
 
 // What outlasts a step: whether the station jumps onto bundles of later steps, a setting that its opening gave it, and its decision, or 2.
-#[derive(Drop)]
+#[derive(Clone, Copy)]
 pub struct Lasting {
     pub jump: bool,
     pub decision: u32,
 }
 
 // A station.
-#[derive(Drop)]
+#[derive(Clone, Copy)]
 pub struct Station {
     pub identity: Identity,
     pub stage: Stage,
@@ -56,7 +56,7 @@ pub struct Station {
 }
 
 // What a call on a station answers: the returned number, the word count, the station and the module. The output words are lent.
-#[derive(Drop)]
+#[derive(Clone, Copy)]
 pub struct Answer {
     pub number: u32,
     pub count: usize,

@@ -30,14 +30,14 @@ const JUMP_AT: usize = NONE_AT + KEPT_WORDS;
 pub const STATION_WORDS: usize = JUMP_AT + 1;
 
 // What reading answers: 0 and the station, or 3 and the station that is none.
-#[derive(Drop)]
+#[derive(Clone, Copy)]
 pub struct Reading {
     pub number: u32,
     pub station: Station,
 }
 
 // What writing answers: the returned number and the word count. The words are lent.
-#[derive(Drop)]
+#[derive(Clone, Copy)]
 pub struct Written {
     pub number: u32,
     pub count: usize,

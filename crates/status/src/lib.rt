@@ -7,7 +7,7 @@ use modules::Module;
 use station::{Stage, Station};
 
 // What reading answers: the returned number; the decision on the question asked for, or none (2); the stage, its round, and whether the station is closed.
-#[derive(Drop)]
+#[derive(Clone, Copy)]
 pub struct Status {
     pub number: u32,
     pub decision: u32,

@@ -7,14 +7,14 @@ use valley_console::Run;
 use valley_world::Phase;
 
 // How far a piece is taken.
-#[derive(Drop)]
+#[derive(Clone, Copy)]
 struct Place {
     run: Run,
     at: usize,
 }
 
 // How far the input is read.
-#[derive(Drop)]
+#[derive(Clone, Copy)]
 struct Reading {
     run: Run,
     going: bool,

@@ -11,7 +11,7 @@ const UNREADABLE: usize = 1000000;
 
 // How far standard input is read: the bytes of the lent space from at on, up to len, are there and not taken. Where the input has ended, or is not as
 // it has to be, it does not go on.
-#[derive(Drop)]
+#[derive(Clone, Copy)]
 struct Place {
     at: usize,
     len: usize,
@@ -19,21 +19,21 @@ struct Place {
 }
 
 // The next byte, and the place behind it.
-#[derive(Drop)]
+#[derive(Clone, Copy)]
 struct Got {
     byte: u8,
     place: Place,
 }
 
 // A number, and the place behind it.
-#[derive(Drop)]
+#[derive(Clone, Copy)]
 struct Number {
     value: usize,
     place: Place,
 }
 
 // The numbers of a case: the lengths of its head and its body, how often the body comes, and the size of the pieces.
-#[derive(Drop)]
+#[derive(Clone, Copy)]
 struct Frame {
     head: usize,
     body: usize,
@@ -43,7 +43,7 @@ struct Frame {
 }
 
 // How far a piece is fed.
-#[derive(Drop)]
+#[derive(Clone, Copy)]
 struct Fed {
     run: Run,
     at: usize,

@@ -13,7 +13,7 @@ use valley_world::{Phase, World};
 
 // The run between two pieces of input: the number of the line that is being read, and the bytes of it that are there. No line of more than 22
 // bytes can be read, so that of a longer one the first 23 tell enough.
-#[derive(Drop)]
+#[derive(Clone, Copy)]
 pub struct Run {
     pub phase: Phase,
     pub number: u64,
@@ -23,7 +23,7 @@ pub struct Run {
 }
 
 // What taking a piece answers: how many of its bytes were taken, how many bytes were printed, and the run. The printed bytes are lent.
-#[derive(Drop)]
+#[derive(Clone, Copy)]
 pub struct Taken {
     pub used: usize,
     pub count: usize,
@@ -31,7 +31,7 @@ pub struct Taken {
 }
 
 // What is found in a piece of input: how many of its bytes are taken, whether a newline ended the line, and the line so far.
-#[derive(Drop)]
+#[derive(Clone, Copy)]
 struct Scanned {
     used: usize,
     ended: bool,

@@ -10,7 +10,7 @@ use valley_lines::Line;
 use valley_world::{Bundle, Call, Phase, World};
 
 // What a line did: how the run goes on, and how many bytes it printed. The printed bytes are lent.
-#[derive(Drop)]
+#[derive(Clone, Copy)]
 pub struct Done {
     pub phase: Phase,
     pub world: World,

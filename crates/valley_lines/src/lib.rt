@@ -4,7 +4,7 @@ ghost use Rattle.valley_lines.specs.Read.{space, split, all_digits, is_number, r
 ghost use Rattle.valley_lines.specs.Words.{word_length};
 
 // What a line says. `Unreadable` is a line that can't be read.
-#[derive(Drop)]
+#[derive(Clone, Copy)]
 pub enum Line {
     Group(u32),
     Open(u32, u32),

@@ -11,14 +11,14 @@ use modules::Module;
 use station::Station;
 
 // A bundle as it was written: the word count, and the lent words.
-#[derive(Drop)]
+#[derive(Clone, Copy)]
 pub struct Bundle {
     pub count: usize,
     pub words: [u32; OUTPUT_WORDS],
 }
 
 // The group as the run goes: the module and the station of each number from 1 to 7, how many bundles are written, and these in their order.
-#[derive(Drop)]
+#[derive(Clone, Copy)]
 pub struct World {
     pub modules: [Module; 7],
     pub stations: [Station; 7],
@@ -27,7 +27,7 @@ pub struct World {
 }
 
 // How far the run is: at the first line, behind it, or ended by a bad line.
-#[derive(Drop)]
+#[derive(Clone, Copy)]
 pub enum Phase {
     First,
     Running,
@@ -35,7 +35,7 @@ pub enum Phase {
 }
 
 // What a call on a station returned: its number, the count and the words of its bundle, the station and the module.
-#[derive(Drop)]
+#[derive(Clone, Copy)]
 pub struct Call {
     pub number: u32,
     pub count: usize,

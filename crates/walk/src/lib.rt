@@ -18,7 +18,7 @@ use rules::{Group, Which};
 const MOST: u32 = MOST_STATEMENTS as u32;
 
 // All that passes from one statement of the certificate to the next: nine words of 32 bits, each flag counted as one.
-#[derive(Drop)]
+#[derive(Clone, Copy)]
 pub struct Findings {
     // the number of the statement that is next, the main statement's being 0
     pub place: u32,
@@ -39,7 +39,7 @@ pub struct Findings {
 }
 
 // The ten words of a statement, read once.
-#[derive(Drop)]
+#[derive(Clone, Copy)]
 pub struct Taken {
     pub words: [u32; STATEMENT_WORDS],
 }
