@@ -1,5 +1,5 @@
 -- The sealed module's coding: plain, and with the coin (document 01, "The sealed module"). The module and its last pair are those of crate modules.
-use Rattle.std.specs.Prelude.{ℕ, Bool, not, ◌&&◌, List, [], ◌∷◌, eqb, ltb, get_or, length}
+use Rattle.std.specs.Prelude.{ℕ, Bool, not, ◌&&◌, List, [], ◌∷◌, eqb, ltb, length}
 use Rattle.laws.specs.Pick.{pick}
 use Rattle.laws.specs.Refusals.{Test, test, first_failed}
 use Rattle.format.specs.Form.{Form, fields_at, statement_words}

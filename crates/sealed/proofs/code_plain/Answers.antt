@@ -1,11 +1,7 @@
 -- The refusal and the answer are those of the definition, since the tests and the value are.
 use mathlib.Core.Path.{refl}
 use Rattle.sealed.proofs.Coding.{plain_is, by}
-use borrow.Author.Rules.{rules}
 use Rattle.sealed.proofs.code_plain.Goals as goal
-
-pub finish-requires : goal.finish-requires
-finish-requires c = c.refusal-number.ensures.ten_words
 
 pub returns : goal.returns
 returns c =

@@ -5,7 +5,6 @@ use Rattle.format.specs.Present.{statement as statement-in}
 use Rattle.hmac.specs.Code.{hmac_code}
 use Rattle.sealed.specs.Sealed.{with_value}
 use Rattle.sealed.proofs.Coding.{refused, finished}
-use borrow.Author.Rules.{rules}
 use Rattle.sealed.proofs.finish.Goals as goal
 
 pub bounds-ws-0 : goal.bounds-ws-0

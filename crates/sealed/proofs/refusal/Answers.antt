@@ -1,6 +1,5 @@
 -- The tests on what was read are those of the definition.
 use Rattle.sealed.proofs.Coding.{refusal_is}
-use borrow.Author.Rules.{rules}
 use Rattle.sealed.proofs.refusal.Goals as goal
 
 pub returns : goal.returns

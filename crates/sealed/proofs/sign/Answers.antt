@@ -1,11 +1,9 @@
 -- The value goes into word 0, and the code of words 0 and 1 behind them.
-use mathlib.Core.Path.{◌≡◌, ap, ◌∙◌}
-use lib.ListN.{length, set, length-set}
+use mathlib.Core.Path.{ap, ◌∙◌}
 use Rattle.format.specs.declared.Fields.{Fields}
 use Rattle.format.specs.Words.{fields_of, word_of}
 use Rattle.sealed.specs.Laws.Answers.{word_with}
 use Rattle.sealed.proofs.Coding.{signed_is}
-use borrow.Author.Rules.{rules}
 use Rattle.sealed.proofs.sign.Goals as goal
 
 pub returns : goal.returns
