@@ -1,14 +1,7 @@
 -- The invariant: what is passed from here on has the answer of all. Each turn is one unfolding of the definition, and the loop's test says that the words are there.
 use Prim.Native.Nat.{◌+◌, ◌-◌, ◌^◌, ◌≤◌}
-use mathlib.Core.Bool.{not}
-use mathlib.Core.Path.{refl, ◌∙◌}
-use native.Mathlib.Omega.{arith}
-use lib.Dec.{leb}
 use lib.ListN.{length}
-use borrow.Author.Tests.{leb-true}
-use Rattle.laws.specs.Bools.{both}
-use Rattle.glance.specs.Glance.{Glancing, glance_turn, glance_end}
-use borrow.Author.Rules.{rules}
+use Rattle.glance.specs.Glance.{Glancing}
 use Rattle.glance.proofs.answer_behind.Given as goal
 
 abbrev pub invariant-loop-malformed : goal.invariant-loop-malformed
