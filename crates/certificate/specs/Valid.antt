@@ -1,5 +1,5 @@
 -- Demand 2: "a message is found valid exactly if a rule backs it", stated. `check_exact` in Exact proves it.
-use Rattle.std.specs.Prelude.{ℕ, suc, ◌+◌, ◌/◌, ◌%◌, ◌^◌, ◌≤◌, true, List, ◌≡◌, get_or, length}
+use Rattle.std.specs.Prelude.{ℕ, suc, ◌/◌, ◌%◌, ◌^◌, ◌≤◌, true, List, ◌≡◌, get_or, length}
 use Rattle.laws.specs.All.{All}
 use Rattle.format.specs.Form.{Form, most_stations, most_statements, head_bits, bundle_words}
 use Rattle.format.specs.Numbers.{least_stations, head_mark, mark_bit, count_bits, middle_bits}

@@ -1,5 +1,5 @@
 -- A statement's ten words, read from a bundle; and the code from a prepared key.
-use Rattle.std.specs.Prelude.{ℕ, ◌+◌, ◌-◌, ◌≤◌, ◌<◌, List, [], ◌∷◌, ◌≡◌, refl, length, get_or, set, take, drop}
+use Rattle.std.specs.Prelude.{ℕ, ◌+◌, ◌≤◌, ◌<◌, List, [], ◌∷◌, ◌≡◌, refl, length, get_or, set, take, drop}
 use Rattle.std.proofs.Common.{sym, ap, ◌∙◌, add-one, arith, length-drop, drop-drop, get_or-drop, get_or-take, take_all, take-suc, take-suc-set, take-take, lt-ltb}
 use Rattle.laws.specs.Pick.{here}
 use Rattle.format.specs.Numbers.{code_words}
