@@ -1,0 +1,17 @@
+-- By what the calls answer, each group by itself.
+use Rattle.keeping.specs.Kept.{groups_with}
+use borrow.Author.Rules.{rules}
+use Rattle.keeping.proofs.groups_with.Goals as goal
+
+pub returns : goal.returns
+unfolding groups_with
+returns c =
+    rw (
+      c.group_after-value.ensures,
+      c.group_after-none.ensures,
+      c.is_lowest-a.ensures,
+      c.is_lowest-b.ensures,
+      c.for_value.ensures,
+      c.for_none.ensures,
+      c.quorum-q.ensures,
+    )
