@@ -1,5 +1,5 @@
 -- A station's words with one bundle more: a definition that is total, by the words alone. `Law` ties it to the state's definition, `keeping`.
-use Rattle.std.specs.Prelude.{ℕ, ◌-◌, ◌*◌, Bool, not, ◌&&◌, List, ◌++◌, eqb, leb, length, get_or, take, drop, replicate}
+use Rattle.std.specs.Prelude.{ℕ, ◌-◌, ◌*◌, Bool, not, ◌&&◌, List, ◌++◌, eqb, leb, length, take, drop, replicate}
 use Rattle.std.proofs.Math.Seq.{paste}
 use Rattle.laws.specs.Pick.{pick}
 use Rattle.format.specs.Group.{quorum}

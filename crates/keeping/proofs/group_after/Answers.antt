@@ -1,7 +1,6 @@
 -- Each way out is a case of the definition.
 use mathlib.Core.Path.{refl, ◌∙◌}
 use Rattle.laws.specs.Pick.{here, skip}
-use borrow.Author.Rules.{rules}
 use Rattle.keeping.proofs.group_after.Goals as goal
 
 pub returns-then-replaced : goal.returns-then-replaced

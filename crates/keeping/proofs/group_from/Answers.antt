@@ -1,9 +1,7 @@
 -- The invariant: the first i words are copied, and zeros stand behind them. Each turn copies one more.
-use Prim.Native.Nat.{◌-◌, ◌≤◌}
 use mathlib.Core.Path.{◌≡◌, refl, ◌∙◌}
-use mathlib.Core.List.{◌++◌}
 use native.Mathlib.Omega.{arith}
-use lib.ListN.{length, take, drop, replicate}
+use lib.ListN.{length}
 use Rattle.keeping.specs.Kept.{words_kept, group_from}
 use Rattle.keeping.specs.Laws.Turns.{kept_room, group_turn}
 use borrow.Author.Rules.{rules}

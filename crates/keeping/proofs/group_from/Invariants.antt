@@ -1,12 +1,8 @@
 -- The invariant: the first i words are copied, and zeros stand behind them. Each turn copies one more.
 use Prim.Native.Nat.{◌-◌, ◌≤◌}
-use mathlib.Core.Path.{◌≡◌, refl, ◌∙◌}
+use mathlib.Core.Path.{◌≡◌}
 use mathlib.Core.List.{◌++◌}
-use native.Mathlib.Omega.{arith}
 use lib.ListN.{length, take, drop, replicate}
-use Rattle.keeping.specs.Kept.{words_kept, group_from}
-use Rattle.keeping.specs.Laws.Turns.{kept_room, group_turn}
-use borrow.Author.Rules.{rules}
 use Rattle.keeping.proofs.group_from.Given as goal
 
 abbrev pub invariant-loop-i : goal.invariant-loop-i

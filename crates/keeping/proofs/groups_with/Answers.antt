@@ -1,6 +1,5 @@
 -- By what the calls answer, each group by itself.
 use Rattle.keeping.specs.Kept.{groups_with}
-use borrow.Author.Rules.{rules}
 use Rattle.keeping.proofs.groups_with.Goals as goal
 
 pub returns : goal.returns

@@ -1,6 +1,5 @@
 -- By what the calls answer, field by field.
 use Rattle.keeping.specs.Kept.{with_bundle}
-use borrow.Author.Rules.{rules}
 use Rattle.keeping.proofs.keep.Goals as goal
 
 pub returns : goal.returns

@@ -2,8 +2,10 @@
 use mathlib.Core.Path.{◌∙◌}
 use Rattle.keeping.specs.Kept.{words_kept}
 use Rattle.keeping.specs.Laws.Turns.{none_kept}
-use borrow.Author.Rules.{rules}
 use Rattle.keeping.proofs.words_kept.Goals as goal
+
+pub returns-then-have-lt-CERTIFICATE_AT : goal.returns-then-have-lt-CERTIFICATE_AT
+returns-then-have-lt-CERTIFICATE_AT c = none_kept c.args.q c.args.have c.if-have-lt-CERTIFICATE_AT.true
 
 pub returns : goal.returns
 unfolding words_kept

@@ -1,17 +1,9 @@
 -- In each turn the front holds the words of the set's slots so far; a slot is written behind them into the rest that is lent.
-use Prim.Native.Nat.{ℕ, ◌+◌, ◌-◌, ◌*◌, ◌≤◌}
-use mathlib.Core.Path.{◌≡◌, refl, sym, ap, ◌∙◌}
-use mathlib.Core.List.{List, ◌++◌}
-use native.Mathlib.Omega.{arith}
+use Prim.Native.Nat.{◌-◌, ◌*◌, ◌≤◌}
+use mathlib.Core.Path.{◌≡◌}
 use lib.ListN.{length}
-use mathlib.Core.Bool.{true, false}
-use mathlib.Core.Logic.{⊎_elim}
-use Rattle.laws.specs.Pick.{via}
-use Rattle.laws.specs.Sets.{bit}
-use Rattle.laws.specs.Over.{over, length_over, put_behind}
-use Rattle.writer.specs.Written.{segment, held_words}
-use Rattle.writer.specs.Laws.Writing.{held_begin, held_in_turn, held_out_turn, held_longer}
-use borrow.Author.Rules.{rules}
+use Rattle.laws.specs.Over.{over}
+use Rattle.writer.specs.Written.{held_words}
 use Rattle.writer.proofs.write_held.Given as goal
 
 abbrev pub invariant-loop-i : goal.invariant-loop-i

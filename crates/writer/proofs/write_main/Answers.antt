@@ -24,3 +24,23 @@ slice_bounds-copy_words-start c = simp length-set (omega arith)
 
 pub copy_words-requires : goal.copy_words-requires
 copy_words-requires c = simp (length-take, length-drop, length-set) (omega arith)
+
+pub shape_of-out : goal.shape_of-out
+shape_of-out c =
+    let done : (let a = c.args in
+    let xs = set (set (set a.out.now 0 (3 * 2 ^ 30 + a.count)) 1 a.w0) 2 a.question in
+    put_mid 3 (length xs - 3) xs c.copy_words.new.out ≡ over (main_words a.count a.w0 a.question) a.out.now) =
+    let a = c.args in
+    main_done a.count a.w0 a.question a.out.now c.copy_words.new.out _ (search rules) refl c.copy_words.ensures in
+    let a = c.args in
+    ap length done ∙ length_over (main_words a.count a.w0 a.question) a.out.now
+    (omega (arith, length_main a.count a.w0 a.question))
+
+pub returns : goal.returns
+returns c =
+    let done : (let a = c.args in
+    let xs = set (set (set a.out.now 0 (3 * 2 ^ 30 + a.count)) 1 a.w0) 2 a.question in
+    put_mid 3 (length xs - 3) xs c.copy_words.new.out ≡ over (main_words a.count a.w0 a.question) a.out.now) =
+    let a = c.args in
+    main_done a.count a.w0 a.question a.out.now c.copy_words.new.out _ (search rules) refl c.copy_words.ensures in
+    done
