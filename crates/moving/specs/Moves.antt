@@ -2,7 +2,7 @@
 use Rattle.std.specs.Prelude.{ℕ, ◌||◌, List, eqb, ltb}
 use Rattle.laws.specs.Pick.{pick}
 use Rattle.format.specs.declared.Fields.{Fields}
-use Rattle.format.specs.Numbers.{none, kept, sent, sent_decided, not_above}
+use Rattle.format.specs.Numbers.{none, sent, sent_decided, not_above}
 use Rattle.format.specs.Group.{quorum, backing}
 use Rattle.format.specs.Words.{step_of}
 use Rattle.modules.specs.declared.Module.{Module}

@@ -19,7 +19,7 @@ use Rattle.station.specs.Laws.Views.{Jumping, jump_statement}
 use Rattle.station.specs.Laws.Fits.{jump_proper}
 use Rattle.station.specs.Theorems.Written.{jump_few}
 use Rattle.station.specs.Theorems.Seal.{range_fits}
-use Rattle.station.specs.Present.{state_of, returned, on_bundle}
+use Rattle.station.specs.Present.{returned, on_bundle}
 use Rattle.keeping.specs.Laws.Back.{bundle_back}
 use Rattle.sending.specs.Sends.{own_fields, copy_count_is, copy_lent_is, copy_station_is, copy_after_is}
 use Rattle.jumping.specs.Jumps.{value_by, copied_fields, stage_by, given_fields, jump_words, jumping}

@@ -5,7 +5,7 @@ use borrow.Author.Tests.{not-true, not-false}
 use Rattle.laws.specs.Pick.{here, skip}
 use Rattle.format.specs.declared.Fields.{Fields}
 use Rattle.format.specs.declared.Step.{Step}
-use Rattle.format.specs.Numbers.{not_above, kept}
+use Rattle.format.specs.Numbers.{not_above}
 use Rattle.format.specs.Words.{step_of, step_in}
 use Rattle.modules.specs.declared.Module.{Module}
 use Rattle.modules.specs.Counter.{above, last_for}
