@@ -6,7 +6,6 @@ use lib.ListN.{take, drop}
 use lib.Seq.{length-take-le}
 use Rattle.valley_lines.specs.Laws.Words.{end_inside}
 use Rattle.valley_lines.specs.Laws.Says.{three_words, four_words, more_words}
-use borrow.Author.Rules.{rules}
 use Rattle.valley_lines.proofs.read_longer.Goals as goal
 
 pub slice_bounds-read_open-end : goal.slice_bounds-read_open-end
