@@ -2,7 +2,6 @@
 use native.Mathlib.Omega.{arith}
 use Rattle.valley_printing.specs.Laws.Width.{decimal_64}
 use Rattle.valley_printing.specs.Laws.Put.{bad_line_put}
-use borrow.Author.Rules.{rules}
 use Rattle.valley_printing.proofs.bad_line.Goals as goal
 
 pub put_number-end-requires : goal.put_number-end-requires
