@@ -15,7 +15,7 @@ use Rattle.station.specs.Answers.{Answers}
 use Rattle.station.specs.Present.{no_station, opening, giving}
 use Rattle.valley_world.specs.declared.Bundle.{Bundle}
 use Rattle.valley_world.specs.declared.World.{World}
-use Rattle.valley_world.specs.Valley.{most_n, most_bundles, no_bundle, group_of, at_number, module_at, station_at, bundle_at, the_question, jump_off, the_output, opens, after, shown_step, shown_decision, is_open, gives}
+use Rattle.valley_world.specs.Valley.{most_n, most_bundles, no_bundle, group_of, at_number, module_at, station_at, bundle_at, the_question, jump_off, the_output, opens, shown_step, shown_decision, is_open, gives}
 
 pub answer_parts : (x : Returned) (number count : ℕ) (t : Station) (m : Module) (lent : List ℕ) → Answers x number count t m lent
     → ◌≡◌ {A = Returned} (record { number = number; count = count; station = t; after = m; lent = lent }) x

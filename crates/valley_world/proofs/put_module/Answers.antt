@@ -1,0 +1,18 @@
+-- Where the number has no place nothing is replaced.
+use borrow.Author.Rules.{rules}
+use Rattle.valley_world.specs.Laws.Places.{low, high, put_inside, put_outside}
+use Rattle.valley_world.proofs.put_module.Goals as goal
+
+pub returns-then-s : goal.returns-then-s
+returns-then-s c = let a = c.args in
+    put_outside a.modules 7 a.s a.m (search rules) c.if-s.true
+
+pub overflow_sub-i : goal.overflow_sub-i
+overflow_sub-i c = low 7 c.args.s c.if-s.false
+
+pub bounds-changed-i : goal.bounds-changed-i
+bounds-changed-i c = high 7 c.args.s c.if-s.false
+
+pub returns : goal.returns
+returns c = let a = c.args in
+    put_inside a.modules 7 a.s a.m c.if-s.false
