@@ -1,117 +1,121 @@
 // Prints the digests and codes of the published examples (FIPS 180-4, RFC 4231) and of every length around a block's boundaries, one a line,
 // in hex. The expected lines come from another implementation (tests/hash_vectors.py).
+#![tactic(auto)]
+
 use hmac::{Code, Prepared};
-use libc::STDOUT_FILENO;
 use sha256::Digest;
+use std::io;
 
 // A line of hex digits, two for each byte.
-fn show(d: &[u8]) {
-    let mut i = 0;
-    while i < d.len() {
-        io::print_hex(STDOUT_FILENO, d[i] as u64, 2);
-        i += 1;
+fn show(rt: &impl Print, d: &[u8]) -> io::Result<()> {
+    for byte in d {
+        print!(rt; "{byte:02x}")?;
     }
-    io::write_all(STDOUT_FILENO, b"\n");
+    println!(rt)
 }
 
 // A line of hex digits, eight for each word.
-fn show_words(ws: [u32; 8]) {
-    let mut i = 0;
-    while i < 8 {
-        io::print_hex(STDOUT_FILENO, ws[i] as u64, 8);
-        i += 1;
+fn show_words(rt: &impl Print, ws: [u32; 8]) -> io::Result<()> {
+    for word in &ws {
+        print!(rt; "{word:08x}")?;
     }
-    io::write_all(STDOUT_FILENO, b"\n");
+    println!(rt)
 }
 
 // The line of a call that answered another number than 0.
-fn refused(number: u32) {
-    io::write_all(STDOUT_FILENO, b"refused ");
-    io::print_decimal(STDOUT_FILENO, number as u64);
-    io::write_all(STDOUT_FILENO, b"\n");
+fn refused(rt: &impl Print, number: u32) -> io::Result<()> {
+    println!(rt; "refused {number}")
 }
 
-fn show_first(d: [u8; 32], n: usize) {
+fn show_first(rt: &impl Print, d: [u8; 32], n: usize) -> io::Result<()> {
     if n <= 32 {
-        show(&d[..n]);
+        show(rt, &d[..n])?;
     }
+    Ok(())
 }
 
 // The first n bytes of a digest, where there is one.
-fn show_digest(d: Digest, n: usize) {
+fn show_digest(rt: &impl Print, d: Digest, n: usize) -> io::Result<()> {
     let number = d.number;
     let bytes = d.bytes;
     if number != 0 {
-        refused(number);
+        refused(rt, number)
     } else {
-        show_first(bytes, n);
+        show_first(rt, bytes, n)
     }
 }
 
-fn show_code(c: Code) {
+fn show_code(rt: &impl Print, c: Code) -> io::Result<()> {
     let number = c.number;
     let words = c.words;
     if number != 0 {
-        refused(number);
+        refused(rt, number)
     } else {
-        show_words(words);
+        show_words(rt, words)
     }
 }
 
-fn hash(m: &[u8]) {
-    show_digest(digest::sha256(m), 32);
+fn hash(rt: &impl Print, m: &[u8]) -> io::Result<()> {
+    show_digest(rt, digest::sha256(m), 32)
 }
 
-fn code(k: &[u8], m: &[u8]) {
-    show_digest(codes::hmac(k, m), 32);
+fn code(rt: &impl Print, k: &[u8], m: &[u8]) -> io::Result<()> {
+    show_digest(rt, codes::hmac(k, m), 32)
 }
 
 // FIPS 180-4's examples.
-fn fips() {
-    hash(b"");
-    hash(b"abc");
-    hash(b"abcdbcdecdefdefgefghfghighijhijkijkljklmklmnlmnomnopnopq");
+fn fips(rt: &impl Print) -> io::Result<()> {
+    hash(rt, b"")?;
+    hash(rt, b"abc")?;
     hash(
+        rt,
+        b"abcdbcdecdefdefgefghfghighijhijkijkljklmklmnlmnomnopnopq",
+    )?;
+    hash(
+        rt,
         b"abcdefghbcdefghicdefghijdefghijkefghijklfghijklmghijklmnhijklmnoijklmnopjklmnopqklmnopqrlmnopqrsmnopqrstnopqrstu",
-    );
+    )
 }
 
-fn hash_million(m: [u8; 1000000]) {
-    hash(&m);
+fn hash_million(rt: &impl Print, m: [u8; 1000000]) -> io::Result<()> {
+    hash(rt, &m)
 }
 
 // RFC 4231's test cases 1 to 4.
-fn rfc_first() {
+fn rfc_first(rt: &impl Print) -> io::Result<()> {
     let key1 = [0x0bu8; 20];
-    code(&key1, b"Hi There");
-    code(b"Jefe", b"what do ya want for nothing?");
+    code(rt, &key1, b"Hi There")?;
+    code(rt, b"Jefe", b"what do ya want for nothing?")?;
     let key3 = [0xaau8; 20];
     let data3 = [0xddu8; 50];
-    code(&key3, &data3);
+    code(rt, &key3, &data3)?;
     let data4 = [0xcdu8; 50];
     code(
+        rt,
         b"\x01\x02\x03\x04\x05\x06\x07\x08\x09\x0a\x0b\x0c\x0d\x0e\x0f\x10\x11\x12\x13\x14\x15\x16\x17\x18\x19",
         &data4,
-    );
+    )
 }
 
 // RFC 4231's test case 5, cut to 128 bits.
-fn rfc_cut() {
+fn rfc_cut(rt: &impl Print) -> io::Result<()> {
     let key = [0x0cu8; 20];
-    show_digest(codes::hmac(&key, b"Test With Truncation"), 16);
+    show_digest(rt, codes::hmac(&key, b"Test With Truncation"), 16)
 }
 
 // RFC 4231's test cases 6 and 7.
-fn rfc_last() {
+fn rfc_last(rt: &impl Print) -> io::Result<()> {
     let key = [0xaau8; 131];
     code(
+        rt,
         &key,
         b"Test Using Larger Than Block-Size Key - Hash Key First",
-    );
+    )?;
     code(
+        rt,
         &key,
         b"This is a test using a larger than block-size key and a larger than block-size data. The key needs to be hashed before being used by the HMAC algorithm.",
-    );
+    )
 }
 
 // The bytes 0, 1, 2 and so on.
@@ -125,22 +129,24 @@ fn counting() -> [u8; 130] {
     r
 }
 
-fn hash_each_length(p: [u8; 130]) {
+fn hash_each_length(rt: &impl Print, p: [u8; 130]) -> io::Result<()> {
     let mut n = 0;
     while n <= 130 {
-        hash(&p[..n]);
+        hash(rt, &p[..n])?;
         n += 1;
     }
+    Ok(())
 }
 
 // Keys of each length from the front of k, and what is left to 130 bytes from the front of m.
-fn code_each_length(k: [u8; 130], m: [u8; 130]) {
+fn code_each_length(rt: &impl Print, k: [u8; 130], m: [u8; 130]) -> io::Result<()> {
     let mut n = 0;
     while n <= 130 {
         let left = 130 - n;
-        code(&k[..n], &m[..left]);
+        code(rt, &k[..n], &m[..left])?;
         n += 1;
     }
+    Ok(())
 }
 
 // The multiples of 0x01020304 from the first on.
@@ -154,41 +160,41 @@ fn multiples() -> [u32; 14] {
     r
 }
 
-fn code_each_count(key: Prepared, ws: [u32; 14]) {
+fn code_each_count(rt: &impl Print, key: Prepared, ws: [u32; 14]) -> io::Result<()> {
     let mut n = 0;
     while n <= 13 {
-        show_code(codes::code_words(key, &ws[..n]));
+        show_code(rt, codes::code_words(key, &ws[..n]))?;
         n += 1;
     }
+    Ok(())
 }
 
 // The number alone of a call that refuses: one word too many.
-fn code_too_many(key: Prepared, ws: [u32; 14]) {
+fn code_too_many(rt: &impl Print, key: Prepared, ws: [u32; 14]) -> io::Result<()> {
     let c = codes::code_words(key, &ws);
-    io::print_hex(STDOUT_FILENO, c.number as u64, 2);
-    io::write_all(STDOUT_FILENO, b"\n");
+    println!(rt; "{:02x}", c.number)
 }
 
-fn word_codes(p: [u8; 130]) {
+fn word_codes(rt: &impl Print, p: [u8; 130]) -> io::Result<()> {
     let k = hmac::prepare(&p[..32]);
     let number = k.number;
     let key = k.key;
     if number != 0 {
-        refused(number);
+        refused(rt, number)
     } else {
-        code_each_count(key, multiples());
-        code_too_many(key, multiples());
+        code_each_count(rt, key, multiples())?;
+        code_too_many(rt, key, multiples())
     }
 }
 
-fn main() {
-    fips();
-    hash_million([b'a'; 1000000]);
-    rfc_first();
-    rfc_cut();
-    rfc_last();
+fn main(rt: HostRuntime) -> io::Result<()> {
+    fips(&rt)?;
+    hash_million(&rt, [b'a'; 1000000])?;
+    rfc_first(&rt)?;
+    rfc_cut(&rt)?;
+    rfc_last(&rt)?;
     let p = counting();
-    hash_each_length(p);
-    code_each_length(p, p);
-    word_codes(p);
+    hash_each_length(&rt, p)?;
+    code_each_length(&rt, p, p)?;
+    word_codes(&rt, p)
 }
