@@ -1,8 +1,11 @@
 // The console program valley (document 01, "The program valley"): it reads standard input in pieces, feeds them to the run, and writes what the run
 // prints. What is printed for an input is the definition `valley` of the crate world, however the input is cut (`every-cutting` of console).
-ghost use Rattle.std.specs.Prelude.{◌≡◌, ◌≤◌, ◌<◌, length};
+#![tactic(auto)]
 
-use libc::{STDIN_FILENO, STDOUT_FILENO};
+ghost use Rattle.std.specs.Prelude.{◌≤◌, ◌<◌, length, IfOk};
+
+use std::io;
+use std::io::{Read, Stdin};
 use valley_console::Run;
 use valley_world::Phase;
 
@@ -21,26 +24,26 @@ struct Reading {
 }
 
 // Writes the printed bytes.
-fn show(out: &[u8; 64], count: usize)
+fn show(rt: &impl Print, out: &[u8; 64], count: usize) -> io::Result<()>
     requires { count ≤ length out.now }
 {
     let bytes = &out[..];
-    io::write_all(STDOUT_FILENO, &bytes[0..count]);
+    rt.write_all(&bytes[0..count])
 }
 
 // Feeds what is left of a piece: the run takes it up to its first newline.
-fn take_line(run: Run, piece: &[u8], at: usize) -> Place
+fn take_line(rt: &impl Print, run: Run, piece: &[u8], at: usize) -> io::Result<Place>
     requires { at < length piece.now }
-    ensures { (at < result.at) × (result.at ≤ length piece.now) }
+    ensures { IfOk result (λ r. (at < r.at) × (r.at ≤ length piece.now)) }
 {
     let mut out = [0u8; 64];
     let t = valley_console::feed(run, &piece[at..], &mut out);
-    show(&out, t.count);
+    show(rt, &out, t.count)?;
     let next = t.run;
-    Place {
+    Ok(Place {
         run: next,
         at: at + t.used,
-    }
+    })
 }
 
 // Whether a bad line has ended the run.
@@ -54,59 +57,58 @@ fn has_ended(run: Run) -> bool {
 }
 
 // Feeds a whole piece, as far as the run goes.
-fn take_piece(run: Run, piece: &[u8]) -> Run {
+fn take_piece(rt: &impl Print, run: Run, piece: &[u8]) -> io::Result<Run> {
     let mut now_run = run;
     let mut at = 0;
     while at < piece.len() {
         if has_ended(now_run) {
-            return now_run;
+            return Ok(now_run);
         }
-        let p = take_line(now_run, piece, at);
+        let p = take_line(rt, now_run, piece, at)?;
         let next = p.run;
         now_run = next;
         at = p.at;
     }
-    now_run
+    Ok(now_run)
 }
 
 // The end of the input.
-fn end(run: Run) {
+fn end(rt: &impl Print, run: Run) -> io::Result<()> {
     let mut out = [0u8; 64];
     let t = valley_console::finish(run, &mut out);
-    show(&out, t.count);
+    show(rt, &out, t.count)
 }
 
 // Reads once, and feeds what came. The run is over when the input has ended or a bad line ended it.
-fn more(run: Run) -> Reading {
-    let mut space = io::large_buffer();
-    let got = libc::read(STDIN_FILENO, &mut space);
-    let n = io::count(got, &space);
+fn more(rt: &impl Print, input: &mut Stdin, run: Run) -> io::Result<Reading> {
+    let mut space = [0u8; 65536];
+    let n = input.read(&mut space)?;
     if n == 0 {
-        end(run);
-        return Reading { run, going: false };
+        end(rt, run)?;
+        return Ok(Reading { run, going: false });
     }
-    let next = take_piece(run, &space[..n]);
-    Reading {
+    let next = take_piece(rt, run, &space[..n])?;
+    Ok(Reading {
         run: next,
         going: !has_ended(next),
-    }
+    })
 }
 
-// Reads until the run is over. A proved loop has to end, and nothing says that an input does: so the loop counts its turns down from 2^64 - 1, which
-// no run uses up.
-fn main() {
+// Reads until the run is over. A proved loop has to end, and nothing says that an input does: so the loop counts its turns, up to 2^64 - 1, which no
+// run uses up.
+fn main(rt: HostRuntime) -> io::Result<()> {
+    let mut input = rt.stdin();
     let mut reading = Reading {
         run: valley_console::start(),
         going: true,
     };
-    let mut turns = u64::MAX;
-    while turns > 0 {
+    for _ in 0..u64::MAX {
         if !reading.going {
-            return;
+            return Ok(());
         }
         let run = reading.run;
-        let next = more(run);
+        let next = more(&rt, &mut input, run)?;
         reading = next;
-        turns -= 1;
     }
+    Ok(())
 }
