@@ -8,10 +8,12 @@
 //
 // Printed are, for each site, what making its module and opening its station returned; for each turn, packet by packet, a dash where it is lost, else what
 // giving the bundle returned; and for each site what reading its station returned, and its decision on question 1, 2 where there is none.
+#![tactic(auto)]
+
 use format::OUTPUT_WORDS;
-use libc::STDOUT_FILENO;
 use modules::Module;
 use station::Station;
+use std::io;
 
 #[derive(Clone, Copy)]
 struct Bundle {
@@ -27,49 +29,49 @@ struct Site {
     last: Bundle,
 }
 
-fn print(text: &[u8], number: u32) {
-    io::write_all(STDOUT_FILENO, text);
-    io::print_decimal(STDOUT_FILENO, number as u64);
+fn print(rt: &impl Print, text: &[u8], number: u32) -> io::Result<()> {
+    rt.write_all(text)?;
+    print!(rt; "{number}")
 }
 
-fn end_line() {
-    io::write_all(STDOUT_FILENO, b"\n");
+fn end_line(rt: &impl Print) -> io::Result<()> {
+    println!(rt)
 }
 
 // Makes the site's module and opens a station on question 1, with jump on.
-fn start(number: u32, proposal: u32) -> Site {
+fn start(rt: &impl Print, number: u32, proposal: u32) -> io::Result<Site> {
     let made = modules::make([7; 32], 3, number);
     let mut words = [0u32; OUTPUT_WORDS];
     let opened = opening::open(made.made, 1, proposal, 1, &mut words);
-    print(b"site ", number);
-    print(b": made ", made.number);
-    print(b", opened ", opened.number);
-    end_line();
+    print(rt, b"site ", number)?;
+    print(rt, b": made ", made.number)?;
+    print(rt, b", opened ", opened.number)?;
+    end_line(rt)?;
     let after = opened.after;
     let station = opened.station;
     let last = Bundle {
         words,
         count: opened.count,
     };
-    Site {
+    Ok(Site {
         own: after,
         station,
         last,
-    }
+    })
 }
 
 // Gives the site a bundle. Module and station that come back are kept, always: at a refusal they are what they were. At 20, 21 and 23 there is a new bundle, to
 // be sent from now on (a real host stores the module durably before it sends); else the last one is sent again.
-fn hear(s: Site, bundle: Bundle, coin: u32) -> Site {
+fn hear(rt: &impl Print, s: Site, bundle: Bundle, coin: u32) -> io::Result<Site> {
     let sent = bundle.words;
     let words = &sent[..];
     let count = bundle.count;
     if words.len() < count {
-        return s;
+        return Ok(s);
     }
     let mut out = [0u32; OUTPUT_WORDS];
     let given = giving::give(s.own, s.station, &words[0..count], coin, &mut out);
-    print(b" ", given.number);
+    print(rt, b" ", given.number)?;
     let after = given.after;
     let then = given.station;
     let mut site = s;
@@ -85,53 +87,53 @@ fn hear(s: Site, bundle: Bundle, coin: u32) -> Site {
         };
         site.last = last;
     }
-    site
+    Ok(site)
 }
 
 // A packet from one site to another with its last bundle: the hearer after it. It is `x` where it is lost, else the coin of the call, `0` or `1`.
-fn send(from: Site, to: Site, packet: u8) -> Site {
+fn send(rt: &impl Print, from: Site, to: Site, packet: u8) -> io::Result<Site> {
     if packet == b'x' {
-        io::write_all(STDOUT_FILENO, b" -");
-        return to;
+        print!(rt; " -")?;
+        return Ok(to);
     }
     let bundle = from.last;
-    hear(to, bundle, (packet == b'1') as u32)
+    hear(rt, to, bundle, (packet == b'1') as u32)
 }
 
 // A turn: each site sends its last bundle to the two others.
-fn turn(sites: [Site; 3], packets: &[u8; 6]) -> [Site; 3] {
-    io::write_all(STDOUT_FILENO, b"given");
+fn turn(rt: &impl Print, sites: [Site; 3], packets: &[u8; 6]) -> io::Result<[Site; 3]> {
+    print!(rt; "given")?;
     let mut all = sites;
-    all[1] = send(all[0], all[1], packets[0]);
-    all[2] = send(all[0], all[2], packets[1]);
-    all[0] = send(all[1], all[0], packets[2]);
-    all[2] = send(all[1], all[2], packets[3]);
-    all[0] = send(all[2], all[0], packets[4]);
-    all[1] = send(all[2], all[1], packets[5]);
-    end_line();
-    all
+    all[1] = send(rt, all[0], all[1], packets[0])?;
+    all[2] = send(rt, all[0], all[2], packets[1])?;
+    all[0] = send(rt, all[1], all[0], packets[2])?;
+    all[2] = send(rt, all[1], all[2], packets[3])?;
+    all[0] = send(rt, all[2], all[0], packets[4])?;
+    all[1] = send(rt, all[2], all[1], packets[5])?;
+    end_line(rt)?;
+    Ok(all)
 }
 
 // Reads the decision on question 1.
-fn tell(number: u32, s: Site) {
+fn tell(rt: &impl Print, number: u32, s: Site) -> io::Result<()> {
     let told = status::read(s.own, s.station, 1);
-    print(b"site ", number);
-    print(b": read ", told.number);
-    print(b", decision ", told.decision);
-    end_line();
+    print(rt, b"site ", number)?;
+    print(rt, b": read ", told.number)?;
+    print(rt, b", decision ", told.decision)?;
+    end_line(rt)
 }
 
-fn main() {
-    let begun = [start(1, 1), start(2, 1), start(3, 0)];
-    let a = turn(begun, b"x10001");
-    let b = turn(a, b"1011x0");
-    let c = turn(b, b"01xxxx");
-    let d = turn(c, b"10x1x1");
-    let e = turn(d, b"x11xx1");
-    let f = turn(e, b"x1x010");
-    let g = turn(f, b"x010x0");
-    let ended = turn(g, b"0x0xx1");
-    tell(1, ended[0]);
-    tell(2, ended[1]);
-    tell(3, ended[2]);
+fn main(rt: HostRuntime) -> io::Result<()> {
+    let begun = [start(&rt, 1, 1)?, start(&rt, 2, 1)?, start(&rt, 3, 0)?];
+    let a = turn(&rt, begun, b"x10001")?;
+    let b = turn(&rt, a, b"1011x0")?;
+    let c = turn(&rt, b, b"01xxxx")?;
+    let d = turn(&rt, c, b"10x1x1")?;
+    let e = turn(&rt, d, b"x11xx1")?;
+    let f = turn(&rt, e, b"x1x010")?;
+    let g = turn(&rt, f, b"x010x0")?;
+    let ended = turn(&rt, g, b"0x0xx1")?;
+    tell(&rt, 1, ended[0])?;
+    tell(&rt, 2, ended[1])?;
+    tell(&rt, 3, ended[2])
 }

@@ -7,12 +7,14 @@
 // Printed are n; for each site what making its module and opening its station returned; each time, packet by packet, a dash where it is lost, else what
 // giving the bundle returned, and at 7, behind the word back, what giving the sender the other one returned; and for each site what reading its station
 // returned, and its decision on question 1, if it has one.
+#![tactic(auto)]
+
 ghost use Rattle.std.specs.Prelude.{◌<◌};
 
 use format::OUTPUT_WORDS;
-use libc::STDOUT_FILENO;
 use modules::Module;
 use station::Station;
+use std::io;
 
 // The steps whose bundles a site keeps. A real host keeps all of the question; here nobody gets so far.
 const STEPS: usize = 16;
@@ -33,9 +35,9 @@ struct Site {
     last: Bundle,
 }
 
-fn print(text: &[u8], number: u32) {
-    io::write_all(STDOUT_FILENO, text);
-    io::print_decimal(STDOUT_FILENO, number as u64);
+fn print(rt: &impl Print, text: &[u8], number: u32) -> io::Result<()> {
+    rt.write_all(text)?;
+    print!(rt; "{number}")
 }
 
 // The step of a bundle, which its second word tells.
@@ -48,39 +50,39 @@ fn step_of(bundle: Bundle) -> usize
 }
 
 // Makes the site's module and opens a station on question 1, with jump off. A site where one of the two is refused has no bundle to send.
-fn start(n: u32, number: u32, proposal: u32) -> Site {
+fn start(rt: &impl Print, n: u32, number: u32, proposal: u32) -> io::Result<Site> {
     let made = modules::make([7; 32], n, number);
     let mut words = [0u32; OUTPUT_WORDS];
     let opened = opening::open(made.made, 1, proposal, 0, &mut words);
-    print(b"\nsite ", number);
-    print(b": made ", made.number);
-    print(b", opened ", opened.number);
+    print(rt, b"\nsite ", number)?;
+    print(rt, b": made ", made.number)?;
+    print(rt, b", opened ", opened.number)?;
     let ready = (made.number == 0) & (opened.number == format::SENT);
     let count = if ready { opened.count } else { 0 };
     let after = opened.after;
     let station = opened.station;
     let last = Bundle { words, count };
-    Site {
+    Ok(Site {
         own: after,
         station,
         answered: opened.number,
         bundles: [last; STEPS],
         last,
-    }
+    })
 }
 
 // Gives the site a bundle. Module and station that come back are kept, always: at a refusal they are what they were. At 20 and 21 there is a new bundle, to be
 // kept and sent from now on (a real host stores the module durably before it sends); else the last one is sent again.
-fn hear(s: Site, bundle: Bundle) -> Site {
+fn hear(rt: &impl Print, s: Site, bundle: Bundle) -> io::Result<Site> {
     let sent = bundle.words;
     let words = &sent[..];
     let count = bundle.count;
     if words.len() < count {
-        return s;
+        return Ok(s);
     }
     let mut out = [0u32; OUTPUT_WORDS];
     let given = giving::give(s.own, s.station, &words[0..count], 0, &mut out);
-    print(b" ", given.number);
+    print(rt, b" ", given.number)?;
     let after = given.after;
     let then = given.station;
     let mut site = s;
@@ -95,60 +97,68 @@ fn hear(s: Site, bundle: Bundle) -> Site {
         site.bundles[step_of(last)] = last;
         site.last = last;
     }
-    site
+    Ok(site)
 }
 
 // A packet from one site to another with its last bundle, and the answer to one of an old step: both sites after it.
-fn send(from: Site, to: Site, lost: u8) -> [Site; 2] {
+fn send(rt: &impl Print, from: Site, to: Site, lost: u8) -> io::Result<[Site; 2]> {
     if lost == b'x' {
-        io::write_all(STDOUT_FILENO, b" -");
-        return [from, to];
+        print!(rt; " -")?;
+        return Ok([from, to]);
     }
     let bundle = from.last;
-    let hearer = hear(to, bundle);
+    let hearer = hear(rt, to, bundle)?;
     if hearer.answered != format::TOO_LATE {
-        return [from, hearer];
+        return Ok([from, hearer]);
     }
-    io::write_all(STDOUT_FILENO, b" back");
-    let sender = hear(from, hearer.bundles[step_of(bundle)]);
-    [sender, hearer]
+    print!(rt; " back")?;
+    let sender = hear(rt, from, hearer.bundles[step_of(bundle)])?;
+    Ok([sender, hearer])
 }
 
 // Each site sends its last bundle to the two others.
-fn exchange(sites: [Site; 3], lost: &[u8; 6]) -> [Site; 3] {
-    io::write_all(STDOUT_FILENO, b"\ngiven");
-    let a = send(sites[0], sites[1], lost[0]);
-    let b = send(a[0], sites[2], lost[1]);
-    let c = send(a[1], b[0], lost[2]);
-    let d = send(c[0], b[1], lost[3]);
-    let e = send(d[1], c[1], lost[4]);
-    let f = send(e[0], d[0], lost[5]);
-    [e[1], f[1], f[0]]
+fn exchange(rt: &impl Print, sites: [Site; 3], lost: &[u8; 6]) -> io::Result<[Site; 3]> {
+    print!(rt; "\ngiven")?;
+    let a = send(rt, sites[0], sites[1], lost[0])?;
+    let b = send(rt, a[0], sites[2], lost[1])?;
+    let c = send(rt, a[1], b[0], lost[2])?;
+    let d = send(rt, c[0], b[1], lost[3])?;
+    let e = send(rt, d[1], c[1], lost[4])?;
+    let f = send(rt, e[0], d[0], lost[5])?;
+    Ok([e[1], f[1], f[0]])
 }
 
 // Reads the decision on question 1. At any number but 0 there is none.
-fn tell(number: u32, s: Site) {
+fn tell(rt: &impl Print, number: u32, s: Site) -> io::Result<()> {
     let told = status::read(s.own, s.station, 1);
-    print(b"\nsite ", number);
-    print(b": read ", told.number);
+    print(rt, b"\nsite ", number)?;
+    print(rt, b": read ", told.number)?;
     if (told.number == 0) & (told.decision < format::NONE) {
-        print(b", decided ", told.decision);
+        print(rt, b", decided ", told.decision)?;
     }
+    Ok(())
 }
 
-fn vote(n: u32) {
-    print(b"n ", n);
-    let begun = [start(n, 1, 1), start(n, 2, 1), start(n, 3, 0)];
-    let apart = exchange(exchange(begun, b".x.xxx"), b".x.xxx");
+fn vote(rt: &impl Print, n: u32) -> io::Result<()> {
+    print(rt, b"n ", n)?;
+    let begun = [
+        start(rt, n, 1, 1)?,
+        start(rt, n, 2, 1)?,
+        start(rt, n, 3, 0)?,
+    ];
+    let first = exchange(rt, begun, b".x.xxx")?;
+    let apart = exchange(rt, first, b".x.xxx")?;
     // here site 3 catches up step by step; who has decided goes on, since it needs their next bundles
-    let ended = exchange(exchange(exchange(apart, b"......"), b"......"), b"......");
-    tell(1, ended[0]);
-    tell(2, ended[1]);
-    tell(3, ended[2]);
-    io::write_all(STDOUT_FILENO, b"\n");
+    let third = exchange(rt, apart, b"......")?;
+    let fourth = exchange(rt, third, b"......")?;
+    let ended = exchange(rt, fourth, b"......")?;
+    tell(rt, 1, ended[0])?;
+    tell(rt, 2, ended[1])?;
+    tell(rt, 3, ended[2])?;
+    println!(rt)
 }
 
-fn main() {
-    vote(3);
-    vote(1);
+fn main(rt: HostRuntime) -> io::Result<()> {
+    vote(&rt, 3)?;
+    vote(&rt, 1)
 }
