@@ -13,13 +13,16 @@
 //
 // A line is printed for each question: n, the question, the sites' decisions, and in all so far: bundles given; refused calls, openings included; packets
 // lost; bundles sent on request; and bundles that took the place of one of the same question.
-ghost use Rattle.std.specs.Prelude.{◌≡◌, ◌+◌, ◌*◌, ◌<◌, ◌≤◌, length};
+#![tactic(auto)]
+
+ghost use Rattle.std.specs.Prelude.{◌≡◌, ◌+◌, ◌*◌, ◌<◌, ◌≤◌, length, IfOk};
 ghost use Rattle.format.specs.Present.{most_stations, output_words};
 
 use format::OUTPUT_WORDS;
-use libc::{STDIN_FILENO, STDOUT_FILENO};
 use modules::Module;
 use station::Station;
+use std::io;
+use std::io::{Read, Stdin};
 
 // The sites of the largest group.
 const SITES: usize = format::MOST_STATIONS as usize;
@@ -453,34 +456,40 @@ fn decision_of(s: Site, question: u32) -> u32 {
 }
 
 // Prints the decisions one behind the other.
-fn print_decisions(decisions: [u32; SITES], n: usize) {
+fn print_decisions(rt: &impl Print, decisions: [u32; SITES], n: usize) -> io::Result<()> {
     let mut i = 0;
     while i < SITES {
         if i == n {
-            return;
+            return Ok(());
         }
-        io::print_decimal(STDOUT_FILENO, decisions[i] as u64);
+        print!(rt; "{}", decisions[i])?;
         i += 1;
     }
+    Ok(())
 }
 
 // Prints a number behind a space.
-fn print_next(number: u64) {
-    io::write_all(STDOUT_FILENO, b" ");
-    io::print_decimal(STDOUT_FILENO, number);
+fn print_next(rt: &impl Print, number: u64) -> io::Result<()> {
+    print!(rt; " {number}")
 }
 
-fn print_line(n: usize, question: u32, decisions: [u32; SITES], c: Counts) {
-    io::print_decimal(STDOUT_FILENO, n as u64);
-    print_next(question as u64);
-    io::write_all(STDOUT_FILENO, b" ");
-    print_decisions(decisions, n);
-    print_next(c.given);
-    print_next(c.refused);
-    print_next(c.lost);
-    print_next(c.again);
-    print_next(c.past);
-    io::write_all(STDOUT_FILENO, b"\n");
+fn print_line(
+    rt: &impl Print,
+    n: usize,
+    question: u32,
+    decisions: [u32; SITES],
+    c: Counts,
+) -> io::Result<()> {
+    print!(rt; "{n}")?;
+    print_next(rt, question as u64)?;
+    print!(rt; " ")?;
+    print_decisions(rt, decisions, n)?;
+    print_next(rt, c.given)?;
+    print_next(rt, c.refused)?;
+    print_next(rt, c.lost)?;
+    print_next(rt, c.again)?;
+    print_next(rt, c.past)?;
+    println!(rt)
 }
 
 // The sites of a group before the first question.
@@ -526,15 +535,21 @@ fn all_decided(decisions: [u32; SITES], n: usize) -> bool
 }
 
 // The question for the next round of turns: the next one, where all have decided on this one, whose line is then printed.
-fn next_question(sites: [Site; SITES], n: usize, question: u32, c: Counts) -> u32
+fn next_question(
+    rt: &impl Print,
+    sites: [Site; SITES],
+    n: usize,
+    question: u32,
+    c: Counts,
+) -> io::Result<u32>
     requires { n ≤ most_stations }
 {
     let decisions = decisions_of(sites, n, question);
     if all_decided(decisions, n) {
-        print_line(n, question, decisions, c);
-        return std::num::wrapping_add_u32(question, 1);
+        print_line(rt, n, question, decisions, c)?;
+        return Ok(std::num::wrapping_add_u32(question, 1));
     }
-    question
+    Ok(question)
 }
 
 // The place so many behind another, from the first again behind the last.
@@ -574,7 +589,7 @@ fn kind_of(kinds: &[u8], question: u32) -> u8 {
 // Puts the questions to a group one after the other: behind each round of turns after which all have decided the next question follows. In the turn of
 // site k the site j behind it is next, at j 0 itself. A proved loop has to end, and that a vote does is not proved: so what is done is counted down, from a
 // number that no run here uses up.
-fn votes(n: usize, lossy: bool, kinds: &[u8])
+fn votes(rt: &impl Print, n: usize, lossy: bool, kinds: &[u8]) -> io::Result<()>
     requires { (1 ≤ n) × (n ≤ most_stations) }
 {
     let mut sites = group(n);
@@ -587,7 +602,7 @@ fn votes(n: usize, lossy: bool, kinds: &[u8])
     while left > 0 {
         let kind = kind_of(kinds, question);
         if kind == 0 {
-            return;
+            return Ok(());
         }
         let i = place_behind(k, j, n);
         let value = proposal(kind, k as u32 + 1);
@@ -603,10 +618,11 @@ fn votes(n: usize, lossy: bool, kinds: &[u8])
         j = place_behind(j, 1, n);
         k = place_behind(k, turns_by(j), n);
         if (j == 0) & (k == 0) {
-            question = next_question(sites, n, question, counts);
+            question = next_question(rt, sites, n, question, counts)?;
         }
         left -= 1;
     }
+    Ok(())
 }
 
 // Whether a byte of the input asks for what has this byte, or by `a` for all.
@@ -615,30 +631,48 @@ fn asked(which: u8, own: u8) -> bool {
 }
 
 // The votes of the groups that are asked for.
-fn groups(which: u8, lossy: bool, kinds: &[u8]) {
+fn groups(rt: &impl Print, which: u8, lossy: bool, kinds: &[u8]) -> io::Result<()> {
     if asked(which, b'4') {
-        votes(4, lossy, kinds);
+        votes(rt, 4, lossy, kinds)?;
     }
     if asked(which, b'7') {
-        votes(7, lossy, kinds);
+        votes(rt, 7, lossy, kinds)?;
     }
     if asked(which, b'3') {
-        votes(31, lossy, kinds);
+        votes(rt, 31, lossy, kinds)?;
     }
+    Ok(())
 }
 
-fn main() {
-    let mut space = io::buffer();
-    let count = io::read_full(STDIN_FILENO, &mut space);
+// Reads until the space is full or the input ends, and answers how many bytes stand in it.
+fn read_full(input: &mut Stdin, space: &mut [u8]) -> io::Result<usize>
+    ensures { IfOk result (λ n. n ≤ length space.new) }
+{
+    let mut done = 0;
+    while done < space.len() {
+        let n = input.read(&mut space[done..])?;
+        if n == 0 {
+            break;
+        }
+        done += n;
+    }
+    Ok(done)
+}
+
+fn main(rt: HostRuntime) -> io::Result<()> {
+    let mut input = rt.stdin();
+    let mut space = [0u8; 4096];
+    let count = read_full(&mut input, &mut space)?;
     if count < 2 {
-        return;
+        return Ok(());
     }
     let which = space[0];
     let radio = space[1];
     if asked(radio, b'.') {
-        groups(which, false, &space[2..count]);
+        groups(&rt, which, false, &space[2..count])?;
     }
     if asked(radio, b'x') {
-        groups(which, true, &space[2..count]);
+        groups(&rt, which, true, &space[2..count])?;
     }
+    Ok(())
 }
