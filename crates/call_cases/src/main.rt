@@ -1,6 +1,8 @@
 // Runs the script on standard input (docs/SCRIPT.md) and prints what its calls answer and change. The script and the expected lines come
 // from the second implementation (second/).
-ghost use Rattle.std.specs.Prelude.{◌≡◌, ◌+◌, ◌<◌, ◌≤◌, length, slice_index};
+#![tactic(auto)]
+
+ghost use Rattle.std.specs.Prelude.{◌≡◌, ◌+◌, ◌<◌, ◌≤◌, length, slice_index, IfOk};
 ghost use Rattle.hmac.specs.Code.{hmac_code};
 ghost use Rattle.sealed.specs.Present.{coding_plain, coding_coin};
 ghost use Rattle.station_words.specs.Words.{station_words, reading, part};
@@ -8,10 +10,11 @@ ghost use Rattle.station_words.specs.Laws.Put.{put_at};
 ghost use Rattle.call_cases.specs.Registers.{all_words, check_of, key_of, made_by, Within, InRange, shown, seen, last_in, module_in, Counted, opened_by, given_words, given_by};
 
 use format::Step;
-use libc::{STDIN_FILENO, STDOUT_FILENO};
 use modules::{Last, Module};
 use station::Station;
 use station_words::{Reading, STATION_WORDS};
+use std::io;
+use std::io::{Read, Stdin};
 
 // All words stand in one slice. In front are the numbers of the line, then the words that a call may change as they were before it: those of a
 // module, a station and a buffer.
@@ -686,15 +689,41 @@ fn append(text: &mut [u8], at: usize, more: &[u8]) -> usize
     end
 }
 
+// The hex digit of a value, in lower case.
+fn hex_digit(value: u64) -> u8
+    requires { value < 16 }
+{
+    if value < 10 {
+        b'0' + value as u8
+    } else {
+        b'a' + (value - 10) as u8
+    }
+}
+
+// Puts the hex digits of a number at the end of the text, and answers where they begin. No number has more than 16 of them, and 0 has one.
+fn put_hex(number: u64, digits: &mut [u8; 16]) -> usize
+    ensures { result < 16 }
+{
+    let mut at = 15;
+    let mut rest = number / 16;
+    digits[at] = hex_digit(number % 16);
+    while (0 < at) & (0 < rest) {
+        at -= 1;
+        digits[at] = hex_digit(rest % 16);
+        rest /= 16;
+    }
+    at
+}
+
 // Appends a mark, and a number in hex behind it.
 fn append_number(text: &mut [u8], at: usize, mark: &[u8], number: u64) -> usize
     requires { at ≤ length text.old }
     ensures { result ≤ length text.new }
 {
     let mut digits = [0u8; 16];
-    let count = io::hex(number, 1, &mut digits);
+    let start = put_hex(number, &mut digits);
     let end = append(text, at, mark);
-    append(text, end, &digits[..count])
+    append(text, end, &digits[start..])
 }
 
 // Appends a word that differs, with its index in front where the word before does not.
@@ -789,7 +818,7 @@ fn append_changes(text: &mut [u8], at: usize, registers: &[u32], names: Named) -
 }
 
 // Prints the line of a call. The longest has 1,053 words that differ and is shorter than the text.
-fn show(answer: Answer, registers: &[u32], names: Named)
+fn show(rt: &impl Print, answer: Answer, registers: &[u32], names: Named) -> io::Result<()>
     requires { InRange names × (length registers.now ≡ all_words) }
 {
     let mut text = [0u8; 16384];
@@ -797,60 +826,60 @@ fn show(answer: Answer, registers: &[u32], names: Named)
     let count = append_number(&mut text, number, b" ", answer.count as u64);
     let changes = append_changes(&mut text, count, registers, names);
     let end = append(&mut text, changes, b"\n");
-    io::write_all(STDOUT_FILENO, &text[..end]);
+    rt.write_all(&text[..end])
 }
 
 // A call, if the line is one: makes it and prints its line.
-fn call(k: u8, count: usize, registers: &mut [u32]) -> bool
+fn call(rt: &impl Print, k: u8, count: usize, registers: &mut [u32]) -> io::Result<bool>
     requires { length registers.old ≡ all_words }
 {
     let names = registers_of(k, count, registers);
     if !(names.readable & takes(k, registers, names)) {
-        return false;
+        return Ok(false);
     }
     save(registers, names);
     let answer = answered(k, registers, names);
-    show(answer, registers, names);
-    true
+    show(rt, answer, registers, names)?;
+    Ok(true)
 }
 
 // Carries out the command that a keyword's letter stands for, and answers whether it can be.
-fn carry_out(k: u8, count: usize, registers: &mut [u32]) -> bool
+fn carry_out(rt: &impl Print, k: u8, count: usize, registers: &mut [u32]) -> io::Result<bool>
     requires { (length registers.old ≡ all_words) × (count ≤ 79) }
 {
     let a = registers[0];
     let b = registers[1];
     let c = registers[2];
     match k {
-        b'a' | b'b' | b'k' => set(registers, copy_named(k, count == 2, a, b)),
-        b'r' | b's' | b'w' => set(registers, put_named(k, count, a, b)),
-        b'f' | b'l' | b'z' => put_run(registers, run_of(k, count, a, b, c)),
-        _ => call(k, count, registers),
+        b'a' | b'b' | b'k' => Ok(set(registers, copy_named(k, count == 2, a, b))),
+        b'r' | b's' | b'w' => Ok(set(registers, put_named(k, count, a, b))),
+        b'f' | b'l' | b'z' => Ok(put_run(registers, run_of(k, count, a, b, c))),
+        _ => call(rt, k, count, registers),
     }
 }
 
 // Reads and carries out one line, without its newline, and answers whether it can be read.
-fn read_line(text: &[u8], registers: &mut [u32]) -> bool
+fn read_line(rt: &impl Print, text: &[u8], registers: &mut [u32]) -> io::Result<bool>
     requires { length registers.old ≡ all_words }
 {
     if text.len() == 0 {
-        return false;
+        return Ok(false);
     }
     let k = text[0];
     if k == b'#' {
-        return true;
+        return Ok(true);
     }
     let end = token_end(text, 0);
     let count = numbers_from(text, end, &mut registers[0..MOST_NUMBERS]);
     let list =
         b" adopt bring check fill give keep length make open plain raw station toss words zero ";
     if !is_in(list, &text[0..end]) {
-        return false;
+        return Ok(false);
     }
     if MOST_NUMBERS < count {
-        return false;
+        return Ok(false);
     }
-    carry_out(k, count, registers)
+    carry_out(rt, k, count, registers)
 }
 
 // How far the script is read: how many bytes of the line are there, the line's number from 1 on, and whether the run goes on.
@@ -861,88 +890,104 @@ struct Place {
     going: bool,
 }
 
-fn stop(number: u64) {
-    io::write_all(STDOUT_FILENO, b"stop ");
-    io::print_hex(STDOUT_FILENO, number, 1);
-    io::write_all(STDOUT_FILENO, b"\n");
+fn stop(rt: &impl Print, number: u64) -> io::Result<()> {
+    println!(rt; "stop {number:x}")
 }
 
 // Takes one more byte of the script.
-fn step(byte: u8, line: &mut [u8], at: Place, registers: &mut [u32]) -> Place
+fn step(
+    rt: &impl Print,
+    byte: u8,
+    line: &mut [u8],
+    at: Place,
+    registers: &mut [u32],
+) -> io::Result<Place>
     requires { (length line.old ≡ 800) × (at.held ≤ 800) × (length registers.old ≡ all_words) }
-    ensures { result.held ≤ 800 }
+    ensures { IfOk result (λ r. r.held ≤ 800) }
 {
     let held = at.held;
     let number = at.number;
     if byte == b'\n' {
-        let going = read_line(&line[0..held], registers);
+        let going = read_line(rt, &line[0..held], registers)?;
         if !going {
-            stop(number);
+            stop(rt, number)?;
         }
-        return Place {
+        return Ok(Place {
             held: 0,
             number: std::num::wrapping_add_u64(number, 1),
             going,
-        };
+        });
     }
     if held == LINE_BYTES {
-        stop(number);
-        return Place {
+        stop(rt, number)?;
+        return Ok(Place {
             held,
             number,
             going: false,
-        };
+        });
     }
     line[held] = byte;
-    Place {
+    Ok(Place {
         held: held + 1,
         number,
         going: true,
-    }
+    })
 }
 
 // Takes the bytes of a chunk, as far as the run goes.
-fn feed(chunk: &[u8], line: &mut [u8], at: Place, registers: &mut [u32]) -> Place
+fn feed(
+    rt: &impl Print,
+    chunk: &[u8],
+    line: &mut [u8],
+    at: Place,
+    registers: &mut [u32],
+) -> io::Result<Place>
     requires { (length line.old ≡ 800) × (at.held ≤ 800) × (length registers.old ≡ all_words) }
-    ensures { result.held ≤ 800 }
+    ensures { IfOk result (λ r. r.held ≤ 800) }
 {
     let mut place = at;
     let mut i = 0;
     while i < chunk.len() {
         if !place.going {
-            return place;
+            return Ok(place);
         }
-        let next = step(chunk[i], line, place, registers);
+        let next = step(rt, chunk[i], line, place, registers)?;
         place = next;
         i += 1;
     }
-    place
+    Ok(place)
 }
 
 // Reads once, and takes what came. At the script's end no line may have begun.
-fn more(line: &mut [u8], at: Place, registers: &mut [u32]) -> Place
+fn more(
+    rt: &impl Print,
+    input: &mut Stdin,
+    line: &mut [u8],
+    at: Place,
+    registers: &mut [u32],
+) -> io::Result<Place>
     requires { (length line.old ≡ 800) × (at.held ≤ 800) × (length registers.old ≡ all_words) }
-    ensures { result.held ≤ 800 }
+    ensures { IfOk result (λ r. r.held ≤ 800) }
 {
-    let mut space = io::large_buffer();
-    let got = libc::read(STDIN_FILENO, &mut space);
-    let n = io::count(got, &space);
+    let mut space = [0u8; 65536];
+    let n = input.read(&mut space)?;
     if n == 0 {
         if 0 < at.held {
-            stop(at.number);
+            stop(rt, at.number)?;
         }
-        return Place {
+        return Ok(Place {
             held: 0,
             number: at.number,
             going: false,
-        };
+        });
     }
-    feed(&space[..n], line, at, registers)
+    feed(rt, &space[..n], line, at, registers)
 }
 
-// Reads until the script ends. A proved loop has to end, and nothing says that a script does. So the loop counts its turns down, from a
-// number that no run uses up.
-fn main() {
+// Reads until the script ends. A proved loop has to end, and nothing says that a script does. So the loop counts its turns, up to a number that no
+// run uses up.
+fn main(rt: HostRuntime) -> io::Result<()> {
+    let mut input = rt.stdin();
     let mut line = [0u8; LINE_BYTES];
     let mut registers = [0u32; ALL_WORDS];
     let mut place = Place {
@@ -950,13 +995,12 @@ fn main() {
         number: 1,
         going: true,
     };
-    let mut turns = u64::MAX;
-    while turns > 0 {
+    for _ in 0..u64::MAX {
         if !place.going {
-            return;
+            return Ok(());
         }
-        let next = more(&mut line, place, &mut registers);
+        let next = more(&rt, &mut input, &mut line, place, &mut registers)?;
         place = next;
-        turns -= 1;
     }
+    Ok(())
 }
