@@ -1,5 +1,5 @@
 -- The text ends inside its slice, every read and store is inside, and the loop ends.
-use Rattle.std.proofs.Common.{◌≡◌, ◌-◌, ◌≤◌, length}
+use Rattle.std.proofs.Common.{◌-◌, ◌≤◌, length}
 use Rattle.call_cases.proofs.append.Given as goal
 
 abbrev pub invariant-loop-i : goal.invariant-loop-i

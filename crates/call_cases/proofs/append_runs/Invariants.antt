@@ -1,5 +1,5 @@
 -- Every read is inside the registers, the text ends inside its slice, and the loop ends.
-use Rattle.std.proofs.Common.{◌≡◌, ◌-◌, ◌≤◌, length}
+use Rattle.std.proofs.Common.{◌-◌, ◌≤◌, length}
 use Rattle.call_cases.proofs.append_runs.Given as goal
 
 abbrev pub invariant-loop-i : goal.invariant-loop-i

@@ -1,5 +1,5 @@
 -- Every read and store is inside the slice, and the loop ends.
-use Rattle.std.proofs.Common.{◌≡◌, ◌-◌, ◌≤◌, length}
+use Rattle.std.proofs.Common.{◌-◌, ◌≤◌}
 use Rattle.call_cases.proofs.copy.Given as goal
 
 abbrev pub invariant-loop-i : goal.invariant-loop-i

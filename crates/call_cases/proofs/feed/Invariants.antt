@@ -1,5 +1,5 @@
 -- Every turn keeps the held bytes inside the line; the loop ends with the chunk.
-use Rattle.std.proofs.Common.{◌≡◌, ◌-◌, ◌≤◌, length}
+use Rattle.std.proofs.Common.{◌-◌, ◌≤◌, length}
 use Rattle.call_cases.proofs.feed.Given as goal
 
 abbrev pub invariant-loop-i : goal.invariant-loop-i

@@ -3,5 +3,5 @@ use Rattle.call_cases.specs.Registers.{plain_number}
 use Rattle.call_cases.proofs.plain.Goals as goal
 
 pub returns : goal.returns
-returns c = 
+returns c =
     plain_number c.args.registers.now c.args.m c.args.b c.length_at.result _ c.module_at.result c.module_at.ensures c.length_at.ensures.1 c.code_plain-coded.ensures.number_is

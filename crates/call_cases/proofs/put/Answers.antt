@@ -1,5 +1,5 @@
 -- Each turn puts the next word: the laws of `put_so_far`.
-use Rattle.std.proofs.Common.{◌+◌, ◌≤◌, length, rules, arith}
+use Rattle.std.proofs.Common.{rules}
 use Rattle.station_words.specs.Laws.Put.{put_begin, put_turn, put_end}
 use Rattle.call_cases.proofs.put.Goals as goal
 
