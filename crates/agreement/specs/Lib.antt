@@ -2,5 +2,3 @@ pub mod Demand
 pub mod Present
 pub mod Maths
 pub mod FirstVotes
-pub mod Laws
-pub mod Theorems

@@ -9,8 +9,8 @@ use Rattle.laws.specs.Fill.{marked}
 use Rattle.compression.specs.Compression.{compressed}
 use Rattle.laws.specs.Below.{Below}
 use Rattle.sha256.specs.Sha256.{bytes, padding}
-use Rattle.sha256.specs.Laws.Chain.{one_block}
-use Rattle.sha256.specs.Laws.Words.{read_back, length_bytes, short_padding, length_padding}
+use Rattle.sha256.proofs.Laws.Chain.{one_block}
+use Rattle.sha256.proofs.Laws.Words.{read_back, length_bytes, short_padding, length_padding}
 use Rattle.hmac.specs.Hmac.{closed}
 
 -- the words of the last block

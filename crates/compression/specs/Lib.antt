@@ -1,3 +1,2 @@
 pub mod Compression
 pub mod Steps
-pub mod Laws

@@ -5,7 +5,7 @@ use Prim.Native.Nat.{ℕ, ◌+◌, ◌-◌, ◌*◌, ◌/◌, ◌%◌, ◌≤◌
 use native.Mathlib.Omega.{arith}
 use lib.ListN.{length, take, drop, replicate, length-drop}
 use Rattle.sha256.specs.Sha256.{big64, padding, blocks, hashed}
-use Rattle.sha256.specs.Laws.Chain.{finished}
+use Rattle.sha256.proofs.Laws.Chain.{finished}
 use Rattle.digest.proofs.Tail.{padded}
 
 pub ended : (st s h b c t r : List ℕ) (done at : ℕ) → done % 64 ≡ 0 → length s % 64 < at → at ≤ 120 → (119 - length s % 64) % 64 ≡ at - 1 - length s % 64

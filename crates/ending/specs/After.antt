@@ -19,7 +19,7 @@ use Rattle.station.specs.declared.Stage.TheVariants.{Gathering, Proposing, Votin
 use Rattle.station.specs.Machine.{State, Next, next, proposing, voting, round_in, first_value, vote_value, carried, follows, closes}
 use Rattle.station.specs.Present.{sites, held_in}
 use Rattle.held.specs.Scan.{scan, such, lowest}
-use Rattle.held.specs.Laws.Held.{scan_some}
+use Rattle.held.proofs.Laws.Held.{scan_some}
 use Rattle.ending.specs.declared.Kept.{Kept}
 use Rattle.ending.specs.declared.Kept.TheVariants.{Nothing, Inits, ForValue, ForNone}
 use Rattle.ending.specs.declared.Following.{Following}

@@ -7,4 +7,3 @@ pub mod Lists
 pub mod Bundle
 pub mod Tables
 pub mod Present
-pub mod Laws

@@ -1,2 +1,1 @@
 pub mod Glance
-pub mod Theorems

@@ -1,1 +1,3 @@
 mod Masked
+pub mod Laws
+pub mod Theorems

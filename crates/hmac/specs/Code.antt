@@ -1,7 +1,7 @@
 -- The code of words: HMAC-SHA-256 over their bytes, as eight words.
 use Rattle.std.specs.Prelude.{ℕ, List, ◌++◌, ◌≡◌, length}
 use Rattle.sha256.specs.Sha256.{words, bytes, sha256}
-use Rattle.sha256.specs.Laws.Shape.{words_length, sha256_length}
+use Rattle.sha256.proofs.Laws.Shape.{words_length, sha256_length}
 use Rattle.hmac.specs.Hmac.{masked, ipad, opad, key_block, hmac}
 
 -- "HMAC-SHA-256 under the 32-byte group key ... Top byte first throughout": by a key, the code of words

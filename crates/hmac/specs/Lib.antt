@@ -1,4 +1,2 @@
 pub mod Hmac
 pub mod Code
-pub mod Laws
-pub mod Theorems

@@ -1,2 +1,1 @@
 pub mod Jumps
-pub mod Laws

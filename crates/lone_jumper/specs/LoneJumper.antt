@@ -6,10 +6,10 @@ use Rattle.laws.specs.Count.{count}
 use Rattle.format.specs.Numbers.{kind_p, kind_v, none, d_get}
 use Rattle.format.specs.Group.{backing}
 use Rattle.agreement.specs.Demand.{opens, codes, Call, call}
-use Rattle.agreement.specs.Theorems.Computed.{computes, off_out}
-use Rattle.agreement.specs.Theorems.Toy.{toy, out}
-use Rattle.agreement.specs.Theorems.Example.{give, bundle, lent, of_3}
-use Rattle.agreement.specs.Theorems.Unbacked.{unbacked_none, facts, comes_to, Unbacked, unbacked, too_few}
+use Rattle.agreement.proofs.Theorems.Computed.{computes, off_out}
+use Rattle.agreement.proofs.Theorems.Toy.{toy, out}
+use Rattle.agreement.proofs.Theorems.Example.{give, bundle, lent, of_3}
+use Rattle.agreement.proofs.Theorems.Unbacked.{unbacked_none, facts, comes_to, Unbacked, unbacked, too_few}
 use Rattle.agreement.specs.Present.{proposed, log, Sound, JumpOff, Decides}
 
 -- ---- the list

@@ -1,3 +1,1 @@
 pub mod Claim
-pub mod Laws
-pub mod Theorems

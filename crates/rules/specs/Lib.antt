@@ -1,4 +1,3 @@
 pub mod Rules
 pub mod Groups
-pub mod Theorems
 pub mod Test

@@ -1,2 +1,3 @@
 mod Stored
 mod Coding
+pub mod Theorems

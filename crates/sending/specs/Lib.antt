@@ -1,3 +1,2 @@
 pub mod Sent
 pub mod Sends
-pub mod Laws

@@ -18,28 +18,29 @@ use Rattle.format.specs.Numbers.{kind_p, code_words, head_mark, mark_bit}
 use Rattle.format.specs.Words.{word_of}
 use Rattle.format.specs.Statement.{Statement, step}
 use Rattle.hmac.specs.Code.{hmac_code}
-use Rattle.format.specs.Laws.Shape.{Shape, init, proposal, vote, formed_out}
+use Rattle.format.proofs.Laws.Shape.{Shape, init, proposal, vote, formed_out}
 use Rattle.modules.specs.declared.Module.{Module}
 use Rattle.modules.specs.Counter.{above, last_for, advanced}
 use Rattle.modules.specs.Present.{module_fits}
 use Rattle.sealed.specs.Sealed.{is_toss, Coded}
-use Rattle.sealed.specs.Theorems.Ways.{with_code, coded_as, own_plain, own_coin}
+use Rattle.sealed.proofs.Theorems.Ways.{with_code, coded_as, own_plain, own_coin}
 use Rattle.sealed.specs.Present.{coding_plain, coding_coin}
 use Rattle.station.specs.declared.Stage.{Stage}
 use Rattle.station.specs.Machine.{own, began}
 use Rattle.station.specs.Words.{set_of}
 use Rattle.station.specs.Present as W
-use Rattle.format.specs.Laws.ReadBack.{Proper, length_written}
+use Rattle.format.proofs.Laws.ReadBack.{Proper, length_written}
 use Rattle.format.specs.Present.{bundle_words, most_stations, most_statements, output_words, written, statement_code, all_written, bundle_of, place_of, statement_words}
-use Rattle.station.specs.Laws.Bundles.{ws_length}
-use Rattle.station.specs.Theorems.Seal.{main_words}
+use Rattle.station.proofs.Laws.Bundles.{ws_length}
+use Rattle.station.proofs.Theorems.Seal.{main_words}
 use Rattle.station.specs.declared.Lasting.{Lasting}
 use Rattle.writer.specs.Written.{with_word, copyable, copy_after, copy_count}
-use Rattle.writer.specs.Laws.Bundle.{Certificate, lent_bundle, count_bundle}
+use Rattle.writer.proofs.Laws.Bundle.{Certificate, lent_bundle, count_bundle}
 use Rattle.laws.specs.Below.{Below}
 use Rattle.laws.specs.Over.{over}
 use Rattle.keeping.specs.Kept.{with_bundle}
-use Rattle.keeping.specs.Begun.{blank, begun}
+use Rattle.keeping.specs.Begun.{blank}
+use Rattle.keeping.proofs.Begun.{begun}
 use Rattle.sending.specs.Sent.{drafted, asked, main_part, with_main, coded_lent, coded_after, sent_count, sent_lent, sent_bundle, sent_station, sent_after, copy_lent, copy_module, copy_bundle}
 
 low_front : (ws r : List ℕ) → Below (ws ++ r) → Below ws

@@ -1,2 +1,3 @@
 mod Chain
 mod Out
+pub mod Laws

@@ -1,3 +1,2 @@
 pub mod Sha256
 pub mod Padding
-pub mod Laws

@@ -8,5 +8,3 @@ pub mod Present
 pub mod First
 pub mod Marked
 pub mod Answers
-pub mod Laws
-pub mod Theorems

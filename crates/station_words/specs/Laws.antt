@@ -1,4 +1,2 @@
 -- The proofs of Theorem.antt, and what the code's proofs cite.
 pub mod Put
-pub mod Back
-pub mod Code

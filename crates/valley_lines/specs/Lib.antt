@@ -1,4 +1,3 @@
 pub mod Read
 pub mod Words
 pub mod Example
-pub mod Laws

@@ -1,3 +1,2 @@
 pub mod Valley
 pub mod Group
-pub mod Laws

@@ -1,3 +1,1 @@
 pub mod Walk
-pub mod Laws
-pub mod Theorems

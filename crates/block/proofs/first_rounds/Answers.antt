@@ -1,7 +1,7 @@
 -- Each turn is one step of `rounds` over the whole schedule, and one step of `extended`.
 use Rattle.std.proofs.Common.{◌≡◌, length, take, sym, ap, ◌∙◌, arith, length-set, length-take-le, rules}
 use Rattle.compression.specs.Compression.{extended}
-use Rattle.compression.specs.Laws.Shape.{extended_length}
+use Rattle.compression.proofs.Laws.Shape.{extended_length}
 use Rattle.block.proofs.Rounds.{turn, half_way}
 use Rattle.block.proofs.Words.{grow, full, word_of}
 use Rattle.block.proofs.first_rounds.Goals as goal

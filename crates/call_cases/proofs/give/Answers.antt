@@ -1,6 +1,6 @@
 -- The copy holds the words that the call sees of the buffer given: the law `given_copy`.
 use Rattle.std.proofs.Common.{◌∙◌, arith}
-use Rattle.station_words.specs.Laws.Code.{part_put}
+use Rattle.station_words.proofs.Laws.Code.{part_put}
 use Rattle.call_cases.specs.Registers.{given_copy}
 use Rattle.call_cases.proofs.give.Goals as goal
 

@@ -1,7 +1,7 @@
 -- The bytes of the eight words, by the definition.
 use Rattle.std.proofs.Common.{ap, ◌∙◌, arith}
 use Rattle.sha256.specs.Sha256.{bytes}
-use Rattle.station_words.specs.Laws.Code.{part_put}
+use Rattle.station_words.proofs.Laws.Code.{part_put}
 use Rattle.call_cases.specs.Registers.{key_of}
 use Rattle.call_cases.proofs.key.Goals as goal
 

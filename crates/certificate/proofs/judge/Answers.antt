@@ -3,7 +3,7 @@ use Prim.Native.Nat.{◌%◌}
 use mathlib.Core.Bool.{true}
 use mathlib.Core.Path.{◌≡◌, sym, ap, ◌∙◌}
 use Rattle.format.specs.Present.{size_fits, laid_out}
-use Rattle.certificate.specs.Laws.Answers.{laid_by, judged_size, judged_layout}
+use Rattle.certificate.proofs.Laws.Answers.{laid_by, judged_size, judged_layout}
 use Rattle.certificate.proofs.judge.Goals as goal
 
 pub returns-then-not-size_fits : goal.returns-then-not-size_fits

@@ -6,7 +6,7 @@ use Rattle.laws.specs.Bools.{never}
 use Rattle.sha256.specs.Sha256.{limit}
 use Rattle.hmac.specs.declared.Keyed.{Keyed}
 use Rattle.hmac.specs.Hmac.{code_from}
-use Rattle.certificate.specs.Laws.Read.{keyed_short, code_is}
+use Rattle.certificate.proofs.Laws.Read.{keyed_short, code_is}
 use borrow.Author.Rules.{rules}
 use Rattle.certificate.proofs.states_for.Goals as goal
 

@@ -2,7 +2,7 @@
 use mathlib.Core.Path.{refl}
 use native.Mathlib.Omega.{arith}
 use lib.ListN.{drop}
-use Rattle.certificate.specs.Laws.Read.{one_copied, all_copied}
+use Rattle.certificate.proofs.Laws.Read.{one_copied, all_copied}
 use borrow.Author.Rules.{rules}
 use Rattle.certificate.proofs.take_up.Goals as goal
 

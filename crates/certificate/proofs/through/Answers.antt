@@ -11,7 +11,7 @@ use Rattle.laws.specs.Bools.{both, never, first_of, neither}
 use Rattle.laws.specs.Least.{least_fits}
 use Rattle.hmac.specs.Hmac.{code_from}
 use Rattle.walk.specs.Walk.{walked, answer}
-use Rattle.certificate.specs.Laws.Calls.{through_behind, group_turn, finished, through_start, loop_end, border_turn}
+use Rattle.certificate.proofs.Laws.Calls.{through_behind, group_turn, finished, through_start, loop_end, border_turn}
 use borrow.Author.Rules.{rules}
 use Rattle.certificate.proofs.through.Goals as goal
 

@@ -7,7 +7,7 @@ use lib.ListN.{length}
 use Rattle.laws.specs.Pick.{pick}
 use Rattle.hmac.specs.Hmac.{code_from}
 use Rattle.walk.specs.Walk.{walked, through}
-use Rattle.certificate.specs.Laws.Calls.{finished}
+use Rattle.certificate.proofs.Laws.Calls.{finished}
 use Rattle.certificate.proofs.through.Given as goal
 
 abbrev pub invariant-loop-f : goal.invariant-loop-f

@@ -4,12 +4,12 @@ use mathlib.Core.Path.{◌≡◌, ap, ◌∙◌}
 use native.Mathlib.Omega.{arith}
 use lib.ListN.{length, get_or}
 use Rattle.format.specs.Form.{present_form}
-use Rattle.format.specs.Laws.Parts.{sizes}
+use Rattle.format.proofs.Laws.Parts.{sizes}
 use Rattle.hmac.specs.Hmac.{code_from}
 use Rattle.walk.specs.declared.Findings.{Findings}
 use Rattle.walk.specs.Walk.{started}
-use Rattle.certificate.specs.Laws.Calls.{glance_counted}
-use Rattle.certificate.specs.Laws.Answers.{judged_walk}
+use Rattle.certificate.proofs.Laws.Calls.{glance_counted}
+use Rattle.certificate.proofs.Laws.Answers.{judged_walk}
 use Rattle.certificate.proofs.walk.Goals as goal
 
 pub take_up-t-requires : goal.take_up-t-requires

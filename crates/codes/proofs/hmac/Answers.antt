@@ -8,11 +8,11 @@ use borrow.Author.Tests.{lt-ltb, le-ltb}
 use Rattle.laws.specs.Pick.{pick}
 use Rattle.sha256.specs.declared.Hashed.{Hashed}
 use Rattle.sha256.specs.Sha256.{bytes, padding, hashed, limit}
-use Rattle.sha256.specs.Laws.Answers.{after_short}
+use Rattle.sha256.proofs.Laws.Answers.{after_short}
 use Rattle.hmac.specs.declared.Prepared.{Prepared}
 use Rattle.hmac.specs.declared.Keyed.{Keyed}
 use Rattle.hmac.specs.Hmac.{closed, code_of}
-use Rattle.hmac.specs.Laws.Keys.{hmac_from, keyed_short}
+use Rattle.hmac.proofs.Laws.Keys.{hmac_from, keyed_short}
 use Rattle.codes.proofs.hmac.Goals as goal
 
 pub returns-then-m : goal.returns-then-m

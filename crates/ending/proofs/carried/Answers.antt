@@ -1,6 +1,6 @@
 -- By what the scans found.
 use Rattle.station.specs.Machine.{carried}
-use Rattle.ending.specs.Laws.Values.{some_by}
+use Rattle.ending.proofs.Laws.Values.{some_by}
 use Rattle.ending.proofs.carried.Goals as goal
 
 pub returns : goal.returns

@@ -5,7 +5,7 @@ use Prim.Native.Nat.{◌*◌}
 use lib.Count.{ones}
 use borrow.Author.Tests.{le-leb, lt-leb}
 use Rattle.laws.specs.Pick.{here, skip}
-use Rattle.ending.specs.Laws.Values.{few, first_by}
+use Rattle.ending.proofs.Laws.Values.{few, first_by}
 use Rattle.ending.proofs.first_value.Goals as goal
 
 pub overflow_mul-ones : goal.overflow_mul-ones

@@ -1,6 +1,6 @@
 -- By what the scans found.
 use Rattle.station.specs.Machine.{vote_value}
-use Rattle.ending.specs.Laws.Values.{every_by}
+use Rattle.ending.proofs.Laws.Values.{every_by}
 use Rattle.ending.proofs.vote_value.Goals as goal
 
 pub returns : goal.returns

@@ -3,7 +3,7 @@ use mathlib.Core.Bool.{true}
 use mathlib.Core.Path.{ap, ◌∙◌}
 use Rattle.station.specs.Present.{empty_station}
 use Rattle.giving.specs.Gives.{shut_words}
-use Rattle.giving.specs.Laws.EndAnswers.{answers_none, ends_closed, ends_on}
+use Rattle.giving.proofs.Laws.EndAnswers.{answers_none, ends_closed, ends_on}
 use Rattle.giving.proofs.end_step.Goals as goal
 
 pub returns-then-closes : goal.returns-then-closes

@@ -2,9 +2,9 @@
 use mathlib.Core.Path.{sym, ◌∙◌}
 use borrow.Author.Rules.{rules}
 use Rattle.station.specs.Present.{Lengths}
-use Rattle.keeping.specs.Laws.One.{LowWords}
-use Rattle.giving.specs.Laws.EndAnswers.{answers_none}
-use Rattle.giving.specs.Laws.Give.{give_refused, none_found, jumps_found, give_jump, give_12, give_after}
+use Rattle.keeping.proofs.Laws.One.{LowWords}
+use Rattle.giving.proofs.Laws.EndAnswers.{answers_none}
+use Rattle.giving.proofs.Laws.Give.{give_refused, none_found, jumps_found, give_jump, give_12, give_after}
 use Rattle.giving.proofs.give.Goals as goal
 
 pub returns-then-found-ne0 : goal.returns-then-found-ne0

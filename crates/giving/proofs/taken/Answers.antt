@@ -1,5 +1,5 @@
 -- Fewer than q are held, or the step ends.
-use Rattle.giving.specs.Laws.EndAnswers.{answers_none, taken_kept, taken_ends}
+use Rattle.giving.proofs.Laws.EndAnswers.{answers_none, taken_kept, taken_ends}
 use borrow.Author.Rules.{rules}
 use Rattle.giving.proofs.taken.Goals as goal
 

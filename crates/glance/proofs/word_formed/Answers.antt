@@ -1,6 +1,6 @@
 -- The top five bits are kind, value and flag.
 use Prim.Native.Nat.{◌^◌, ◌<◌}
-use Rattle.glance.specs.Theorems.Formed.{formed_word}
+use Rattle.glance.proofs.Theorems.Formed.{formed_word}
 use borrow.Author.Rules.{rules}
 use Rattle.glance.proofs.word_formed.Goals as goal
 

@@ -1,5 +1,5 @@
 -- By the scan: in round 1 for all, else by the flag.
-use Rattle.held.specs.Laws.Held.{scan_first_round, scan_d_get}
+use Rattle.held.proofs.Laws.Held.{scan_first_round, scan_d_get}
 use mathlib.Core.Path.{◌∙◌}
 use Rattle.held.proofs.first_or_d_get.Goals as goal
 

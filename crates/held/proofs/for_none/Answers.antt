@@ -1,7 +1,7 @@
 -- Each arm is a case of the definition; where none supplies it, the scan finds nothing.
 use mathlib.Core.Path.{refl}
 use mathlib.Core.Bool.{false}
-use Rattle.held.specs.Laws.Held.{scan_nothing}
+use Rattle.held.proofs.Laws.Held.{scan_nothing}
 use Rattle.held.proofs.for_none.Goals as goal
 
 pub returns-in-Gathering : goal.returns-in-Gathering

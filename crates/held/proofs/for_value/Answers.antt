@@ -4,7 +4,7 @@ use mathlib.Core.Path.{refl}
 use native.Mathlib.Omega.{arith}
 use Rattle.rules.specs.declared.Which.TheVariants.{Any, Only}
 use Rattle.held.specs.Scan.{such}
-use Rattle.held.specs.Laws.Held.{scan_low, scan_nothing, scan_values}
+use Rattle.held.proofs.Laws.Held.{scan_low, scan_nothing, scan_values}
 use Rattle.held.proofs.for_value.Goals as goal
 
 pub overflow_add-result : goal.overflow_add-result

@@ -1,5 +1,5 @@
 -- A word has no bit above 31.
-use Rattle.held.specs.Laws.Sets.{none_above}
+use Rattle.held.proofs.Laws.Sets.{none_above}
 use borrow.Author.Rules.{rules}
 use Rattle.held.proofs.in_set.Goals as goal
 

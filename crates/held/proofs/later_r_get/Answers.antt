@@ -1,5 +1,5 @@
 -- By the scan; in round 1 it finds none.
-use Rattle.held.specs.Laws.Held.{scan_r_get, scan_early}
+use Rattle.held.proofs.Laws.Held.{scan_r_get, scan_early}
 use mathlib.Core.Path.{◌∙◌}
 use Rattle.held.proofs.later_r_get.Goals as goal
 

@@ -7,7 +7,7 @@ use lib.Dec.{ltb}
 use Rattle.laws.specs.Sets.{bit}
 use Rattle.station.specs.Present.{sites}
 use Rattle.held.specs.Scan.{gathered, lowest}
-use Rattle.held.specs.Laws.Sets.{gathered_room, gathered_turn, gathered_end}
+use Rattle.held.proofs.Laws.Sets.{gathered_room, gathered_turn, gathered_end}
 use borrow.Author.Rules.{rules}
 use Rattle.held.proofs.lowest.Goals as goal
 

@@ -4,7 +4,7 @@ use mathlib.Core.Path.{ap}
 use native.Mathlib.Omega.{arith}
 use lib.Count.{ones}
 use lib.Pow.{pow_pos}
-use Rattle.held.specs.Laws.Sets.{one_bit}
+use Rattle.held.proofs.Laws.Sets.{one_bit}
 use borrow.Author.Rules.{rules}
 use Rattle.held.proofs.number_below.Goals as goal
 

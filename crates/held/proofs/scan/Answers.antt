@@ -3,8 +3,8 @@ use Prim.Native.Nat.{◌+◌, ◌-◌, ◌*◌, ◌^◌, ◌<◌}
 use mathlib.Core.Path.{◌≡◌, refl, ◌∙◌}
 use Rattle.station.specs.Present.{sites}
 use Rattle.held.specs.Scan.{gathered, such, scan}
-use Rattle.held.specs.Laws.Sets.{gathered_room, gathered_turn, gathered_end}
-use Rattle.held.specs.Laws.Held.{found, read_such}
+use Rattle.held.proofs.Laws.Sets.{gathered_room, gathered_turn, gathered_end}
+use Rattle.held.proofs.Laws.Held.{found, read_such}
 use borrow.Author.Rules.{rules}
 use Rattle.held.proofs.scan.Goals as goal
 

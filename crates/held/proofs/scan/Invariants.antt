@@ -3,7 +3,7 @@ use Prim.Native.Nat.{◌-◌, ◌≤◌}
 use mathlib.Core.Path.{◌≡◌}
 use Rattle.station.specs.Present.{sites}
 use Rattle.held.specs.Scan.{gathered, such}
-use Rattle.held.specs.Laws.Held.{found}
+use Rattle.held.proofs.Laws.Held.{found}
 use Rattle.held.proofs.scan.Given as goal
 
 abbrev pub invariant-loop-i : goal.invariant-loop-i

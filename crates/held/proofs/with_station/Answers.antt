@@ -5,7 +5,7 @@ use native.Mathlib.Omega.{arith}
 use Rattle.laws.specs.Pick.{here, skip}
 use Rattle.laws.specs.Sets.{bit_fits}
 use Rattle.held.specs.Scan.{with_station}
-use Rattle.held.specs.Laws.Sets.{is_station, one_bit}
+use Rattle.held.proofs.Laws.Sets.{is_station, one_bit}
 use borrow.Author.Rules.{rules}
 use mathlib.Core.Path.{ap}
 use mathlib.Core.Bool.{not}

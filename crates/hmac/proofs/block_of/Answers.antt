@@ -5,8 +5,8 @@ use lib.ListN.{length}
 use borrow.Author.Tests.{le-leb, lt-leb}
 use Rattle.laws.specs.Pick.{pick}
 use Rattle.sha256.specs.declared.Digest.{Digest}
-use Rattle.sha256.specs.Laws.Answers.{digest_short}
-use Rattle.sha256.specs.Laws.Shape.{sha256_length}
+use Rattle.sha256.proofs.Laws.Answers.{digest_short}
+use Rattle.sha256.proofs.Laws.Shape.{sha256_length}
 use Rattle.hmac.specs.Hmac.{zero_filled, key_block}
 use borrow.Author.Rules.{rules}
 use Rattle.hmac.proofs.block_of.Goals as goal

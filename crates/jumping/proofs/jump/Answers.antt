@@ -1,5 +1,5 @@
 -- 12 where the pair is not above the last; else what was sent.
-use Rattle.jumping.specs.Laws.JumpAnswers.{jumped_12, jumped_sent}
+use Rattle.jumping.proofs.Laws.JumpAnswers.{jumped_12, jumped_sent}
 use mathlib.Core.Path.{ap}
 use mathlib.Core.Bool.{not}
 use Rattle.jumping.proofs.jump.Goals as goal

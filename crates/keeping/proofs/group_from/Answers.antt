@@ -3,7 +3,7 @@ use mathlib.Core.Path.{◌≡◌, refl, ◌∙◌}
 use native.Mathlib.Omega.{arith}
 use lib.ListN.{length}
 use Rattle.keeping.specs.Kept.{words_kept, group_from}
-use Rattle.keeping.specs.Laws.Turns.{kept_room, group_turn}
+use Rattle.keeping.proofs.Laws.Turns.{kept_room, group_turn}
 use borrow.Author.Rules.{rules}
 use Rattle.keeping.proofs.group_from.Goals as goal
 

@@ -5,7 +5,7 @@ use mathlib.Core.Path.{◌≡◌, ap, ◌∙◌}
 use native.Mathlib.Omega.{arith}
 use lib.ListN.{get_or, drop, set}
 use lib.Seq.{paste-zero}
-use Rattle.keeping.specs.Laws.Turns.{main_turn}
+use Rattle.keeping.proofs.Laws.Turns.{main_turn}
 use borrow.Author.Rules.{rules}
 use Rattle.keeping.proofs.put_main.Goals as goal
 

@@ -3,7 +3,7 @@ use native.Mathlib.Omega.{arith}
 use lib.ListN.{length}
 use Rattle.laws.specs.Pick.{here, skip}
 use Rattle.keeping.specs.Kept.{with_slot}
-use Rattle.keeping.specs.Laws.Turns.{has_main}
+use Rattle.keeping.proofs.Laws.Turns.{has_main}
 use mathlib.Core.Path.{ap}
 use mathlib.Core.Bool.{not}
 use Rattle.keeping.proofs.with_slot.Goals as goal

@@ -1,7 +1,7 @@
 -- By what the two calls answer; below eleven words there is no certificate.
 use mathlib.Core.Path.{◌∙◌}
 use Rattle.keeping.specs.Kept.{words_kept}
-use Rattle.keeping.specs.Laws.Turns.{none_kept}
+use Rattle.keeping.proofs.Laws.Turns.{none_kept}
 use Rattle.keeping.proofs.words_kept.Goals as goal
 
 pub returns-then-have-lt-CERTIFICATE_AT : goal.returns-then-have-lt-CERTIFICATE_AT

@@ -7,8 +7,8 @@ use lib.Dec.{eqb}
 use lib.ListN.{get_or}
 use Rattle.laws.specs.Pick.{pick, here, skip, not_t, not_f}
 use Rattle.format.specs.Present.{statements}
-use Rattle.kept_fitness.specs.Laws.Turns.{every_end}
-use Rattle.kept_fitness.specs.Laws.Groups.{rest, asked, asked_start, asked_next}
+use Rattle.kept_fitness.proofs.Laws.Turns.{every_end}
+use Rattle.kept_fitness.proofs.Laws.Groups.{rest, asked, asked_start, asked_next}
 use borrow.Author.Rules.{rules}
 use Rattle.kept_fitness.proofs.all_of_question.Goals as goal
 

@@ -2,7 +2,7 @@
 use Prim.Native.Nat.{◌-◌, ◌≤◌}
 use mathlib.Core.Path.{◌≡◌}
 use Rattle.format.specs.Present.{statements}
-use Rattle.kept_fitness.specs.Laws.Groups.{rest, asked}
+use Rattle.kept_fitness.proofs.Laws.Groups.{rest, asked}
 use Rattle.kept_fitness.proofs.all_of_question.Given as goal
 
 abbrev pub invariant-loop-i : goal.invariant-loop-i

@@ -4,8 +4,8 @@ use mathlib.Core.Bool.{false, not}
 use mathlib.Core.Path.{◌≡◌, refl, sym, ◌∙◌}
 use Rattle.laws.specs.Pick.{pick, here, skip, via_not}
 use Rattle.format.specs.Present.{formed, all_formed}
-use Rattle.kept_fitness.specs.Laws.Turns.{formed_end}
-use Rattle.kept_fitness.specs.Laws.Groups.{formed_first, formed_next}
+use Rattle.kept_fitness.proofs.Laws.Turns.{formed_end}
+use Rattle.kept_fitness.proofs.Laws.Groups.{formed_first, formed_next}
 use borrow.Author.Rules.{rules}
 use mathlib.Core.Path.{ap}
 use Rattle.kept_fitness.proofs.all_well_formed.Goals as goal

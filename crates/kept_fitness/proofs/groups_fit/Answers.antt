@@ -1,5 +1,5 @@
 -- A group that is to be kept has at most 16 statements, since n is at most 31; each is held against its words.
-use Rattle.station.specs.Laws.FitSane.{for_value_size, for_none_size}
+use Rattle.station.proofs.Laws.FitSane.{for_value_size, for_none_size}
 use Rattle.station.specs.Present.{held_in, sites}
 use Rattle.kept_fitness.specs.Laws.Parts.{groups_fit, few, refused, rest_decides}
 use Rattle.format.specs.Form.{present_form}

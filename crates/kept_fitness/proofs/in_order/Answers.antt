@@ -7,8 +7,8 @@ use Rattle.laws.specs.Pick.{pick, here, skip}
 use Rattle.format.specs.Present.{statements}
 use Rattle.rules.specs.Rules.{wanted}
 use Rattle.rules.specs.Test.{in_order, holds}
-use Rattle.kept_fitness.specs.Laws.Turns.{order_end}
-use Rattle.kept_fitness.specs.Laws.Groups.{rest, order_start, order_next}
+use Rattle.kept_fitness.proofs.Laws.Turns.{order_end}
+use Rattle.kept_fitness.proofs.Laws.Groups.{rest, order_start, order_next}
 use borrow.Author.Rules.{rules}
 use Rattle.kept_fitness.proofs.in_order.Goals as goal
 

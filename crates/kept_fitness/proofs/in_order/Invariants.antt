@@ -3,7 +3,7 @@ use Prim.Native.Nat.{◌-◌, ◌≤◌}
 use mathlib.Core.Path.{◌≡◌}
 use Rattle.format.specs.Present.{statements}
 use Rattle.rules.specs.Test.{in_order, holds}
-use Rattle.kept_fitness.specs.Laws.Groups.{rest}
+use Rattle.kept_fitness.proofs.Laws.Groups.{rest}
 use Rattle.kept_fitness.proofs.in_order.Given as goal
 
 abbrev pub invariant-loop-i : goal.invariant-loop-i

@@ -7,7 +7,7 @@ use lib.Dec.{eqb}
 use lib.ListN.{get_or}
 use Rattle.laws.specs.Pick.{pick, here, skip, not_t, not_f}
 use Rattle.station.specs.Fit.{zeros}
-use Rattle.held.specs.Laws.Zeros.{zeros_turn, zeros_end}
+use Rattle.held.proofs.Laws.Zeros.{zeros_turn, zeros_end}
 use borrow.Author.Rules.{rules}
 use Rattle.kept_fitness.proofs.zero_behind.Goals as goal
 

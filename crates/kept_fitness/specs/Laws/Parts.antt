@@ -17,7 +17,7 @@ use Rattle.station.specs.declared.Stage.{Stage}
 use Rattle.station.specs.Machine.{round_in, supplies_for_value, supplies_for_none, kept_for_value, kept_for_none, value_group, no_group}
 use Rattle.station.specs.Present.{sites, held_in, group_fits}
 use Rattle.held.specs.Scan.{scan}
-use Rattle.held.specs.Laws.Held.{scan_some, scan_first}
+use Rattle.held.proofs.Laws.Held.{scan_some, scan_first}
 
 -- both groups are those that are to be kept
 unfoldable pub groups_fit : ℕ → ℕ → Stage → ℕ → List ℕ → Groups → Bool

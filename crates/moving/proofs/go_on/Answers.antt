@@ -1,5 +1,5 @@
 -- 12 where the pair is not above the last; else what was sent.
-use Rattle.moving.specs.Laws.MovedAnswers.{moved_12, moved_sent}
+use Rattle.moving.proofs.Laws.MovedAnswers.{moved_12, moved_sent}
 use mathlib.Core.Path.{ap}
 use mathlib.Core.Bool.{not}
 use Rattle.moving.proofs.go_on.Goals as goal

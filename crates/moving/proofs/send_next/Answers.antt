@@ -1,5 +1,5 @@
 -- By what the calls answer.
-use Rattle.moving.specs.Laws.MovedAnswers.{next_sent}
+use Rattle.moving.proofs.Laws.MovedAnswers.{next_sent}
 use Rattle.moving.proofs.send_next.Goals as goal
 
 pub returns : goal.returns

@@ -1,6 +1,6 @@
 -- Where a test fails, what is returned is as it was; else what was sent is what the definition returns.
 use Rattle.opening.specs.Opens.{refused_answers}
-use Rattle.opening.specs.Laws.Opened.{opens_answers}
+use Rattle.opening.proofs.Laws.Opened.{opens_answers}
 use mathlib.Core.Path.{◌≡◌}
 use borrow.Author.Rules.{rules}
 use Rattle.opening.proofs.open.Goals as goal

@@ -1,7 +1,7 @@
 -- Both are asked of the held statements, and of the one more.
 use Rattle.rules.specs.declared.Which.TheVariants.{Only}
 use Rattle.held.specs.Scan.{such}
-use Rattle.held.specs.Laws.Held.{scan_some}
+use Rattle.held.proofs.Laws.Held.{scan_some}
 use Rattle.refusal.specs.Refusal.{both_values}
 use Rattle.refusal.proofs.both_values.Goals as goal
 

@@ -1,5 +1,5 @@
 -- Each answer is that of the first test that fails: the tests before it have passed.
-use Rattle.refusal.specs.Laws.Answers.{answer_room, answer_range, answer_closed, answer_judged, station_low, answer_step}
+use Rattle.refusal.proofs.Laws.Answers.{answer_room, answer_range, answer_closed, answer_judged, station_low, answer_step}
 use mathlib.Core.Path.{ap}
 use mathlib.Core.Bool.{not}
 use Rattle.refusal.proofs.first_refusal.Goals as goal

@@ -7,7 +7,7 @@ use Rattle.hmac.specs.declared.Prepared.{Prepared}
 use Rattle.hmac.specs.declared.Keyed.{Keyed}
 use Rattle.hmac.specs.declared.Code.{Code}
 use Rattle.hmac.specs.Hmac.{code_from, short_code}
-use Rattle.hmac.specs.Theorems.Prepared.{code_is_hmac}
+use Rattle.hmac.proofs.Theorems.Prepared.{code_is_hmac}
 use Rattle.hmac.specs.Code.{hmac_code}
 use Rattle.sealed.proofs.Stored.{short_key}
 use borrow.Author.Rules.{rules}

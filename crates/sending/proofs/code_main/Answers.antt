@@ -1,6 +1,6 @@
 -- By the module's answer, in the way that the test on the fields takes; where nothing was written, nothing changes.
 use native.Mathlib.Omega.{arith}
-use Rattle.sending.specs.Laws.Answering.{main_none, main_tossed, main_plain}
+use Rattle.sending.proofs.Laws.Answering.{main_none, main_tossed, main_plain}
 use Rattle.sending.proofs.code_main.Goals as goal
 
 pub returns-then-count-eq0 : goal.returns-then-count-eq0

@@ -2,7 +2,7 @@
 use mathlib.Core.Path.{◌≡◌}
 use native.Mathlib.Omega.{arith}
 use lib.ListN.{length}
-use Rattle.sending.specs.Laws.Answering.{count_fits, main_fits, sent_all}
+use Rattle.sending.proofs.Laws.Answering.{count_fits, main_fits, sent_all}
 use borrow.Author.Rules.{rules}
 use Rattle.sending.proofs.send.Goals as goal
 

@@ -2,7 +2,7 @@
 use mathlib.Core.Path.{◌≡◌}
 use native.Mathlib.Omega.{arith}
 use lib.ListN.{length}
-use Rattle.sending.specs.Laws.Answering.{copy_fits, copy_main_fits, copied_all}
+use Rattle.sending.proofs.Laws.Answering.{copy_fits, copy_main_fits, copied_all}
 use borrow.Author.Rules.{rules}
 use Rattle.sending.proofs.send_copy.Goals as goal
 

@@ -1,5 +1,5 @@
 -- The words of the settings one by one, those of the stage as they were told.
-use Rattle.station_words.specs.Laws.Code.{head_is}
+use Rattle.station_words.proofs.Laws.Code.{head_is}
 use Rattle.station_words.proofs.head.Goals as goal
 
 pub returns : goal.returns

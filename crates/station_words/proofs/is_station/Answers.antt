@@ -1,5 +1,5 @@
 -- The length is tested first; the words of the stage, the closed word and the jump word, as the definition does.
-use Rattle.station_words.specs.Laws.Code.{not_long, long}
+use Rattle.station_words.proofs.Laws.Code.{not_long, long}
 use Rattle.station_words.proofs.is_station.Goals as goal
 
 pub returns-then-ws-ne-STATION_WORDS : goal.returns-then-ws-ne-STATION_WORDS

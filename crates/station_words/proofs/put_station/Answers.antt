@@ -2,7 +2,7 @@
 use Prim.Native.Nat.{ℕ}
 use mathlib.Core.List.{[], ◌∷◌}
 use mathlib.Core.Path.{ap}
-use Rattle.station_words.specs.Laws.Code.{words_put}
+use Rattle.station_words.proofs.Laws.Code.{words_put}
 use Rattle.station_words.proofs.put_station.Goals as goal
 
 pub returns : goal.returns

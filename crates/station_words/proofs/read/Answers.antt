@@ -1,5 +1,5 @@
 -- What the test found is the definition's choice.
-use Rattle.station_words.specs.Laws.Code.{read_none, read_one, all_there}
+use Rattle.station_words.proofs.Laws.Code.{read_none, read_one, all_there}
 use mathlib.Core.Path.{ap}
 use mathlib.Core.Bool.{not}
 use Rattle.station_words.proofs.read.Goals as goal

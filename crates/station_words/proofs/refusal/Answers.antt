@@ -1,7 +1,7 @@
 -- Both tests are those of the definition, in its order.
 use Rattle.laws.specs.Pick.{cases}
 use Rattle.station_words.specs.Words.{refusal}
-use Rattle.station_words.specs.Laws.Code.{flag_over, none_refused}
+use Rattle.station_words.proofs.Laws.Code.{flag_over, none_refused}
 use mathlib.Core.Path.{ap}
 use mathlib.Core.Bool.{not}
 use Rattle.station_words.proofs.refusal.Goals as goal

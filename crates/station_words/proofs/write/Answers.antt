@@ -1,5 +1,5 @@
 -- A refusal changes nothing; else the words are put.
-use Rattle.station_words.specs.Laws.Code.{not_wrote, wrote, has_room}
+use Rattle.station_words.proofs.Laws.Code.{not_wrote, wrote, has_room}
 use Rattle.station_words.proofs.write.Goals as goal
 
 pub returns-then-number-ne0 : goal.returns-then-number-ne0

@@ -1,5 +1,5 @@
 -- What the fitness test found is the definition's choice, and each part is told by the function that reads it.
-use Rattle.status.specs.Theorems.Read.{refused_is, told_is}
+use Rattle.status.proofs.Theorems.Read.{refused_is, told_is}
 use mathlib.Core.Path.{ap}
 use mathlib.Core.Bool.{not}
 use Rattle.status.proofs.read.Goals as goal

@@ -1,5 +1,5 @@
 -- What is written is what the end of the input printed, which stands in the lent bytes (`end_enough`).
-use Rattle.valley_console.specs.Theorems.Within.{end_enough}
+use Rattle.valley_console.proofs.Theorems.Within.{end_enough}
 use Rattle.valley_cases.proofs.finish.Goals as goal
 
 pub show-requires : goal.show-requires

@@ -1,6 +1,6 @@
 -- A call takes at least one byte of what is left, and none behind its end (`rest_taken`); what it printed stands in the lent bytes (`lent_enough`).
 use Rattle.std.proofs.Common.{arith}
-use Rattle.valley_console.specs.Theorems.Within.{rest_taken, lent_enough}
+use Rattle.valley_console.proofs.Theorems.Within.{rest_taken, lent_enough}
 use Rattle.valley_cases.proofs.take_line.Goals as goal
 
 pub show-requires : goal.show-requires

@@ -1,5 +1,5 @@
 -- By what the line did.
-use Rattle.valley_console.specs.Laws.Ends.{line_ended}
+use Rattle.valley_console.proofs.Laws.Ends.{line_ended}
 use Rattle.valley_console.proofs.end_line.Goals as goal
 
 pub returns : goal.returns

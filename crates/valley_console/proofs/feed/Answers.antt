@@ -1,5 +1,5 @@
 -- By whether a newline is in the piece.
-use Rattle.valley_console.specs.Laws.Ends.{taken, piece_ends_line, piece_taken}
+use Rattle.valley_console.proofs.Laws.Ends.{taken, piece_ends_line, piece_taken}
 use Rattle.valley_console.proofs.feed.Goals as goal
 
 pub returns-then-s : goal.returns-then-s

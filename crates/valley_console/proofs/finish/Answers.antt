@@ -1,6 +1,6 @@
 -- By whether a line is there.
 use Rattle.std.proofs.Common.{arith}
-use Rattle.valley_console.specs.Laws.Ends.{taken, line_left, none_left}
+use Rattle.valley_console.proofs.Laws.Ends.{taken, line_left, none_left}
 use Rattle.valley_console.proofs.finish.Goals as goal
 
 pub returns-then-run-gt0 : goal.returns-then-run-gt0

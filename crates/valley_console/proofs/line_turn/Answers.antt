@@ -1,5 +1,5 @@
 -- Of what the kept bytes say.
-use Rattle.valley_console.specs.Laws.Ends.{line_turned}
+use Rattle.valley_console.proofs.Laws.Ends.{line_turned}
 use Rattle.valley_console.proofs.line_turn.Goals as goal
 
 pub returns : goal.returns

@@ -1,7 +1,7 @@
 -- Only before the first line something is told.
 use Rattle.std.proofs.Common.{sym, refl, ap}
 use Rattle.valley_world.specs.declared.Phase.{Phase}
-use Rattle.valley_events.specs.Laws.Turns.{printed_as}
+use Rattle.valley_events.proofs.Laws.Turns.{printed_as}
 use Rattle.valley_world.specs.Valley.{missing}
 use Rattle.valley_console.proofs.missing.Goals as goal
 

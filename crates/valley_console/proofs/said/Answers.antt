@@ -1,7 +1,7 @@
 -- Of the bytes that are kept.
 use Rattle.std.proofs.Common.{ap, ◌∙◌, rules}
 use Rattle.valley_lines.specs.Read.{read_line}
-use Rattle.valley_world.specs.Laws.Group.{part_fits, part_long, part_is}
+use Rattle.valley_world.proofs.Laws.Group.{part_fits, part_long, part_is}
 use Rattle.valley_console.proofs.said.Goals as goal
 
 pub slice_bounds-line-end : goal.slice_bounds-line-end

@@ -1,7 +1,7 @@
 -- The invariant: what is found from here on, behind the i bytes passed, is what is found in the whole.
 use Rattle.std.proofs.Common.{◌+◌, drop, ◌∙◌, arith, rules}
 use Rattle.valley_console.specs.Scans.{behind, scanned}
-use Rattle.valley_console.specs.Laws.Scans.{scan_start, scan_found, scan_room, scan_full, scan_end}
+use Rattle.valley_console.proofs.Laws.Scans.{scan_start, scan_found, scan_room, scan_full, scan_end}
 use Rattle.valley_console.proofs.scan.Goals as goal
 use Rattle.valley_console.proofs.scan.Goals.{then-many-lt23, else-many-lt23}
 

@@ -1,5 +1,5 @@
 -- What the line promises.
-use Rattle.valley_events.specs.Laws.Turns.{bad_turned}
+use Rattle.valley_events.proofs.Laws.Turns.{bad_turned}
 use Rattle.valley_events.proofs.bad.Goals as goal
 
 pub returns : goal.returns

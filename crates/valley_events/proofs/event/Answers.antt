@@ -3,7 +3,7 @@ use mathlib.Core.Path.{◌≡◌, ap}
 use native.Mathlib.Omega.{arith}
 use Rattle.valley_world.specs.declared.World.{World}
 use Rattle.valley_world.specs.Group.{returned_by}
-use Rattle.valley_events.specs.Laws.Turns.{turned_as, quiet_event, full_event, bundle_event}
+use Rattle.valley_events.proofs.Laws.Turns.{turned_as, quiet_event, full_event, bundle_event}
 use Rattle.valley_events.proofs.event.Goals as goal
 
 pub returns-then-c-eq0 : goal.returns-then-c-eq0

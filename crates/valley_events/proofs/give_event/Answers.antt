@@ -1,7 +1,7 @@
 -- What is named is open and written, or the line is bad.
 use mathlib.Core.Path.{◌∙◌, ap}
 use Rattle.station.specs.Calls.{Returned}
-use Rattle.valley_events.specs.Laws.Turns.{turned_as, not_named, named}
+use Rattle.valley_events.proofs.Laws.Turns.{turned_as, not_named, named}
 use Rattle.valley_world.specs.Valley.{event, after}
 use mathlib.Core.Bool.{not}
 use Rattle.valley_events.proofs.give_event.Goals as goal

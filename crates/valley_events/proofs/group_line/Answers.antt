@@ -1,5 +1,5 @@
 -- By whether the size is allowed.
-use Rattle.valley_events.specs.Laws.Turns.{turned_as, no_size, group_turned}
+use Rattle.valley_events.proofs.Laws.Turns.{turned_as, no_size, group_turned}
 use mathlib.Core.Path.{ap}
 use mathlib.Core.Bool.{not}
 use Rattle.valley_events.proofs.group_line.Goals as goal

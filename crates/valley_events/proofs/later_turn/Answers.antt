@@ -1,6 +1,6 @@
 -- Each arm is a case of the definition.
 use mathlib.Core.Path.{sym, ap}
-use Rattle.valley_events.specs.Laws.Turns.{turned_as}
+use Rattle.valley_events.proofs.Laws.Turns.{turned_as}
 use Rattle.valley_world.specs.Valley.{later_turn}
 use Rattle.valley_events.proofs.later_turn.Goals as goal
 

@@ -3,7 +3,7 @@ use mathlib.Core.Path.{◌∙◌, ap}
 use native.Mathlib.Omega.{arith}
 use Rattle.station.specs.Calls.{Returned}
 use Rattle.valley_world.specs.Group.{returned_by}
-use Rattle.valley_events.specs.Laws.Turns.{turned_as, refused_opening, done_opening}
+use Rattle.valley_events.proofs.Laws.Turns.{turned_as, refused_opening, done_opening}
 use Rattle.valley_world.specs.Valley.{event, after_opening}
 use Rattle.valley_events.proofs.open_event.Goals as goal
 

@@ -1,5 +1,5 @@
 -- What the line promises, of what is shown.
-use Rattle.valley_events.specs.Laws.Turns.{told_turned}
+use Rattle.valley_events.proofs.Laws.Turns.{told_turned}
 use Rattle.valley_events.proofs.told.Goals as goal
 
 pub returns : goal.returns

@@ -1,7 +1,7 @@
 -- Each arm is a case of the definition.
 use mathlib.Core.Path.{refl, sym, ap}
 use Rattle.valley_world.specs.declared.Phase.{Phase}
-use Rattle.valley_events.specs.Laws.Turns.{turned_as, nothing}
+use Rattle.valley_events.proofs.Laws.Turns.{turned_as, nothing}
 use Rattle.valley_world.specs.Valley.{turn}
 use Rattle.valley_events.proofs.turn.Goals as goal
 

@@ -4,7 +4,7 @@ use native.Mathlib.Omega.{arith}
 use lib.ListN.{get_or}
 use borrow.Author.Tests.{not-true, not-false}
 use Rattle.valley_lines.specs.Read.{is_digit}
-use Rattle.valley_lines.specs.Laws.Words.{digits_turn, digits_stop, digits_end}
+use Rattle.valley_lines.proofs.Laws.Words.{digits_turn, digits_stop, digits_end}
 use mathlib.Core.Path.{ap}
 use mathlib.Core.Bool.{not}
 use Rattle.valley_lines.proofs.all_digits.Goals as goal

@@ -1,5 +1,5 @@
 -- The tests are those of the definition, joined as there.
-use Rattle.valley_lines.specs.Laws.Says.{second_is, group_read, group_not}
+use Rattle.valley_lines.proofs.Laws.Says.{second_is, group_read, group_not}
 use Rattle.valley_lines.proofs.read_group.Goals as goal
 
 pub value-requires : goal.value-requires

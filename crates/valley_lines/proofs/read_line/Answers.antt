@@ -4,8 +4,8 @@ use mathlib.Core.Path.{sym}
 use native.Mathlib.Omega.{arith}
 use lib.ListN.{length}
 use lib.Seq.{length-take-le}
-use Rattle.valley_lines.specs.Laws.Words.{end_inside}
-use Rattle.valley_lines.specs.Laws.Says.{one_word, two_words, longer_line}
+use Rattle.valley_lines.proofs.Laws.Words.{end_inside}
+use Rattle.valley_lines.proofs.Laws.Says.{one_word, two_words, longer_line}
 use Rattle.valley_lines.proofs.read_line.Goals as goal
 
 pub returns-then-a-text : goal.returns-then-a-text

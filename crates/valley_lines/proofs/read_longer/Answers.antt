@@ -4,8 +4,8 @@ use mathlib.Core.Path.{sym}
 use native.Mathlib.Omega.{arith}
 use lib.ListN.{take, drop}
 use lib.Seq.{length-take-le}
-use Rattle.valley_lines.specs.Laws.Words.{end_inside}
-use Rattle.valley_lines.specs.Laws.Says.{three_words, four_words, more_words}
+use Rattle.valley_lines.proofs.Laws.Words.{end_inside}
+use Rattle.valley_lines.proofs.Laws.Says.{three_words, four_words, more_words}
 use Rattle.valley_lines.proofs.read_longer.Goals as goal
 
 pub slice_bounds-read_open-end : goal.slice_bounds-read_open-end

@@ -1,6 +1,6 @@
 -- The tests are those of the definition, joined as there.
 use mathlib.Core.Bool.{◌&&◌}
-use Rattle.valley_lines.specs.Laws.Says.{first_part, second_is, open_read, open_not}
+use Rattle.valley_lines.proofs.Laws.Says.{first_part, second_is, open_read, open_not}
 use Rattle.valley_lines.proofs.read_open.Goals as goal
 
 pub value-requires : goal.value-requires

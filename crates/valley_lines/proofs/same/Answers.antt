@@ -1,7 +1,7 @@
 -- The invariant: what is left of the texts is the same where the texts are. The measure is what is left of the first.
 use mathlib.Core.Path.{refl, sym, ◌∙◌}
 use native.Mathlib.Omega.{arith}
-use Rattle.valley_lines.specs.Laws.Words.{same_turn, same_stop, same_end, other_length}
+use Rattle.valley_lines.proofs.Laws.Words.{same_turn, same_stop, same_end, other_length}
 use Rattle.valley_lines.proofs.same.Goals as goal
 
 pub returns-then-text-other : goal.returns-then-text-other

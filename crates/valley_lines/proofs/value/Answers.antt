@@ -5,7 +5,7 @@ use mathlib.Core.Path.{◌≡◌, refl, sym, ◌∙◌}
 use native.Mathlib.Omega.{arith}
 use lib.ListN.{length, drop, get_or}
 use Rattle.valley_lines.specs.Read.{all_digits}
-use Rattle.valley_lines.specs.Laws.Words.{number_parts, digit_parts, value_turn, value_end, below_turn, below_four}
+use Rattle.valley_lines.proofs.Laws.Words.{number_parts, digit_parts, value_turn, value_end, below_turn, below_four}
 use Rattle.valley_lines.proofs.value.Goals as goal
 
 pub loop-i-init : goal.loop-i-init

@@ -1,7 +1,7 @@
 -- The invariant: the word from here on ends where the word from its start does. The measure is what is left of the text.
 use mathlib.Core.Path.{refl, sym, ◌∙◌}
 use native.Mathlib.Omega.{arith}
-use Rattle.valley_lines.specs.Laws.Words.{end_turn, end_space, end_last}
+use Rattle.valley_lines.proofs.Laws.Words.{end_turn, end_space, end_last}
 use Rattle.valley_lines.proofs.word_end.Goals as goal
 
 pub loop-i-init : goal.loop-i-init

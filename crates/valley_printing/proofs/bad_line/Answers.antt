@@ -1,7 +1,7 @@
 -- The fixed bytes, the number behind them, and the line's end.
 use native.Mathlib.Omega.{arith}
-use Rattle.valley_printing.specs.Laws.Width.{decimal_64}
-use Rattle.valley_printing.specs.Laws.Put.{bad_line_put}
+use Rattle.valley_printing.proofs.Laws.Width.{decimal_64}
+use Rattle.valley_printing.proofs.Laws.Put.{bad_line_put}
 use Rattle.valley_printing.proofs.bad_line.Goals as goal
 
 pub put_number-end-requires : goal.put_number-end-requires

@@ -3,7 +3,7 @@ use mathlib.Core.Path.{◌≡◌, refl, ◌∙◌}
 use native.Mathlib.Omega.{arith}
 use lib.ListN.{length, get_or}
 use lib.Seq.{paste-zero}
-use Rattle.valley_printing.specs.Laws.Put.{copied, copied_length}
+use Rattle.valley_printing.proofs.Laws.Put.{copied, copied_length}
 use Rattle.valley_printing.proofs.copy.Goals as goal
 
 pub loop-i-init : goal.loop-i-init

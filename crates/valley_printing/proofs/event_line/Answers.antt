@@ -4,8 +4,8 @@ use native.Mathlib.Omega.{arith}
 use lib.ListN.{length}
 use borrow.Author.Rules.{rules}
 use Rattle.valley_printing.specs.Print.{decimal}
-use Rattle.valley_printing.specs.Laws.Width.{decimal_64, decimal_32}
-use Rattle.valley_printing.specs.Laws.Put.{event_line_put}
+use Rattle.valley_printing.proofs.Laws.Width.{decimal_64, decimal_32}
+use Rattle.valley_printing.proofs.Laws.Put.{event_line_put}
 use Rattle.valley_printing.proofs.event_line.Goals as goal
 
 pub put_number-a-requires : goal.put_number-a-requires

@@ -6,7 +6,7 @@ use native.Mathlib.Omega.{arith}
 use lib.ListN.{length, take}
 use lib.Seq.{paste}
 use Rattle.valley_printing.specs.Print.{decimal}
-use Rattle.valley_printing.specs.Laws.Decimal.{spelled_text}
+use Rattle.valley_printing.proofs.Laws.Decimal.{spelled_text}
 use Rattle.valley_printing.proofs.put_number.Goals as goal
 
 pub slice_bounds-digits-end : goal.slice_bounds-digits-end

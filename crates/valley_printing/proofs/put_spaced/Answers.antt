@@ -3,7 +3,7 @@ use native.Mathlib.Omega.{arith}
 use lib.ListN.{length-set}
 use Rattle.valley_lines.specs.Read.{space}
 use Rattle.valley_printing.specs.Print.{decimal}
-use Rattle.valley_printing.specs.Laws.Put.{put_after}
+use Rattle.valley_printing.proofs.Laws.Put.{put_after}
 use Rattle.valley_printing.proofs.put_spaced.Goals as goal
 
 pub put_number-requires : goal.put_number-requires

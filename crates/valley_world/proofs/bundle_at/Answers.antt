@@ -2,7 +2,7 @@
 use mathlib.Core.Path.{◌∙◌}
 use native.Mathlib.Omega.{arith}
 use borrow.Author.Rules.{rules}
-use Rattle.valley_world.specs.Laws.Places.{low, high, at_inside, at_outside}
+use Rattle.valley_world.proofs.Laws.Places.{low, high, at_inside, at_outside}
 use Rattle.valley_world.specs.Valley.{no_bundle}
 use Rattle.valley_world.proofs.bundle_at.Goals as goal
 

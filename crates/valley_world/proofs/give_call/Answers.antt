@@ -1,5 +1,5 @@
 -- What giving answers, of what stands at the numbers.
-use Rattle.valley_world.specs.Laws.Group.{gives_are}
+use Rattle.valley_world.proofs.Laws.Group.{gives_are}
 use Rattle.valley_world.proofs.give_call.Goals as goal
 
 pub returns : goal.returns

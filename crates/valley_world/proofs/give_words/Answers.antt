@@ -1,6 +1,6 @@
 -- What giving answers, of the words that count.
 use borrow.Author.Rules.{rules}
-use Rattle.valley_world.specs.Laws.Group.{part_fits, part_long, gives_words}
+use Rattle.valley_world.proofs.Laws.Group.{part_fits, part_long, gives_words}
 use Rattle.valley_world.proofs.give_words.Goals as goal
 
 pub slice_bounds-given-end : goal.slice_bounds-given-end

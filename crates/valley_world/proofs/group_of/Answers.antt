@@ -1,5 +1,5 @@
 -- By its fields.
-use Rattle.valley_world.specs.Laws.Group.{group_is}
+use Rattle.valley_world.proofs.Laws.Group.{group_is}
 use Rattle.valley_world.proofs.group_of.Goals as goal
 
 pub returns : goal.returns

@@ -3,7 +3,7 @@ use mathlib.Core.Path.{◌∙◌}
 use borrow.Author.Rules.{rules}
 use Rattle.laws.specs.Pick.{pick}
 use Rattle.modules.specs.Counter.{no_module}
-use Rattle.valley_world.specs.Laws.Places.{low, high, at_inside, at_outside}
+use Rattle.valley_world.proofs.Laws.Places.{low, high, at_inside, at_outside}
 use Rattle.valley_world.proofs.module_at.Goals as goal
 
 pub returns-then-s : goal.returns-then-s

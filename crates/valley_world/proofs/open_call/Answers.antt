@@ -1,5 +1,5 @@
 -- What opening answers, of the module that stands at the number.
-use Rattle.valley_world.specs.Laws.Group.{answer_parts, opens_are}
+use Rattle.valley_world.proofs.Laws.Group.{answer_parts, opens_are}
 use Rattle.valley_world.proofs.open_call.Goals as goal
 
 pub returns : goal.returns

@@ -1,6 +1,6 @@
 -- Where the number has no place nothing is replaced.
 use borrow.Author.Rules.{rules}
-use Rattle.valley_world.specs.Laws.Places.{low, high, put_inside, put_outside}
+use Rattle.valley_world.proofs.Laws.Places.{low, high, put_inside, put_outside}
 use Rattle.valley_world.proofs.put_module.Goals as goal
 
 pub returns-then-s : goal.returns-then-s

@@ -1,5 +1,5 @@
 -- By whether the station is open.
-use Rattle.valley_world.specs.Laws.Group.{shows_no_step, shows_step}
+use Rattle.valley_world.proofs.Laws.Group.{shows_no_step, shows_step}
 use mathlib.Core.Path.{ap}
 use mathlib.Core.Bool.{not}
 use Rattle.valley_world.proofs.shown_step.Goals as goal

@@ -2,7 +2,7 @@
 use mathlib.Core.Path.{◌∙◌}
 use borrow.Author.Rules.{rules}
 use Rattle.station.specs.Present.{no_station}
-use Rattle.valley_world.specs.Laws.Places.{low, high, at_inside, at_outside}
+use Rattle.valley_world.proofs.Laws.Places.{low, high, at_inside, at_outside}
 use Rattle.valley_world.proofs.station_at.Goals as goal
 
 pub returns-then-s : goal.returns-then-s

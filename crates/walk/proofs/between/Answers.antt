@@ -1,6 +1,6 @@
 -- A second group has its size, or there is to be none and nothing follows; the other fields are those of the definition.
 use Rattle.walk.specs.Walk.{second_size, between}
-use Rattle.walk.specs.Laws.Codes.{chosen}
+use Rattle.walk.proofs.Laws.Codes.{chosen}
 use Rattle.walk.proofs.between.Goals as goal
 
 pub returns : goal.returns

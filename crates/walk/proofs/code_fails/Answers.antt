@@ -1,5 +1,5 @@
 -- Behind a fault nothing is computed. Else the words read are those that the code covers, and the code over them is compared with the words behind.
-use Rattle.walk.specs.Laws.Codes.{failed}
+use Rattle.walk.proofs.Laws.Codes.{failed}
 use borrow.Author.Rules.{rules}
 use Rattle.walk.proofs.code_fails.Goals as goal
 

@@ -4,7 +4,7 @@ use mathlib.Core.Path.{refl, sym, ◌∙◌}
 use lib.ListN.{drop}
 use native.Mathlib.Omega.{arith}
 use Rattle.format.specs.Present.{covered_words}
-use Rattle.walk.specs.Laws.Codes.{same_turn, same_end}
+use Rattle.walk.proofs.Laws.Codes.{same_turn, same_end}
 use borrow.Author.Rules.{rules}
 use Rattle.walk.proofs.code_matches.Goals as goal
 

@@ -2,7 +2,7 @@
 use mathlib.Core.Bool.{not}
 use Rattle.format.specs.Words.{fields_of}
 use Rattle.walk.specs.Walk.{started}
-use Rattle.walk.specs.Laws.Codes.{covers}
+use Rattle.walk.proofs.Laws.Codes.{covers}
 use Rattle.walk.proofs.start.Goals as goal
 
 pub code_fails-wrong-requires : goal.code_fails-wrong-requires

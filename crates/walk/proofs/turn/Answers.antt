@@ -6,7 +6,7 @@ use lib.ListN.{get_or}
 use Rattle.format.specs.Words.{fields_of}
 use Rattle.walk.specs.Walk.{noted}
 use Rattle.laws.specs.Bools.{neither, or_nothing}
-use Rattle.walk.specs.Laws.Codes.{covers}
+use Rattle.walk.proofs.Laws.Codes.{covers}
 use Rattle.walk.proofs.turn.Goals as goal
 
 pub returns-then-bad-other : goal.returns-then-bad-other

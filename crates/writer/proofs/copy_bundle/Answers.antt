@@ -5,7 +5,7 @@ use lib.Dec.{leb}
 use lib.ListN.{length}
 use borrow.Author.Tests.{leb-true}
 use Rattle.laws.specs.Bools.{both}
-use Rattle.writer.specs.Laws.Writing.{copied, not_copied}
+use Rattle.writer.proofs.Laws.Writing.{copied, not_copied}
 use borrow.Author.Rules.{rules}
 use Rattle.writer.proofs.copy_bundle.Goals as goal
 

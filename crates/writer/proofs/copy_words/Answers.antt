@@ -3,7 +3,7 @@ use Prim.Native.Nat.{◌<◌}
 use mathlib.Core.Path.{◌≡◌, refl, ◌∙◌}
 use native.Mathlib.Omega.{arith}
 use lib.ListN.{length, length-set}
-use Rattle.writer.specs.Laws.Writing.{part_begin, part_turn}
+use Rattle.writer.proofs.Laws.Writing.{part_begin, part_turn}
 use borrow.Author.Rules.{rules}
 use Rattle.writer.proofs.copy_words.Goals as goal
 

@@ -3,7 +3,7 @@ use mathlib.Core.Path.{◌≡◌, ◌∙◌}
 use lib.ListN.{length}
 use mathlib.Core.Bool.{true, false}
 use Rattle.writer.specs.Written.{writable}
-use Rattle.writer.specs.Laws.Writing.{not_is_true, not_is_false, writable_out, not_written, is_written}
+use Rattle.writer.proofs.Laws.Writing.{not_is_true, not_is_false, writable_out, not_written, is_written}
 use mathlib.Core.Path.{ap}
 use mathlib.Core.Bool.{not}
 use Rattle.writer.proofs.write_bundle.Goals as goal

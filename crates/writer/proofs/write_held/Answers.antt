@@ -9,7 +9,7 @@ use Rattle.laws.specs.Pick.{via}
 use Rattle.laws.specs.Sets.{bit}
 use Rattle.laws.specs.Over.{over, length_over, put_behind}
 use Rattle.writer.specs.Written.{segment, held_words}
-use Rattle.writer.specs.Laws.Writing.{held_begin, held_in_turn, held_out_turn, held_longer}
+use Rattle.writer.proofs.Laws.Writing.{held_begin, held_in_turn, held_out_turn, held_longer}
 use borrow.Author.Rules.{rules}
 use Rattle.writer.proofs.write_held.Goals as goal
 use Rattle.writer.proofs.write_held.Goals.{then-in_set, else-in_set}

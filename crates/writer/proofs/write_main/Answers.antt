@@ -6,7 +6,7 @@ use lib.ListN.{length, set, length-set, length-take, length-drop}
 use borrow.Rule.Slice.PartMut.{put_mid}
 use Rattle.laws.specs.Over.{over, length_over}
 use Rattle.writer.specs.Written.{main_words}
-use Rattle.writer.specs.Laws.Writing.{main_done, length_main}
+use Rattle.writer.proofs.Laws.Writing.{main_done, length_main}
 use borrow.Author.Rules.{rules}
 use Rattle.writer.proofs.write_main.Goals as goal
 

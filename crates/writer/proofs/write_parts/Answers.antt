@@ -7,7 +7,7 @@ use lib.Count.{ones}
 use lib.ListN.{length}
 use Rattle.laws.specs.Over.{over}
 use Rattle.writer.specs.Written.{segment, held_words, main_words, words_of}
-use Rattle.writer.specs.Laws.Writing.{parts_done, length_main, held_length}
+use Rattle.writer.proofs.Laws.Writing.{parts_done, length_main, held_length}
 use Rattle.writer.proofs.write_parts.Goals as goal
 
 pub returns : goal.returns
