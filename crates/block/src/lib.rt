@@ -1,4 +1,6 @@
 // The compression of one block by SHA-256 (FIPS 180-4): sixty-four rounds. The contracts cite compression/specs/.
+#![tactic(auto)]
+
 ghost use Rattle.std.specs.Prelude.{◌≡◌, take, drop};
 ghost use Rattle.compression.specs.Compression.{extended, rounds_from, compressed};
 ghost use Rattle.compression.specs.Steps.{onward, listed};

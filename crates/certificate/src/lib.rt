@@ -1,5 +1,7 @@
 // The validity check (document 01, "Validity") in one walk over the certificate: each statement is read once, in order, and what is found is carried to the
 // next. The contracts cite specs/.
+#![tactic(auto)]
+
 ghost use Rattle.std.specs.Prelude.{◌≡◌, true, ◌+◌, ◌-◌, ◌%◌, ◌≤◌, length};
 ghost use Rattle.laws.specs.Least.{least};
 ghost use Rattle.hmac.specs.Hmac.{code_from};

@@ -1,5 +1,7 @@
 // The validity check for programs in C or Rust (`rt staticlib check_exports`), and the compression that its time goes into. A slice is passed
 // as a pointer and a length, a reference to an array as a pointer.
+#![tactic(auto)]
+
 ghost use Rattle.std.specs.Prelude.{◌≡◌};
 ghost use Rattle.compression.specs.Compression.{compressed};
 ghost use Rattle.rules.specs.declared.Which.TheVariants.{Only};

@@ -1,4 +1,6 @@
 // HMAC-SHA-256 (RFC 2104): the code over a few words from a prepared key, and the code of a message. The contracts cite hmac/specs/Hmac.antt.
+#![tactic(auto)]
+
 ghost use Rattle.std.specs.Prelude.{◌≡◌, ◌+◌, ◌-◌, ◌*◌, ◌^◌, ◌≤◌, [], ◌∷◌, ◌++◌, length, replicate};
 ghost use Rattle.hmac.specs.Hmac.{code_of, closed, short_code};
 

@@ -1,4 +1,6 @@
 // One round of SHA-256's compression (FIPS 180-4), and one word of its schedule. The contracts cite specs/Steps.antt.
+#![tactic(auto)]
+
 ghost use Rattle.std.specs.Prelude.{◌≡◌};
 ghost use Rattle.compression.specs.Steps.{scheduled, stepped};
 

@@ -1,4 +1,6 @@
 // SHA-256 (FIPS 180-4) of a slice of bytes: the padding, and the hash of the whole. The contracts cite sha256/specs/Sha256.antt.
+#![tactic(auto)]
+
 ghost use Rattle.std.specs.Prelude.{◌≡◌, ◌+◌, ◌-◌, ◌*◌, ◌%◌, ◌<◌, ◌≤◌, ◌∷◌, ◌++◌, length, take, drop, replicate};
 ghost use Rattle.sha256.specs.Sha256.{big64, padding, hashed, limit, digest, hash_after};
 

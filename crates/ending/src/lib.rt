@@ -1,5 +1,7 @@
 // What follows the end of a step, from a station's words (document 01, "The station"). The contracts cite specs/ here and of
 // crate station.
+#![tactic(auto)]
+
 ghost use Rattle.std.specs.Prelude.{◌≡◌};
 ghost use Rattle.laws.specs.Pick.{pick};
 ghost use Rattle.format.specs.Numbers.{none};

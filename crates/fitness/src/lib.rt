@@ -1,4 +1,6 @@
 // Whether a station fits its module (document 01, "A station fits if", and docs/STATION.md). The contracts cite specs/ of crate station.
+#![tactic(auto)]
+
 ghost use Rattle.std.specs.Prelude.{◌≡◌, true, ◌&&◌, ◌≤◌};
 ghost use Rattle.format.specs.Present.{most_stations, size_fits};
 ghost use Rattle.modules.specs.Present.{module_fits};

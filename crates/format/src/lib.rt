@@ -1,4 +1,6 @@
 // Group sizes, thresholds and word 0 of a statement (document 01, "Group and thresholds" and "Words"). The contracts cite specs/.
+#![tactic(auto)]
+
 ghost use Rattle.std.specs.Prelude.{◌≡◌, ◌+◌, ◌/◌, get_or};
 ghost use Rattle.format.specs.Group.{quorum as Quorum, backing as Backing};
 ghost use Rattle.format.specs.Words.{fields_of, word_of, step_in};

@@ -1,4 +1,6 @@
 // Giving a bundle to a station (document 01, "The station" and "Table of returns"). The contracts cite specs/.
+#![tactic(auto)]
+
 ghost use Rattle.std.specs.Prelude.{◌≡◌};
 ghost use Rattle.hmac.specs.Code.{hmac_code};
 ghost use Rattle.station.specs.Answers.{Answers};

@@ -1,4 +1,6 @@
 // The answer behind a fault of 4 or 5: of the rest of a bundle only fields and questions are looked at, for a lower number. The contract cites specs/.
+#![tactic(auto)]
+
 ghost use Rattle.std.specs.Prelude.{◌≡◌};
 ghost use Rattle.format.specs.Words.{fields_of};
 ghost use Rattle.format.specs.Present.{formed};

@@ -1,5 +1,7 @@
 // The hash and the code for programs in C or Rust (`rt staticlib hash_exports`). Each function hands on to one of the crates below and
 // writes what it answers through its last references. A slice is passed as a pointer and a length, a reference to an array as a pointer.
+#![tactic(auto)]
+
 ghost use Rattle.std.specs.Prelude.{◌≡◌};
 ghost use Rattle.compression.specs.Compression.{compressed};
 ghost use Rattle.sha256.specs.Sha256.{words, digest};

@@ -1,4 +1,6 @@
 // Sets of stations, one bit for each, and the scan over the held statements (document 01, "The station"). The contracts cite specs/.
+#![tactic(auto)]
+
 ghost use Rattle.std.specs.Prelude.{◌≡◌, false, ◌&&◌, ◌||◌, ◌%◌, ◌^◌, ◌<◌, eqb, ltb};
 ghost use Rattle.std.specs.Int.Count.{ones, count_trailing_zeros};
 ghost use Rattle.laws.specs.Count.{one_if};

@@ -1,4 +1,6 @@
 // Whether the statements that a station holds fit (document 01, "A station fits if"). The contracts cite specs/ of crate station.
+#![tactic(auto)]
+
 ghost use Rattle.std.specs.Prelude.{◌≡◌, ◌*◌, ◌<◌};
 ghost use Rattle.format.specs.Present.{statement_words};
 ghost use Rattle.station.specs.Fit.{zeros};

@@ -1,4 +1,6 @@
 // The key of HMAC-SHA-256 (RFC 2104), prepared: the states after its two blocks. The contracts cite specs/Hmac.antt.
+#![tactic(auto)]
+
 ghost use Rattle.std.specs.Prelude.{◌≡◌, ◌<◌, ◌≤◌, length};
 ghost use Rattle.compression.specs.Compression.{compressed};
 ghost use Rattle.sha256.specs.Sha256.{words, initial, limit};

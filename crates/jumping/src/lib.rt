@@ -1,4 +1,6 @@
 // Jumping (document 02, Job 3): the station enters the step of a given bundle, by that bundle's certificate. The contracts cite specs/.
+#![tactic(auto)]
+
 ghost use Rattle.std.specs.Prelude.{◌≡◌};
 ghost use Rattle.station.specs.Answers.{Answers};
 ghost use Rattle.jumping.specs.Jumps.{value_by, copied_fields, stage_by, jumping};

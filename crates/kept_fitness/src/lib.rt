@@ -1,4 +1,6 @@
 // Whether the certificate groups that a station keeps fit (docs/STATION.md). The contracts cite specs/ of crate station.
+#![tactic(auto)]
+
 ghost use Rattle.std.specs.Prelude.{◌≡◌, ◌&&◌, ◌-◌, ◌*◌, ◌≤◌, eqb};
 ghost use Rattle.format.specs.Group.{quorum};
 ghost use Rattle.format.specs.Lists.{every};

@@ -1,5 +1,7 @@
 // The sealed module's counter: the module and the last pair that it coded, making, and what a pair is held against (document 01, "The sealed module").
 // The contracts cite specs/Counter.antt.
+#![tactic(auto)]
+
 ghost use Rattle.std.specs.Prelude.{◌≡◌};
 ghost use Rattle.modules.specs.Counter.{above, last_for};
 ghost use Rattle.modules.specs.Present.{module_fits, making};

@@ -1,4 +1,6 @@
 // What follows a step is sent (document 01, "The station"): the certificate is put together, and the statement coded and written. The contracts cite specs/.
+#![tactic(auto)]
+
 ghost use Rattle.std.specs.Prelude.{◌≡◌};
 ghost use Rattle.station.specs.Answers.{Answers};
 ghost use Rattle.sending.specs.Sent.{sent_count, sent_lent, sent_bundle, sent_station, sent_after};

@@ -1,4 +1,6 @@
 // The first refusal of a given bundle (document 01, "Table of returns"). The contracts cite specs/.
+#![tactic(auto)]
+
 ghost use Rattle.std.specs.Prelude.{◌≡◌, [], ◌∷◌, ◌-◌, ◌≤◌, get_or};
 ghost use Rattle.laws.specs.Refusals.{test, first_failed};
 ghost use Rattle.format.specs.Numbers.{too_late, too_early, already_held, conflicting as conflicting-number};

@@ -1,11 +1,11 @@
 -- The first group, by the main statement's kind, as the code finds it.
-use Rattle.std.specs.Prelude.{ℕ, ◌-◌, ◌≡◌, refl, eqb, ltb}
+use Rattle.std.specs.Prelude.{ℕ, ◌-◌, eqb, ltb}
 use Rattle.laws.specs.Pick.{pick}
-use Rattle.format.specs.Numbers.{kind_p, none, d_get}
+use Rattle.format.specs.Numbers.{none, d_get}
 use Rattle.rules.specs.declared.Which.TheVariants.{Any, Only}
 use Rattle.rules.specs.declared.Group.{Group}
 use Rattle.rules.specs.Rules.{proposals, none_votes}
-use Rattle.rules.specs.Test.{d_get_group, first_group}
+use Rattle.rules.specs.Test.{d_get_group}
 
 -- `first_group` for a P, and for a V
 unfoldable pub proposal_group : ℕ → ℕ → ℕ → ℕ → Group
@@ -17,8 +17,3 @@ vote_group n value round =
     pick (ltb value none) (proposals n round (Only value) Any)
     (pick (eqb round 1) (proposals n 1 Any (Only d_get))
     (proposals n round Any Any))
-
-pub first_is : (n kind value flag round : ℕ)
-    → first_group n kind value flag round ≡ pick (eqb kind kind_p) (proposal_group n value flag round) (vote_group n value round)
-unfolding proposal_group vote_group first_group
-first_is n kind value flag round = refl

@@ -1,5 +1,5 @@
 -- Certificate groups, and the seven rules: `Backed` as documents 01 and 02 (Job 2, of rule 5) list them, `rule` as a test (Backed.antt: the two agree).
-use Rattle.std.specs.Prelude.{ℕ, ◌+◌, ◌-◌, ◌<◌, Bool, true, ◌&&◌, List, [], ◌∷◌, ◌++◌, ◌≡◌, eqb, length}
+use Rattle.std.specs.Prelude.{ℕ, ◌-◌, ◌<◌, Bool, true, ◌&&◌, List, [], ◌∷◌, ◌++◌, ◌≡◌, eqb, length}
 use Rattle.laws.specs.All.{All}
 use Rattle.format.specs.Numbers.{kind_init, kind_p, kind_v, none, d_get, r_get}
 use Rattle.format.specs.Group.{quorum, backing}

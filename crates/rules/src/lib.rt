@@ -1,4 +1,6 @@
 // Certificate groups, and which a main statement asks for (document 01, "Validity"). The contracts cite specs/.
+#![tactic(auto)]
+
 ghost use Rattle.std.specs.Prelude.{◌≡◌, ◌-◌};
 ghost use Rattle.rules.specs.Rules.{which, wanted, inits as Inits, proposals as Proposals, none_votes};
 ghost use Rattle.rules.specs.Test.{d_get_group, first_group, second_group, has_second, early_toss};

@@ -1,4 +1,6 @@
 // The sealed module's coding: plain, and with the coin (document 01, "The sealed module"). The contracts cite specs/.
+#![tactic(auto)]
+
 ghost use Rattle.std.specs.Prelude.{◌≡◌, [], ◌∷◌, length, get_or};
 ghost use Rattle.laws.specs.Refusals.{test, first_failed};
 ghost use Rattle.format.specs.Numbers.{out_of_range, malformed, wrong_code, not_above};

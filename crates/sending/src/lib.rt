@@ -1,4 +1,6 @@
 // Sending (document 01, "The station"): the station's own statement is coded, its bundle written, and it alone is held. The contracts cite specs/.
+#![tactic(auto)]
+
 ghost use Rattle.std.specs.Prelude.{◌≡◌, ◌≤◌, length, take};
 ghost use Rattle.format.specs.Present.{place_of};
 ghost use Rattle.writer.specs.Written.{copy_count};

@@ -1,4 +1,6 @@
 // The blocks of SHA-256 (FIPS 180-4): their words, the state after them, the first state, a state's bytes. The contracts cite specs/Sha256.antt.
+#![tactic(auto)]
+
 ghost use Rattle.std.specs.Prelude.{◌≡◌, ◌+◌, ◌*◌, ◌/◌, ◌^◌, ◌≤◌, length, take, drop};
 ghost use Rattle.sha256.specs.Sha256.{words, bytes, initial, blocks};
 

@@ -1,4 +1,6 @@
 // The round and the step of a stage (document 01, "The station"). The contracts cite specs/ of crate station.
+#![tactic(auto)]
+
 ghost use Rattle.std.specs.Prelude.{◌≡◌, ◌-◌};
 ghost use Rattle.station.specs.Machine.{round_in, stage_step};
 

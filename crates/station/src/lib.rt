@@ -1,4 +1,6 @@
 // The station's types (document 01, "The station"). The definitions stand in specs/.
+#![tactic(auto)]
+
 use format::{MOST_STATIONS, Round, STATEMENT_WORDS};
 use modules::Module;
 

@@ -1,4 +1,6 @@
 // A station as words and back (docs/SCRIPT.md, "The words of a station"). The contracts cite specs/.
+#![tactic(auto)]
+
 ghost use Rattle.std.specs.Prelude.{◌≡◌, ◌++◌, ◌+◌, ◌≤◌, length};
 ghost use Rattle.laws.specs.Over.{over};
 ghost use Rattle.station_words.specs.Words.{slots_at, station_words, stage_words, truth_word, settings_of, sets_of, is_stage, is_station, stage_in, part, station_in, flag_fits, refusal as Refusal, words_of, reading, writing, Wrote};

@@ -1,4 +1,6 @@
 // Reading a station: a call that changes nothing. The contracts cite specs/.
+#![tactic(auto)]
+
 ghost use Rattle.std.specs.Prelude.{◌≡◌};
 ghost use Rattle.status.specs.Status.{decision_on, nothing, status};
 

@@ -1,4 +1,6 @@
 // The run of the program valley (document 01, "The program valley"): its input comes in pieces of any size. The contracts cite specs/.
+#![tactic(auto)]
+
 ghost use Rattle.std.specs.Prelude.{◌≡◌, take};
 ghost use Rattle.valley_lines.specs.Read.{read_line};
 ghost use Rattle.valley_world.specs.Valley.{missing as Missing};

@@ -1,4 +1,6 @@
 // What a line of the program valley's input does: its events (document 01, "The program valley"). The contracts cite specs/ and world/specs/Valley.antt.
+#![tactic(auto)]
+
 ghost use Rattle.std.specs.Prelude.{◌≡◌, ◌-◌, ◌<◌};
 ghost use Rattle.valley_lines.specs.declared.Line.TheVariants.{Group, Give};
 ghost use Rattle.valley_world.specs.Valley.{most_bundles, opens, after as After, after_opening, bad as Bad, told as Told, event as Event, first_turn, later_turn, turn as Turn};

@@ -1,4 +1,6 @@
 // What a line of the program valley's input says (document 01, "The program valley"). The contracts cite specs/Read.antt.
+#![tactic(auto)]
+
 ghost use Rattle.std.specs.Prelude.{◌≡◌, true, [], ◌∷◌, ◌+◌, ◌-◌, ◌≤◌, ◌<◌, length, take, drop};
 ghost use Rattle.valley_lines.specs.Read.{space, split, all_digits, is_number, read_words, read_line, same as Read·same, value as Read·value};
 ghost use Rattle.valley_lines.specs.Words.{word_length};

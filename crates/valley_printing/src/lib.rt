@@ -1,4 +1,6 @@
 // The lines that the program valley prints, as bytes (document 01, "The program valley"). The contracts cite specs/Print.antt.
+#![tactic(auto)]
+
 ghost use Rattle.std.specs.Prelude.{◌≡◌, ◌∷◌, suc, ◌+◌, ◌≤◌, length};
 ghost use Rattle.std.proofs.Math.Seq.{paste};
 ghost use Rattle.laws.specs.Over.{over};

@@ -1,4 +1,6 @@
 // The group of the program valley as its run goes, and the calls on its stations (document 01, "The program valley"). The contracts cite specs/.
+#![tactic(auto)]
+
 ghost use Rattle.std.specs.Prelude.{◌≡◌, take};
 ghost use Rattle.modules.specs.Counter.{no_module};
 ghost use Rattle.hmac.specs.Code.{hmac_code};

@@ -1,5 +1,7 @@
 // What the validity check finds in a bundle, statement by statement (Job 4 of document 02): the findings, one turn, what follows the first group, and the answer.
 // The contracts cite specs/Walk.antt.
+#![tactic(auto)]
+
 ghost use Rattle.std.specs.Prelude.{◌≡◌, false, not, ◌&&◌, [], ◌∷◌, ◌%◌, ◌^◌, eqb, get_or};
 ghost use Rattle.hmac.specs.Hmac.{code_from};
 ghost use Rattle.format.specs.Numbers.{count_bits};

@@ -9,7 +9,8 @@ use borrow.Author.Tests.{eqb-true, eqb-false, le-leb, eq-eqb}
 use Rattle.laws.specs.Pick.{pick}
 use Rattle.laws.specs.Bools.{never}
 use Rattle.laws.specs.All.{All, all_map, all_append}
-use Rattle.format.specs.Form.{Form, most_stations, covered_words, with_round_length}
+use Rattle.format.specs.Form.{Form, most_stations, covered_words}
+use Rattle.format.proofs.Form.{with_round_length}
 use Rattle.format.specs.Numbers.{kind_v, none, least_stations}
 use Rattle.format.specs.Statement.{Statement, statement, covered, step}
 use Rattle.format.proofs.Laws.Shape.{Shape, init, proposal, vote, Formed, formed_out}

@@ -14,7 +14,8 @@ use Rattle.laws.specs.Pick.{pick}
 use Rattle.laws.specs.Bools.{never, both}
 use Rattle.laws.specs.All.{All}
 use Rattle.laws.specs.Count.{count}
-use Rattle.format.specs.Form.{Form, most_stations, covered_words, with_round, round_at, fields_at, statement_words, place_of, with_round_length}
+use Rattle.format.specs.Form.{Form, most_stations, covered_words, with_round, round_at, fields_at, statement_words, place_of}
+use Rattle.format.proofs.Form.{with_round_length}
 use Rattle.format.specs.Numbers.{none}
 use Rattle.format.specs.Group.{quorum}
 use Rattle.format.specs.Words.{station_of}

@@ -5,7 +5,8 @@ use Rattle.std.proofs.lemmas.Bool.{eqb-false}
 use Rattle.laws.specs.Bools.{twice_not}
 use Rattle.laws.specs.Count.{count}
 use Rattle.format.specs.Numbers.{kind_init, kind_p, kind_v, none, d_get, least_stations}
-use Rattle.format.specs.Group.{quorum, backing, most_faulty, quorums_meet, quorum_sound}
+use Rattle.format.specs.Group.{quorum, backing, most_faulty}
+use Rattle.format.proofs.Group.{quorums_meet, quorum_sound}
 use Rattle.format.specs.Statement.{Statement}
 use Rattle.agreement.proofs.Maths.Log.{In, has, Has, has_out, has_one, Supp, Distinct}
 

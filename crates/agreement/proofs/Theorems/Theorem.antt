@@ -16,7 +16,8 @@ use Rattle.format.specs.Group.{quorum, backing, most_faulty}
 use Rattle.format.specs.Words.{kind_of, value_of}
 use Rattle.format.specs.Statement.{Statement, statement, statements, step}
 use Rattle.format.specs.Lists.{some}
-use Rattle.hmac.specs.Code.{hmac_code, hmac_eight}
+use Rattle.hmac.specs.Code.{hmac_code}
+use Rattle.hmac.specs.Code.{hmac_eight}
 use Rattle.format.specs.Bundle.{count_in, main_of, certificate_of}
 use Rattle.format.proofs.Laws.Layout.{all_well}
 use Rattle.format.proofs.Laws.Shape.{Shape, init, proposal, vote, Formed, formed_out}

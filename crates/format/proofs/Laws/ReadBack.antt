@@ -3,7 +3,8 @@ use Rattle.std.specs.Prelude.{ℕ, ◌+◌, ◌≤◌, true, List, [], ◌++◌,
 use Rattle.std.proofs.Common.{append-nil, sym, subst, ◌∙◌, add-zero, arith, drop-drop, get_or-drop}
 use Rattle.std.proofs.Math.Path.{ap}
 use Rattle.std.proofs.Math.Seq.{take_at}
-use Rattle.format.specs.Form.{Form, first_form, wide_form, most_stations, low_bits, round_at, fields_at, statement_words, stations_fit, low_in_bits, with_round_length}
+use Rattle.format.specs.Form.{Form, first_form, wide_form, most_stations, low_bits, round_at, fields_at, statement_words}
+use Rattle.format.proofs.Form.{stations_fit, low_in_bits, with_round_length}
 use Rattle.format.specs.Numbers.{code_words}
 use Rattle.format.specs.declared.Fields.{Fields}
 use Rattle.format.specs.Words.{fields_of, kind_of, value_of, flag_of, station_of, low_of, round_of, spare_of, wide_fields}

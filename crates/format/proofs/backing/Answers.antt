@@ -1,7 +1,6 @@
 -- Each branch is a case of the definition.
 use Rattle.laws.specs.Pick.{cases}
 use Rattle.format.specs.Group.{backing}
-use borrow.Author.Rules.{rules}
 use Rattle.format.proofs.backing.Goals as goal
 
 pub returns-then-v-eq0 : goal.returns-then-v-eq0

@@ -1,7 +1,6 @@
 -- The fields are those of the definition.
 use mathlib.Core.Path.{refl}
 use Rattle.format.specs.Words.{fields_of}
-use borrow.Author.Rules.{rules}
 use Rattle.format.proofs.read_fields.Goals as goal
 
 pub returns : goal.returns

@@ -2,9 +2,7 @@
 use mathlib.Core.Path.{ap}
 use Prim.Native.Nat.{ℕ}
 use Rattle.laws.specs.Pick.{cases}
-use Rattle.format.specs.declared.Step.{Step}
 use Rattle.format.specs.Words.{step_of, step_in}
-use borrow.Author.Rules.{rules}
 use Rattle.format.proofs.step_of.Goals as goal
 
 pub returns-then-f-eq-INIT : goal.returns-then-f-eq-INIT

@@ -1,6 +1,5 @@
 -- The tests are those of the definition.
 use mathlib.Core.Path.{refl}
-use borrow.Author.Rules.{rules}
 use Rattle.format.specs.Statement.{formed}
 use Rattle.format.proofs.well_formed.Goals as goal
 

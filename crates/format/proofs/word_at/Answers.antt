@@ -1,7 +1,6 @@
 -- Behind the last word a list has its default.
 use mathlib.Core.Path.{sym}
 use lib.ListN.{get_or-eq_default}
-use borrow.Author.Rules.{rules}
 use Rattle.format.proofs.word_at.Goals as goal
 
 pub returns-else-i-ws : goal.returns-else-i-ws

@@ -14,7 +14,8 @@ use Rattle.format.specs.Group.{quorum}
 use Rattle.format.specs.Words.{step_of}
 use Rattle.format.specs.Statement.{Statement, step}
 use Rattle.format.specs.Present.{last_round, main_of, certificate_of}
-use Rattle.hmac.specs.Code.{hmac_code, hmac_eight}
+use Rattle.hmac.specs.Code.{hmac_code}
+use Rattle.hmac.specs.Code.{hmac_eight}
 use Rattle.modules.specs.declared.Module.{Module}
 use Rattle.modules.specs.Counter.{above, last_for}
 use Rattle.station.specs.declared.Stage.{Stage}

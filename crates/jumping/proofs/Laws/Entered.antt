@@ -9,7 +9,8 @@ use Rattle.format.specs.Numbers.{jumped, not_above}
 use Rattle.format.specs.Words.{fields_of, step_of}
 use Rattle.format.specs.Statement.{Statement, step}
 use Rattle.format.specs.Present.{main_of, certificate_of}
-use Rattle.hmac.specs.Code.{hmac_code, hmac_eight}
+use Rattle.hmac.specs.Code.{hmac_code}
+use Rattle.hmac.specs.Code.{hmac_eight}
 use Rattle.modules.specs.declared.Module.{Module}
 use Rattle.modules.specs.Counter.{above, last_for}
 use Rattle.station.specs.declared.Station.{Station}

@@ -6,7 +6,8 @@ use Rattle.std.proofs.lemmas.Bool.{eqb-false}
 use Rattle.format.specs.Form.{present_form}
 use Rattle.format.specs.Numbers.{code_words}
 use Rattle.format.specs.Present.{last_round}
-use Rattle.hmac.specs.Code.{hmac_code, hmac_eight}
+use Rattle.hmac.specs.Code.{hmac_code}
+use Rattle.hmac.specs.Code.{hmac_eight}
 use Rattle.station.specs.declared.Station.{Station}
 use Rattle.station.specs.Machine.{stage_step}
 use Rattle.station.specs.Present.{state_of}

@@ -7,7 +7,8 @@ use Rattle.format.specs.Form.{present_form}
 use Rattle.format.specs.declared.Fields.{Fields}
 use Rattle.format.specs.Numbers.{kind_init, d_get, sent}
 use Rattle.format.specs.Statement.{step}
-use Rattle.hmac.specs.Code.{hmac_code, hmac_eight}
+use Rattle.hmac.specs.Code.{hmac_code}
+use Rattle.hmac.specs.Code.{hmac_eight}
 use Rattle.format.specs.Words.{step_of}
 use Rattle.format.proofs.Laws.Shape.{init}
 use Rattle.modules.specs.declared.Module.{Module}

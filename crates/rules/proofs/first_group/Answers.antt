@@ -1,6 +1,6 @@
 -- Each way out is a case of the definition.
 use Rattle.laws.specs.Pick.{cases}
-use Rattle.rules.specs.Groups.{first_is}
+use Rattle.rules.proofs.Groups.{first_is}
 use Rattle.rules.proofs.first_group.Goals as goal
 
 pub returns-then-f-eq-P : goal.returns-then-f-eq-P

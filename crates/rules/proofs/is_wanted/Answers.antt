@@ -1,6 +1,5 @@
 -- The tests are those of the definition.
 use Rattle.rules.specs.Rules.{wanted}
-use borrow.Author.Rules.{rules}
 use Rattle.rules.proofs.is_wanted.Goals as goal
 
 pub returns : goal.returns

@@ -6,7 +6,8 @@ use Rattle.std.proofs.Common.{◌∙◌, arith, length-append, drop_at, eqb-true
 use Rattle.std.proofs.lemmas.Bool.{eqb-false}
 use Rattle.laws.specs.Bools.{never, join}
 use Rattle.laws.specs.All.{All, all_map}
-use Rattle.format.specs.Form.{Form, most_stations, most_statements, head_bits, fields_at, statement_words, bundle_words, count_fits, head_in_bits, groups_fit}
+use Rattle.format.specs.Form.{Form, most_stations, most_statements, head_bits, fields_at, statement_words, bundle_words}
+use Rattle.format.proofs.Form.{count_fits, head_in_bits, groups_fit}
 use Rattle.format.specs.Numbers.{least_stations, head_mark, mark_bit, count_bits}
 use Rattle.format.proofs.Laws.Group.{backing_most}
 use Rattle.format.specs.Statement.{Statement, statement, statements, written, verifies, formed}

@@ -12,7 +12,8 @@ use borrow.Author.Tests.{eqb-true, eqb-false, eq-eqb, ltb-true, ltb-false, lt-lt
 use Rattle.laws.specs.Pick.{pick}
 use Rattle.laws.specs.Bools.{never, both, join, either, left, right, is_false}
 use Rattle.laws.specs.All.{All, all_map, all_two}
-use Rattle.format.specs.Form.{Form, last_round, rounds_there}
+use Rattle.format.specs.Form.{Form, last_round}
+use Rattle.format.proofs.Form.{rounds_there}
 use Rattle.format.specs.Numbers.{kind_init, kind_p, kind_v, none, d_get, r_get}
 use Rattle.format.specs.Group.{quorum, backing}
 use Rattle.format.proofs.Laws.Group.{backing_most}

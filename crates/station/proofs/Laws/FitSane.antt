@@ -15,7 +15,8 @@ use Rattle.laws.specs.Pick.{pick}
 use Rattle.laws.specs.Bools.{never, both, left, right}
 use Rattle.laws.specs.All.{All, all_map, all_two}
 use Rattle.laws.specs.Sets.{bit}
-use Rattle.format.specs.Form.{Form, most_stations, last_round, covered_words, fields_at, statement_words, words_mono}
+use Rattle.format.specs.Form.{Form, most_stations, last_round, covered_words, fields_at, statement_words}
+use Rattle.format.proofs.Form.{words_mono}
 use Rattle.format.specs.Numbers.{none, code_words}
 use Rattle.format.specs.Group.{quorum}
 use Rattle.format.specs.Words.{flag_of, station_of}

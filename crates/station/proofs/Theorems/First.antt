@@ -3,7 +3,8 @@ use Rattle.std.specs.Prelude.{ℕ, zero, suc, ◌+◌, ◌*◌, ◌≤◌, ◌<�
 use Rattle.std.proofs.Common.{◌∙◌, arith, leb-true, leb-false}
 use Rattle.laws.specs.Pick.{pick}
 use Rattle.laws.specs.All.{All}
-use Rattle.format.specs.Group.{quorum, backing, proposed_0, proposed_1, enough_0, enough_1}
+use Rattle.format.specs.Group.{quorum, backing}
+use Rattle.format.proofs.Group.{proposed_0, proposed_1, enough_0, enough_1}
 use Rattle.format.specs.Statement.{Statement}
 use Rattle.format.specs.Lists.{number_of}
 use Rattle.station.specs.Machine.{has_value, first_value}

@@ -13,7 +13,8 @@ use Rattle.laws.specs.All.{All}
 use Rattle.format.specs.Form.{present_form}
 use Rattle.format.specs.Numbers.{code_words}
 use Rattle.format.specs.Present.{output_words, main_of, certificate_of}
-use Rattle.hmac.specs.Code.{hmac_code, hmac_eight}
+use Rattle.hmac.specs.Code.{hmac_code}
+use Rattle.hmac.specs.Code.{hmac_eight}
 use Rattle.rules.specs.declared.Which.TheVariants.{Any, Only}
 use Rattle.certificate.specs.Check.{one_question}
 use Rattle.certificate.specs.Present.{bundle_tests, check_tests, check_by}

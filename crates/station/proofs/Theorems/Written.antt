@@ -13,12 +13,14 @@ use Rattle.laws.specs.Pick.{pick}
 use Rattle.laws.specs.Bools.{never, join}
 use Rattle.laws.specs.All.{All, all_map, all_append}
 use Rattle.laws.specs.Over.{over}
-use Rattle.format.specs.Form.{Form, most_stations, last_round, most_statements, statement_words, bundle_words, words_mono}
+use Rattle.format.specs.Form.{Form, most_stations, last_round, most_statements, statement_words, bundle_words}
+use Rattle.format.proofs.Form.{words_mono}
 use Rattle.format.specs.Numbers.{kind_init, kind_p, kind_v, none, d_get, r_get, code_words}
 use Rattle.format.specs.Group.{quorum, backing}
 use Rattle.format.specs.Statement.{Statement, statements, covered, same_words, verifies, statement_code}
 use Rattle.format.specs.Lists.{those}
-use Rattle.hmac.specs.Code.{hmac_code, hmac_eight}
+use Rattle.hmac.specs.Code.{hmac_code}
+use Rattle.hmac.specs.Code.{hmac_eight}
 use Rattle.format.specs.Bundle.{main_of, certificate_of, all_written, bundle_of}
 use Rattle.format.proofs.Laws.Shape.{init}
 use Rattle.rules.specs.declared.Which.TheVariants.{Any}

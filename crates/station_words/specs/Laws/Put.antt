@@ -2,7 +2,8 @@
 use Rattle.std.specs.Prelude.{ℕ, ◌+◌, ◌≤◌, ◌<◌, List, ◌++◌, ◌≡◌, length, get_or, set}
 use Rattle.std.proofs.Common.{append-nil, ap, ◌∙◌, add-one, arith, length-append}
 use Rattle.std.proofs.Math.Seq.{paste, paste-zero, paste-suc, drop-length}
-use Rattle.laws.specs.Over.{over, paste_front, paste_behind}
+use Rattle.laws.specs.Over.{over}
+use Rattle.laws.proofs.Over.{paste_front, paste_behind}
 use Rattle.station_words.specs.Words.{slots_at, value_at, none_at, jump_at}
 use Rattle.station.specs.Present.{slots_words, kept_words}
 

@@ -19,14 +19,14 @@ loop-i-preserved c = let a = c.args in
     let p = a.piece.now in (
       search rules,
       elim c.if-many-lt23.branch [
-        then-many-lt23 w ↦
-          ((λ j. behind (v.i + 1) (scanned (w.many-is j) (w.kept-is j) (drop (v.i + 1) p)))
-          ∙ scan_room p v.i v.many v.kept c.loop-i-test.true c.if-b-eq10.false (omega (arith, w.if-many-lt23.true))
-          ∙ v.invariant.1)
-      | else-many-lt23 w ↦
-          ((λ j. behind (v.i + 1) (scanned (w.many-is j) (w.kept-is j) (drop (v.i + 1) p)))
-          ∙ scan_full p v.i v.many v.kept c.loop-i-test.true c.if-b-eq10.false (omega (arith, w.if-many-lt23.false))
-          ∙ v.invariant.1)
+        | then-many-lt23 w ↦
+            ((λ j. behind (v.i + 1) (scanned (w.many-is j) (w.kept-is j) (drop (v.i + 1) p)))
+            ∙ scan_room p v.i v.many v.kept c.loop-i-test.true c.if-b-eq10.false (omega (arith, w.if-many-lt23.true))
+            ∙ v.invariant.1)
+        | else-many-lt23 w ↦
+            ((λ j. behind (v.i + 1) (scanned (w.many-is j) (w.kept-is j) (drop (v.i + 1) p)))
+            ∙ scan_full p v.i v.many v.kept c.loop-i-test.true c.if-b-eq10.false (omega (arith, w.if-many-lt23.false))
+            ∙ v.invariant.1)
       ],
     )
 

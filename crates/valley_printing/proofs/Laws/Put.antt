@@ -1,7 +1,8 @@
 -- How a line is put together at the front of a lent buffer: each text is put behind what was put before.
 use Rattle.std.specs.Prelude.{ℕ, suc, ◌+◌, ◌^◌, ◌≤◌, ◌<◌, ◌≡◌, refl, List, ◌∷◌, ◌++◌, length, take, get_or, set}
 use Rattle.std.proofs.Common.{sym, ap, ◌∙◌, add-one, arith, length-append, drop-set-lt, take-suc-set}
-use Rattle.laws.specs.Over.{over, over_snoc, paste_front, paste_behind}
+use Rattle.laws.specs.Over.{over}
+use Rattle.laws.proofs.Over.{over_snoc, paste_front, paste_behind}
 use Rattle.valley_lines.specs.Read.{space, newline}
 use Rattle.valley_printing.specs.Print.{decimal, event_line, bad_line_bytes, bad_line}
 use Rattle.valley_printing.proofs.Laws.Width.{decimal_64, decimal_32, event_line_length, bad_line_length}

@@ -15,13 +15,12 @@ put_number-a-requires c =
     let widths : (length (decimal c.args.event) ≤ 20)
     × (length (decimal c.args.number) ≤ 10)
     × (length (decimal c.args.step.0) ≤ 20)
-    × (length (decimal c.args.decision) ≤ 10) =
-    (
-  decimal_64 c.args.event c.ranges.event.fits,
-  decimal_32 c.args.number c.ranges.number.fits,
-  decimal_64 c.args.step.0 step_fits,
-  decimal_32 c.args.decision c.ranges.decision.fits,
-) in
+    × (length (decimal c.args.decision) ≤ 10) = (
+      decimal_64 c.args.event c.ranges.event.fits,
+      decimal_32 c.args.number c.ranges.number.fits,
+      decimal_64 c.args.step.0 step_fits,
+      decimal_32 c.args.decision c.ranges.decision.fits,
+    ) in
     omega (arith, widths)
 
 pub put_spaced-b-requires : goal.put_spaced-b-requires
@@ -31,13 +30,12 @@ put_spaced-b-requires c =
     let widths : (length (decimal c.args.event) ≤ 20)
     × (length (decimal c.args.number) ≤ 10)
     × (length (decimal c.args.step.0) ≤ 20)
-    × (length (decimal c.args.decision) ≤ 10) =
-    (
-  decimal_64 c.args.event c.ranges.event.fits,
-  decimal_32 c.args.number c.ranges.number.fits,
-  decimal_64 c.args.step.0 step_fits,
-  decimal_32 c.args.decision c.ranges.decision.fits,
-) in
+    × (length (decimal c.args.decision) ≤ 10) = (
+      decimal_64 c.args.event c.ranges.event.fits,
+      decimal_32 c.args.number c.ranges.number.fits,
+      decimal_64 c.args.step.0 step_fits,
+      decimal_32 c.args.decision c.ranges.decision.fits,
+    ) in
     omega (arith, widths)
 
 pub put_spaced-c-requires : goal.put_spaced-c-requires
@@ -47,13 +45,12 @@ put_spaced-c-requires c =
     let widths : (length (decimal c.args.event) ≤ 20)
     × (length (decimal c.args.number) ≤ 10)
     × (length (decimal c.args.step.0) ≤ 20)
-    × (length (decimal c.args.decision) ≤ 10) =
-    (
-  decimal_64 c.args.event c.ranges.event.fits,
-  decimal_32 c.args.number c.ranges.number.fits,
-  decimal_64 c.args.step.0 step_fits,
-  decimal_32 c.args.decision c.ranges.decision.fits,
-) in
+    × (length (decimal c.args.decision) ≤ 10) = (
+      decimal_64 c.args.event c.ranges.event.fits,
+      decimal_32 c.args.number c.ranges.number.fits,
+      decimal_64 c.args.step.0 step_fits,
+      decimal_32 c.args.decision c.ranges.decision.fits,
+    ) in
     omega (arith, widths)
 
 pub put_spaced-d-requires : goal.put_spaced-d-requires
@@ -63,13 +60,12 @@ put_spaced-d-requires c =
     let widths : (length (decimal c.args.event) ≤ 20)
     × (length (decimal c.args.number) ≤ 10)
     × (length (decimal c.args.step.0) ≤ 20)
-    × (length (decimal c.args.decision) ≤ 10) =
-    (
-  decimal_64 c.args.event c.ranges.event.fits,
-  decimal_32 c.args.number c.ranges.number.fits,
-  decimal_64 c.args.step.0 step_fits,
-  decimal_32 c.args.decision c.ranges.decision.fits,
-) in
+    × (length (decimal c.args.decision) ≤ 10) = (
+      decimal_64 c.args.event c.ranges.event.fits,
+      decimal_32 c.args.number c.ranges.number.fits,
+      decimal_64 c.args.step.0 step_fits,
+      decimal_32 c.args.decision c.ranges.decision.fits,
+    ) in
     omega (arith, widths)
 
 pub bounds-out-d : goal.bounds-out-d
@@ -79,13 +75,12 @@ bounds-out-d c =
     let widths : (length (decimal c.args.event) ≤ 20)
     × (length (decimal c.args.number) ≤ 10)
     × (length (decimal c.args.step.0) ≤ 20)
-    × (length (decimal c.args.decision) ≤ 10) =
-    (
-  decimal_64 c.args.event c.ranges.event.fits,
-  decimal_32 c.args.number c.ranges.number.fits,
-  decimal_64 c.args.step.0 step_fits,
-  decimal_32 c.args.decision c.ranges.decision.fits,
-) in
+    × (length (decimal c.args.decision) ≤ 10) = (
+      decimal_64 c.args.event c.ranges.event.fits,
+      decimal_32 c.args.number c.ranges.number.fits,
+      decimal_64 c.args.step.0 step_fits,
+      decimal_32 c.args.decision c.ranges.decision.fits,
+    ) in
     omega (arith, widths)
 
 pub overflow_add-result : goal.overflow_add-result
@@ -95,13 +90,12 @@ overflow_add-result c =
     let widths : (length (decimal c.args.event) ≤ 20)
     × (length (decimal c.args.number) ≤ 10)
     × (length (decimal c.args.step.0) ≤ 20)
-    × (length (decimal c.args.decision) ≤ 10) =
-    (
-  decimal_64 c.args.event c.ranges.event.fits,
-  decimal_32 c.args.number c.ranges.number.fits,
-  decimal_64 c.args.step.0 step_fits,
-  decimal_32 c.args.decision c.ranges.decision.fits,
-) in
+    × (length (decimal c.args.decision) ≤ 10) = (
+      decimal_64 c.args.event c.ranges.event.fits,
+      decimal_32 c.args.number c.ranges.number.fits,
+      decimal_64 c.args.step.0 step_fits,
+      decimal_32 c.args.decision c.ranges.decision.fits,
+    ) in
     omega (arith, widths)
 
 pub returns : goal.returns

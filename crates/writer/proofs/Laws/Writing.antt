@@ -14,7 +14,8 @@ use native.Mathlib.Omega.{arith}
 use Rattle.laws.specs.Pick.{pick, here, skip}
 use Rattle.laws.specs.Bools.{both, never}
 use Rattle.laws.specs.Sets.{bit}
-use Rattle.laws.specs.Over.{over, over_snoc, put_behind}
+use Rattle.laws.specs.Over.{over}
+use Rattle.laws.proofs.Over.{over_snoc, put_behind}
 use Rattle.format.specs.Group.{quorum}
 use Rattle.format.specs.Numbers.{code_words, head_mark, mark_bit}
 use Rattle.format.specs.Present.{bundle_words, most_statements, output_words, place_of, statement_words}

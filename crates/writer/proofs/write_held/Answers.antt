@@ -7,7 +7,8 @@ use lib.ListN.{length}
 use mathlib.Core.Bool.{true, false}
 use Rattle.laws.specs.Pick.{via}
 use Rattle.laws.specs.Sets.{bit}
-use Rattle.laws.specs.Over.{over, length_over, put_behind}
+use Rattle.laws.specs.Over.{over}
+use Rattle.laws.proofs.Over.{length_over, put_behind}
 use Rattle.writer.specs.Written.{segment, held_words}
 use Rattle.writer.proofs.Laws.Writing.{held_begin, held_in_turn, held_out_turn, held_longer}
 use borrow.Author.Rules.{rules}
@@ -26,21 +27,21 @@ loop-i-preserved c =
     let a = c.args in
     let l = a.slots.now in
     elim c.if-in_set.branch [
-      then-in_set w ↦
-        (let e : bit a.set v.i ≡ true = via c.in_set.result _ true c.in_set.ensures w.if-in_set.true in
-        let h : held_words a.set l 0 (v.i + 1) ≡ held_words a.set l 0 v.i ++ segment 10 (v.i * 10) l = held_in_turn a.set l v.i e in
-        let n : v.at + 10 ≡ length (held_words a.set l 0 (v.i + 1)) = held_longer a.set l v.i v.at e v.invariant.2 in
-        let room : length (held_words a.set l 0 (v.i + 1)) ≤ length a.out.now = omega (arith, n) in
-        let o : c.if-in_set.out ≡ over (held_words a.set l 0 (v.i + 1)) a.out.now =
-        w.out-is
-        ∙ put_behind (held_words a.set l 0 v.i) (segment 10 (v.i * 10) l) a.out.now v.out w.copy_words.new.out v.at (length v.out - v.at)
-        v.invariant.4 (sym v.invariant.2) refl w.copy_words.ensures
-        ∙ ap (λ (x : List ℕ). over x a.out.now) (sym h) in
-        (omega arith, omega arith, w.at-is ∙ n, ap length o ∙ length_over (held_words a.set l 0 (v.i + 1)) a.out.now room, o))
-    | else-in_set w ↦
-        (let e : bit a.set v.i ≡ false = via c.in_set.result _ false c.in_set.ensures w.if-in_set.false in
-        let h : held_words a.set l 0 (v.i + 1) ≡ held_words a.set l 0 v.i = held_out_turn a.set l v.i e in
-        (omega arith, omega arith, rw h (w.at-is ∙ v.invariant.2), ap length w.out-is ∙ v.invariant.3, rw h (w.out-is ∙ v.invariant.4)))
+      | then-in_set w ↦
+          (let e : bit a.set v.i ≡ true = via c.in_set.result _ true c.in_set.ensures w.if-in_set.true in
+          let h : held_words a.set l 0 (v.i + 1) ≡ held_words a.set l 0 v.i ++ segment 10 (v.i * 10) l = held_in_turn a.set l v.i e in
+          let n : v.at + 10 ≡ length (held_words a.set l 0 (v.i + 1)) = held_longer a.set l v.i v.at e v.invariant.2 in
+          let room : length (held_words a.set l 0 (v.i + 1)) ≤ length a.out.now = omega (arith, n) in
+          let o : c.if-in_set.out ≡ over (held_words a.set l 0 (v.i + 1)) a.out.now =
+          w.out-is
+          ∙ put_behind (held_words a.set l 0 v.i) (segment 10 (v.i * 10) l) a.out.now v.out w.copy_words.new.out v.at (length v.out - v.at)
+          v.invariant.4 (sym v.invariant.2) refl w.copy_words.ensures
+          ∙ ap (λ (x : List ℕ). over x a.out.now) (sym h) in
+          (omega arith, omega arith, w.at-is ∙ n, ap length o ∙ length_over (held_words a.set l 0 (v.i + 1)) a.out.now room, o))
+      | else-in_set w ↦
+          (let e : bit a.set v.i ≡ false = via c.in_set.result _ false c.in_set.ensures w.if-in_set.false in
+          let h : held_words a.set l 0 (v.i + 1) ≡ held_words a.set l 0 v.i = held_out_turn a.set l v.i e in
+          (omega arith, omega arith, rw h (w.at-is ∙ v.invariant.2), ap length w.out-is ∙ v.invariant.3, rw h (w.out-is ∙ v.invariant.4)))
     ]
 
 pub returns : goal.returns

@@ -4,7 +4,8 @@ use mathlib.Core.Path.{◌≡◌, refl, ap, ◌∙◌}
 use native.Mathlib.Omega.{arith}
 use lib.ListN.{length, set, length-set, length-take, length-drop}
 use borrow.Rule.Slice.PartMut.{put_mid}
-use Rattle.laws.specs.Over.{over, length_over}
+use Rattle.laws.specs.Over.{over}
+use Rattle.laws.proofs.Over.{length_over}
 use Rattle.writer.specs.Written.{main_words}
 use Rattle.writer.proofs.Laws.Writing.{main_done, length_main}
 use borrow.Author.Rules.{rules}
