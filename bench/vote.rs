@@ -1,4 +1,4 @@
-//! Times whole votes without loss: the proved group simulation (`target/bin/group_simulation`, its path is the argument) beside the second implementation,
+//! Times whole votes without loss: the proved group simulation (`crates/group_simulation/out/group_simulation`, its path is the argument) beside the second implementation,
 //! which votes on the same questions in the same order and has to print the same.
 
 use std::io::Write;

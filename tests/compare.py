@@ -1,4 +1,4 @@
-"""The proved program target/bin/call_cases beside the second implementation, on a script of calls that the second implementation makes
+"""The proved program crates/call_cases/out/call_cases beside the second implementation, on a script of calls that the second implementation makes
 (docs/SCRIPT.md)."""
 
 import pathlib
@@ -9,7 +9,7 @@ from itertools import zip_longest
 
 ROOT = pathlib.Path(__file__).resolve().parent.parent
 SECOND = ROOT / "second/target/release/second"
-PROVED = ROOT / "target/bin/call_cases"
+PROVED = ROOT / "crates/call_cases/out/call_cases"
 
 
 def first_difference(script, expected, printed):
@@ -27,7 +27,7 @@ def compare(what, options):
     """Runs both on the script that these options of `second script` make. Prints nothing where all is equal; else what was run and the first line
     that differs, and fails."""
     if not PROVED.exists():
-        sys.exit(f"{what}: target/bin/call_cases is not there; rt check call_cases makes it")
+        sys.exit(f"{what}: crates/call_cases/out/call_cases is not there; rt ci makes it")
     subprocess.run(["cargo", "build", "--release", "--offline", "--quiet"], cwd=ROOT / "second", check=True)
     with tempfile.TemporaryDirectory() as directory:
         made = pathlib.Path(directory)

@@ -1,4 +1,4 @@
-// The validity check for programs in C or Rust (`rt staticlib check_exports`), and the compression that its time goes into. A slice is passed
+// The validity check for programs in C or Rust (`rt lib` in this crate), and the compression that its time goes into. A slice is passed
 // as a pointer and a length, a reference to an array as a pointer.
 #![tactic(auto)]
 

@@ -1,4 +1,4 @@
-// The hash and the code for programs in C or Rust (`rt staticlib hash_exports`). Each function hands on to one of the crates below and
+// The hash and the code for programs in C or Rust (`rt lib` in this crate). Each function hands on to one of the crates below and
 // writes what it answers through its last references. A slice is passed as a pointer and a length, a reference to an array as a pointer.
 #![tactic(auto)]
 
