@@ -31,15 +31,15 @@ unfolding backing pick
 backing_1 n = omega arith
 
 -- "If at least half of the q INITs are 1 the proposal is 1, else 0.": among any q INITs the proposed value has its backing
-pub proposed_0 : (n none_for ones : ℕ) → none_for + ones ≡ quorum n → 2 * ones < quorum n → backing n 0 ≤ none_for
-proposed_0 n none_for ones all fewer = omega (arith, backing_0 n)
+pub proposed_0 : (n noes ones : ℕ) → noes + ones ≡ quorum n → 2 * ones < quorum n → backing n 0 ≤ noes
+proposed_0 n noes ones all fewer = omega (arith, backing_0 n)
 
 pub proposed_1 : (n ones : ℕ) → quorum n ≤ 2 * ones → backing n 1 ≤ ones
 proposed_1 n ones half = omega (arith, backing_1 n)
 
 -- and the value that has its backing among them is proposed: the backing is the least number of INITs with which a value is
-pub enough_0 : (n none_for ones : ℕ) → none_for + ones ≡ quorum n → backing n 0 ≤ none_for → 2 * ones < quorum n
-enough_0 n none_for ones all enough = omega (arith, backing_0 n)
+pub enough_0 : (n noes ones : ℕ) → noes + ones ≡ quorum n → backing n 0 ≤ noes → 2 * ones < quorum n
+enough_0 n noes ones all enough = omega (arith, backing_0 n)
 
 pub enough_1 : (n ones : ℕ) → backing n 1 ≤ ones → quorum n ≤ 2 * ones
 enough_1 n ones enough = omega (arith, backing_1 n)

@@ -6,3 +6,4 @@ pub mod Parts
 pub mod ReadBack
 pub mod Apart
 pub mod Group
+pub mod Drops

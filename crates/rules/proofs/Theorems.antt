@@ -1,2 +1,3 @@
 pub mod Backed
 pub mod Copied
+pub mod Later

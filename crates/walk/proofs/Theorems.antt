@@ -1,1 +1,2 @@
 pub mod WalkFinds
+pub mod WalkParts

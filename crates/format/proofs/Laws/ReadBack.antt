@@ -1,33 +1,19 @@
 -- What is written is read back: a statement's words hold it whole.
 use Rattle.std.specs.Prelude.{ℕ, ◌+◌, ◌≤◌, true, List, [], ◌++◌, ◌≡◌, refl, length, get_or, take, drop}
-use Rattle.std.proofs.Common.{append-nil, sym, subst, ◌∙◌, add-zero, arith, drop-drop, get_or-drop}
+use Rattle.std.proofs.Common.{append-nil, sym, subst, ◌∙◌, add-zero, arith, get_or-drop}
 use Rattle.std.proofs.Math.Path.{ap}
 use Rattle.std.proofs.Math.Seq.{take_at}
 use Rattle.format.specs.Form.{Form, first_form, wide_form, most_stations, low_bits, round_at, fields_at, statement_words}
 use Rattle.format.proofs.Form.{stations_fit, low_in_bits, with_round_length}
 use Rattle.format.specs.Numbers.{code_words}
 use Rattle.format.specs.declared.Fields.{Fields}
-use Rattle.format.specs.Words.{fields_of, kind_of, value_of, flag_of, station_of, low_of, round_of, spare_of, wide_fields}
+use Rattle.format.specs.Words.{fields_of, kind_of, value_of, flag_of, station_of, low_of, spare_of, wide_fields}
 use Rattle.format.proofs.Laws.Word0.{InBits, read_written}
 use Rattle.format.specs.Statement.{Statement, statement, word_0, written, well_formed, code_at, formed}
+use Rattle.format.proofs.Laws.Drops.{round_drop, code_drop, fields_drop}
 use Rattle.format.proofs.Laws.Shape.{formed_out, small}
 
 -- ---- shown for each form
-pub round_drop : (form : Form) (ws : List ℕ) (at : ℕ) → round_at form ws at ≡ round_at form (drop at ws) 0
-round_drop first_form ws at = ap round_of (sym (get_or-drop at ws 0 0 ∙ ap (λ (k : ℕ). get_or ws k 0) (add-zero at)))
-round_drop wide_form ws at = sym (get_or-drop at ws 2 0)
-
-code_drop : (form : Form) (ws : List ℕ) (at : ℕ) → code_at form ws at ≡ code_at form (drop at ws) 0
-code_drop first_form ws at = ap (take code_words) (sym (drop-drop 2 at ws))
-code_drop wide_form ws at = ap (take code_words) (sym (drop-drop 3 at ws))
-
-fields_drop : (form : Form) (ws : List ℕ) (at : ℕ) → fields_at form ws at ≡ fields_at form (drop at ws) 0
-fields_drop first_form ws at = ap fields_of (sym (get_or-drop at ws 0 0 ∙ ap (λ (k : ℕ). get_or ws k 0) (add-zero at)))
-fields_drop wide_form ws at =
-    let w : get_or ws at 0 ≡ get_or (drop at ws) 0 0 = sym (get_or-drop at ws 0 0 ∙ ap (λ (k : ℕ). get_or ws k 0) (add-zero at)) in
-    let r : get_or ws (at + 2) 0 ≡ get_or (drop at ws) 2 0 = sym (get_or-drop at ws 2 0) in
-    λ i. wide_fields (w i) (r i)
-
 round_back : (form : Form) (s : Statement) (rest : List ℕ) → low_of (word_0 form s) ≡ low_bits form s.round → round_at form (written form s ++ rest) 0 ≡ s.round
 round_back first_form s rest e = e
 round_back wide_form s rest e = refl

@@ -19,7 +19,8 @@ use Rattle.format.specs.Statement.{Statement, step}
 use Rattle.format.specs.Lists.{every, those}
 use Rattle.rules.specs.Rules.{some_d_get}
 use Rattle.rules.specs.Test.{has_second, d_get_group}
-use Rattle.rules.proofs.Theorems.Backed.{d_get_size, d_get_most, two_out, two_later}
+use Rattle.rules.proofs.Theorems.Backed.{d_get_size, d_get_most, two_out}
+use Rattle.rules.proofs.Theorems.Later.{two_later}
 use Rattle.modules.specs.declared.Module.{Module}
 use Rattle.modules.specs.Counter.{above, last_for, advanced}
 use Rattle.modules.specs.Present.{module_fits}

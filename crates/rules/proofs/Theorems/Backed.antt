@@ -20,6 +20,7 @@ use Rattle.format.proofs.Laws.Shape.{Shape, init, proposal, vote}
 use Rattle.rules.specs.declared.Which.TheVariants.{Any, Only}
 use Rattle.rules.specs.declared.Group.{Group}
 use Rattle.rules.specs.Rules.{wanted, matches, Rising, Holds, inits, proposals, none_votes, some_d_get, some_value, BothValues, NeedsSecond, Backed, rule_1, rule_2, rule_3, rule_4, rule_5, rule_6, rule_7}
+use Rattle.rules.proofs.Theorems.Later.{two_later}
 use Rattle.rules.specs.Test.{in_order, holds, d_get_group, first_group, second_group, has_second, early_toss, rest_holds, spread, groups_hold, rule}
 
 -- ---- groups
@@ -117,14 +118,6 @@ second_7 n v r h = rw (le-ltb v none (omega arith))
 one_p : (k v r : ℕ) (d : Bool) → k ≡ kind_p → has_second k v r d ≡ false
 unfolding has_second
 one_p k v r d e = rw (ne_eqb k kind_v (λ z. omega arith))
-
-pub two_later : (k v r : ℕ) (d : Bool) → v ≡ none → has_second k v r d ≡ true → 1 < r
-unfolding has_second
-two_later k v r d a h = go (either (eqb r 1 && ltb v none) _ (both (eqb k kind_v) _ h).1)
-  where
-    go : ((eqb r 1 && ltb v none) ≡ true) ⊎ ((ltb 1 r && (eqb v none || d)) ≡ true) → 1 < r
-    go (inl x) = absurd (omega (arith, ltb-true v none (both (eqb r 1) _ x).1))
-    go (inr x) = ltb-true 1 r (both (ltb 1 r) _ x).0
 
 pub one_early : (k v r : ℕ) (d : Bool) → v ≡ none → r ≡ 1 → has_second k v r d ≡ false
 one_early k v r d a e = is_false _ (λ h. omega (arith, two_later k v r d a h))
