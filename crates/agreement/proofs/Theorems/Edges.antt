@@ -1,12 +1,11 @@
 -- A list of calls at the edges of demand 3's premises: n is 5, and sites 4 and 5 are faulty, as many as there may be. The question is 0, and site 1 decides 0 on
 -- it by its own vote and those of the faulty ones. The backing of 0 is 2, and two sites proposed it. Jump is on wherever the backing allows it: on another
 -- question, in an opening that is refused, at a faulty site. Calls that are refused bring what the premises allow. All is computed from the definitions.
-use Rattle.std.specs.Prelude.{ℕ, ◌≤◌, ◌<◌, Bool, true, false, not, List, [], ◌∷◌, ◌++◌, ◌≡◌, refl, eqb, get_or, take}
-use Rattle.std.proofs.Common.{sym, ap, subst, arith, eqb-true}
+use Rattle.std.specs.Prelude.{ℕ, ◌≤◌, Bool, true, false, not, List, [], ◌∷◌, ◌++◌, ◌≡◌, refl, eqb, get_or, take}
+use Rattle.std.proofs.Common.{ap, subst, arith, eqb-true}
 use Rattle.laws.specs.Count.{count}
 use Rattle.format.specs.Form.{present_form}
 use Rattle.format.specs.Numbers.{kind_init, kind_p, kind_v, none, d_get, least_stations}
-use Rattle.format.specs.Group.{most_faulty, backing}
 use Rattle.format.specs.Statement.{Statement}
 use Rattle.format.specs.Present.{most_stations, statement, main_of, bundle_of}
 use Rattle.station.specs.Machine.{undecided}
@@ -187,25 +186,8 @@ sound_2 = others 2 (omega arith) (omega arith) refl
 pub there_1 : lineage toy [] 5 edges 1 0 ≡ found (line toy [] 5 edges 1 0)
 there_1 = decides_there toy [] 5 edges 1 0 0 0 decision
 
-there_2 : lineage toy [] 5 edges 2 0 ≡ found (line toy [] 5 edges 2 0)
+pub there_2 : lineage toy [] 5 edges 2 0 ≡ found (line toy [] 5 edges 2 0)
 there_2 = there_out (lineage toy [] 5 edges 2 0) (ap (λ (f : Facts). f.there) computed)
-
--- ---- what the claim says of a station that has decided, and of one that has not
-pub named : (present toy [] 5 edges 1 0).lasting.decision ≡ 0
-named = claimed.named 1 0 0 0 (line toy [] 5 edges 1 0) sound_1 there_1 decision
-
-pub named_backed : backing 5 (present toy [] 5 edges 1 0).lasting.decision
-    ≤ count (proposed (log toy [] 5 edges) (present toy [] 5 edges 1 0).identity.question (present toy [] 5 edges 1 0).lasting.decision) 5
-named_backed =
-    claimed.named_backed 1 0 (line toy [] 5 edges 1 0) sound_1 there_1
-    (subst (λ (q : ℕ). AllOff toy [] 5 edges q) (sym (ap (λ (f : Facts). f.asked) computed)) all_off) (omega (arith, named))
-
-pub unnamed : (present toy [] 5 edges 2 0).lasting.decision ≡ none
-unnamed =
-    claimed.unnamed 2 0 (line toy [] 5 edges 2 0) sound_2 there_2
-    (λ v d. absurd (let same = claimed.named 2 0 _ v (line toy [] 5 edges 2 0) sound_2 there_2 d in
-    let still : (present toy [] 5 edges 2 0).lasting.decision ≡ 2 = ap (λ (f : Facts). f.undecided) computed in
-    omega (arith, same, still, d.bit)))
 
 -- ---- n at its edges: the smallest group and the largest, before any call
 none_faulty : (n : ℕ) → FewFaulty toy [] n []

@@ -1,5 +1,5 @@
 -- All of the list at the edges of demand 3's premises (Edges): it is within them, the claim therefore holds of it, and what that says there.
-use Rattle.std.specs.Prelude.{ℕ, ◌≤◌, ◌<◌, ◌≡◌, List, [], ◌∷◌, refl}
+use Rattle.std.specs.Prelude.{ℕ, ◌≤◌, ◌<◌, ◌≡◌, List, [], refl}
 use Rattle.std.proofs.Common.{sym, ap, subst, arith}
 use Rattle.laws.specs.Count.{count}
 use Rattle.format.specs.Numbers.{none}
@@ -7,7 +7,8 @@ use Rattle.format.specs.Group.{most_faulty, backing}
 use Rattle.agreement.specs.Demand.{Call}
 use Rattle.agreement.proofs.Theorems.Computed.{numbers, line, present}
 use Rattle.agreement.proofs.Theorems.Toy.{toy}
-use Rattle.agreement.proofs.Theorems.Edges.{edges, answers, Facts, computed, within, few_faulty, others, faulty_4, faulty_5, all_off, decision, claimed, sound_1, sound_2, there_1, named, named_backed, unnamed}
+use Rattle.agreement.proofs.Theorems.Edges.{edges, answers, Facts, computed, within, few_faulty, others, faulty_4, faulty_5, all_off, decision, claimed, sound_1, sound_2, there_1}
+use Rattle.agreement.proofs.Theorems.EdgesNamed.{named, named_backed, unnamed}
 use Rattle.agreement.specs.Present.{proposed, log, Sound, AllOff, FewFaulty, Given, Decides, Claim}
 
 -- ---- all of it: a list within the premises, for which the claim therefore holds
