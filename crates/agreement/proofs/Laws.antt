@@ -1,7 +1,9 @@
 pub mod Ground
 pub mod Effect
+pub mod EffectGiving
 pub mod Line
 pub mod Giving
+pub mod GivingJump
 pub mod Invariant
 pub mod Run
 pub mod Lists

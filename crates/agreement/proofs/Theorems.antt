@@ -4,6 +4,8 @@ pub mod Computed
 pub mod Toy
 pub mod Example
 pub mod Edges
+pub mod EdgesNamed
+pub mod EdgesMet
 pub mod Unbacked
 pub mod Forms
 pub mod FirstVotes

@@ -13,6 +13,7 @@ pub mod Sweep
 pub mod Phase
 pub mod Level
 pub mod Leader
+pub mod LeaderFound
 pub mod Together
 pub mod Unanimous
 pub mod Calm

@@ -25,7 +25,7 @@ use Rattle.format.specs.Bundle.{bundle_of, all_written}
 use Rattle.station.specs.Calls.{returned, opening, giving, opening_outcome, giving_outcome, no_station}
 use Rattle.format.proofs.Laws.ReadBack.{Proper}
 use Rattle.format.proofs.Laws.Covered.{covered_front, covered_alone}
-use Rattle.station.proofs.Laws.Views.{Opens, no_opening, begins, opens_view, Gives, refuses, holds_on, shuts, goes_on, enters, gives_view}
+use Rattle.station.proofs.Laws.Views.{Opens, no_opening, begins, opens_view, Gives, refuses, holds_on, shuts, goes_on, enters}
 use Rattle.station.specs.Returns.{unrefused, wrote}
 use Rattle.station.proofs.Laws.Returns.{wrote_unrefused, sent_wrote}
 use Rattle.agreement.proofs.Laws.Ground.{Ground}
@@ -65,12 +65,12 @@ module _ (form : Form) where
     after_of m (keeps k u) = m
     after_of m (sends k s c u) = advanced m s.question (step s)
 
-    abbrev Numbered : Outcome → Type 0
+    abbrev pub Numbered : Outcome → Type 0
     Numbered (refused k) = wrote k ≡ false
     Numbered (keeps k u) = wrote k ≡ false
     Numbered (sends k s c u) = wrote k ≡ true
 
-    logs_is : (i : ℕ) (m : Module) (t : Station) (out : List ℕ) (o : Outcome) → Numbered o → bundle_coded form i (returned form m t out o) ≡ log_of i o
+    pub logs_is : (i : ℕ) (m : Module) (t : Station) (out : List ℕ) (o : Outcome) → Numbered o → bundle_coded form i (returned form m t out o) ≡ log_of i o
     unfolding pick returned bundle_of
     logs_is i m t out (refused k) e = rw e
     logs_is i m t out (keeps k u) e = rw e
@@ -99,16 +99,12 @@ module _ (form : Form) where
 
     -- giving
     module _ (m : Module) (i k : ℕ) (t : Station) (ws : List ℕ) (coin : ℕ) (out : List ℕ) (L : Lengths form t) where
-      give_numbered : (o : Outcome) → Gives form mac m t ws coin out o → Numbered o
+      pub give_numbered : (o : Outcome) → Gives form mac m t ws coin out o → Numbered o
       give_numbered _ (refuses {k} w) = refused_silent k w
       give_numbered _ (holds_on A few) = refl
       give_numbered _ (shuts A size c) = refl
       give_numbered _ (goes_on A size c a w) = ap wrote w ∙ sent_wrote _
       give_numbered _ (enters J a) = refl
-
-      pub give_coded : coded_at m i (gives k t ws coin out) ≡ log_of i (giving_outcome form mac m t ws coin out)
-      unfolding act giving
-      give_coded = logs_is i m t out (giving_outcome form mac m t ws coin out) (give_numbered (giving_outcome form mac m t ws coin out) (gives_view form mac m t ws coin out L))
 
       pub give_after : (act form mac key n m (gives k t ws coin out)).after ≡ after_of m (giving_outcome form mac m t ws coin out)
       unfolding act giving

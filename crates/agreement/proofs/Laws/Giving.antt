@@ -132,10 +132,10 @@ module _ (form : Form) where
     unfolding state_of
     up = omega (arith, J.ahead, J.fitting.in_step)
 
-    sane : Sane form m.n m.station (began m.n t.identity.question t.lasting g u (certificate_of form ws))
+    pub sane : Sane form m.n m.station (began m.n t.identity.question t.lasting g u (certificate_of form ws))
     sane = jump_sane form mac eight m t ws coin out J L.lengths
 
-    entered : Standing form m.n (bare u ∷ reads form l) m.station (began m.n t.identity.question t.lasting g u (certificate_of form ws)) (u ∷ took)
+    pub entered : Standing form m.n (bare u ∷ reads form l) m.station (began m.n t.identity.question t.lasting g u (certificate_of form ws)) (u ∷ took)
     unfolding state_of
     entered =
         let F = jump_fitting form mac eight m t ws coin out J in
@@ -147,8 +147,3 @@ module _ (form : Form) where
     jump_just =
         let F = jump_fitting form mac eight m t ws coin out J in
         backed_just m.n (reads form l) u (certificate_of form ws) given_coded F.alike F.backed
-
-    pub jump_line : Line form m.n (bare u ∷ reads form l) m.station (W.as_station form m.n m.station (began m.n t.identity.question t.lasting g u (certificate_of form ws))) (u ∷ took)
-    jump_line =
-        open_line form m.n m.station (bare u ∷ reads form l) (began m.n t.identity.question t.lasting g u (certificate_of form ws)) (u ∷ took)
-        J.cleared.range.at_most J.cleared.range.low J.cleared.range.high sane entered

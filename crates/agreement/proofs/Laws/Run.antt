@@ -42,9 +42,11 @@ use Rattle.agreement.proofs.Maths.Standing.{Standing}
 use Rattle.agreement.proofs.Maths.Took.{none_there, enough_before}
 use Rattle.agreement.proofs.Laws.Ground.{Ground}
 use Rattle.agreement.proofs.Laws.Lists.{same_line, module_now, module_other, module_same}
-use Rattle.agreement.proofs.Laws.Effect.{entry, coded_at, Effect, silent, speaks, log_of, after_of, open_coded, open_after, give_coded, give_after}
+use Rattle.agreement.proofs.Laws.Effect.{entry, coded_at, Effect, silent, speaks, log_of, after_of, open_coded, open_after, give_after}
+use Rattle.agreement.proofs.Laws.EffectGiving.{give_coded}
 use Rattle.agreement.proofs.Laws.Line.{reads, reads_append, AtSite, Line, line_more, open_line}
-use Rattle.agreement.proofs.Laws.Giving.{kept_line, shut_line, sent_line, sent_just, sent_split, jump_line, jump_just}
+use Rattle.agreement.proofs.Laws.Giving.{kept_line, shut_line, sent_line, sent_just, sent_split, jump_just}
+use Rattle.agreement.proofs.Laws.GivingJump.{jump_line}
 use Rattle.agreement.proofs.Laws.Invariant.{LogInv, unchanged, log_add, entry_read, entry_at}
 use Rattle.agreement.specs.Maths.Votes.{votes}
 use Rattle.agreement.specs.Demand.{Action, opens, gives, Call, call, site, action, apart, view, Entry, Lineage, Found, found, written_main, given_main, started, gave, member, act, modules, answer, log, openings, lineage, Presents, JumpOff, CodesCame}

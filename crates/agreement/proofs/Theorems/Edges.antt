@@ -1,12 +1,11 @@
 -- A list of calls at the edges of demand 3's premises: n is 5, and sites 4 and 5 are faulty, as many as there may be. The question is 0, and site 1 decides 0 on
 -- it by its own vote and those of the faulty ones. The backing of 0 is 2, and two sites proposed it. Jump is on wherever the backing allows it: on another
 -- question, in an opening that is refused, at a faulty site. Calls that are refused bring what the premises allow. All is computed from the definitions.
-use Rattle.std.specs.Prelude.{ℕ, ◌≤◌, ◌<◌, Bool, true, false, not, List, [], ◌∷◌, ◌++◌, ◌≡◌, refl, eqb, get_or, take}
-use Rattle.std.proofs.Common.{sym, ap, subst, arith, eqb-true}
+use Rattle.std.specs.Prelude.{ℕ, ◌≤◌, Bool, true, false, not, List, [], ◌∷◌, ◌++◌, ◌≡◌, refl, eqb, get_or, take}
+use Rattle.std.proofs.Common.{ap, subst, arith, eqb-true}
 use Rattle.laws.specs.Count.{count}
 use Rattle.format.specs.Form.{present_form}
 use Rattle.format.specs.Numbers.{kind_init, kind_p, kind_v, none, d_get, least_stations}
-use Rattle.format.specs.Group.{most_faulty, backing}
 use Rattle.format.specs.Statement.{Statement}
 use Rattle.format.specs.Present.{most_stations, statement, main_of, bundle_of}
 use Rattle.station.specs.Machine.{undecided}
@@ -99,17 +98,17 @@ abbrev pub answers : List ℕ
 answers = 2 ∷ 3 ∷ 2 ∷ 1 ∷ 2 ∷ 3 ∷ 11 ∷ 12 ∷ 20 ∷ 21 ∷ 0 ∷ 0 ∷ 0 ∷ 20 ∷ 0 ∷ 0 ∷ 0 ∷ 20 ∷ 0 ∷ 20 ∷ 0 ∷ 20 ∷ []
 
 -- ---- what is computed of the list, all at once
-record Facts : Type 0 where
-  numbers : List ℕ
-  given : Bool
-  few : Bool
-  off : Bool
-  decided : Bool
-  proposed_0 : ℕ
-  proposed_1 : ℕ
-  asked : ℕ
-  there : Bool
-  undecided : ℕ
+pub record Facts : Type 0 where
+  pub numbers : List ℕ
+  pub given : Bool
+  pub few : Bool
+  pub off : Bool
+  pub decided : Bool
+  pub proposed_0 : ℕ
+  pub proposed_1 : ℕ
+  pub asked : ℕ
+  pub there : Bool
+  pub undecided : ℕ
 
 -- a site that is not the last
 abbrev but_5 : ℕ → Bool
@@ -130,7 +129,7 @@ facts cs =
       undecided = (present toy [] 5 cs 2 0).lasting.decision;
     }
 
-computed : facts edges ≡ record {
+pub computed : facts edges ≡ record {
   numbers = answers;
   given = true;
   few = true;
@@ -146,117 +145,49 @@ unfolding computes
 computed = refl
 
 -- ---- the premises
-within : Given toy [] 5 edges
+pub within : Given toy [] 5 edges
 within = given_out toy [] 5 edges (ap (λ (f : Facts). f.given) computed)
 
-few_faulty : FewFaulty toy [] 5 edges
+pub few_faulty : FewFaulty toy [] 5 edges
 few_faulty = few_out toy [] 5 (4 ∷ 5 ∷ []) edges (ap (λ (f : Facts). f.few) computed)
 
-others : (i : ℕ) → 1 ≤ i → i ≤ 5 → member i (4 ∷ 5 ∷ []) ≡ false → Sound toy [] 5 i edges
+pub others : (i : ℕ) → 1 ≤ i → i ≤ 5 → member i (4 ∷ 5 ∷ []) ≡ false → Sound toy [] 5 i edges
 others = others_out toy [] 5 (4 ∷ 5 ∷ []) edges (ap (λ (f : Facts). f.few) computed)
 
 -- their votes were coded apart from a station
-faulty_4 : Sound toy [] 5 4 edges → ⊥
+pub faulty_4 : Sound toy [] 5 4 edges → ⊥
 unfolding Rattle.agreement.specs.Demand.Sound
 faulty_4 s = (sound_before toy [] 5 4 (take 12 edges) edge_10 s).0 refl (ap (λ (f : Facts). get_or f.numbers 12 0) computed)
 
-faulty_5 : Sound toy [] 5 5 edges → ⊥
+pub faulty_5 : Sound toy [] 5 5 edges → ⊥
 unfolding Rattle.agreement.specs.Demand.Sound
 faulty_5 s = (sound_before toy [] 5 5 (take 11 edges) edge_11 s).0 refl (ap (λ (f : Facts). get_or f.numbers 11 0) computed)
 
 -- every opening on question 0 that was not refused brought 0, but for site 5's
-all_off : AllOff toy [] 5 edges 0
+pub all_off : AllOff toy [] 5 edges 0
 all_off i low high sound = go (eqb i 5) refl
   where
     go : (b : Bool) → eqb i 5 ≡ b → JumpOff toy [] 5 i 0 edges
     go true e = absurd (faulty_5 (subst (λ (j : ℕ). Sound toy [] 5 j edges) (eqb-true i 5 e) sound))
     go false e = off_out toy [] 5 but_5 0 edges (ap (λ (f : Facts). f.off) computed) i (ap not e)
 
-decision : Decides toy [] 5 edges 1 0 0 0
+pub decision : Decides toy [] 5 edges 1 0 0 0
 decision = decides_out toy [] 5 edges 1 0 0 0 1 (omega arith) (ap (λ (f : Facts). f.decided) computed)
 
-claimed : Claim toy [] 5 edges
+pub claimed : Claim toy [] 5 edges
 claimed = demand_3_by present_form toy toy_eight [] 5 (omega arith) (omega arith) edges within few_faulty
 
-sound_1 : Sound toy [] 5 1 edges
+pub sound_1 : Sound toy [] 5 1 edges
 sound_1 = others 1 (omega arith) (omega arith) refl
 
-sound_2 : Sound toy [] 5 2 edges
+pub sound_2 : Sound toy [] 5 2 edges
 sound_2 = others 2 (omega arith) (omega arith) refl
 
-there_1 : lineage toy [] 5 edges 1 0 ≡ found (line toy [] 5 edges 1 0)
+pub there_1 : lineage toy [] 5 edges 1 0 ≡ found (line toy [] 5 edges 1 0)
 there_1 = decides_there toy [] 5 edges 1 0 0 0 decision
 
-there_2 : lineage toy [] 5 edges 2 0 ≡ found (line toy [] 5 edges 2 0)
+pub there_2 : lineage toy [] 5 edges 2 0 ≡ found (line toy [] 5 edges 2 0)
 there_2 = there_out (lineage toy [] 5 edges 2 0) (ap (λ (f : Facts). f.there) computed)
-
--- ---- what the claim says of a station that has decided, and of one that has not
-named : (present toy [] 5 edges 1 0).lasting.decision ≡ 0
-named = claimed.named 1 0 0 0 (line toy [] 5 edges 1 0) sound_1 there_1 decision
-
-named_backed : backing 5 (present toy [] 5 edges 1 0).lasting.decision
-    ≤ count (proposed (log toy [] 5 edges) (present toy [] 5 edges 1 0).identity.question (present toy [] 5 edges 1 0).lasting.decision) 5
-named_backed =
-    claimed.named_backed 1 0 (line toy [] 5 edges 1 0) sound_1 there_1
-    (subst (λ (q : ℕ). AllOff toy [] 5 edges q) (sym (ap (λ (f : Facts). f.asked) computed)) all_off) (omega (arith, named))
-
-unnamed : (present toy [] 5 edges 2 0).lasting.decision ≡ none
-unnamed =
-    claimed.unnamed 2 0 (line toy [] 5 edges 2 0) sound_2 there_2
-    (λ v d. absurd (let same = claimed.named 2 0 _ v (line toy [] 5 edges 2 0) sound_2 there_2 d in
-    let still : (present toy [] 5 edges 2 0).lasting.decision ≡ 2 = ap (λ (f : Facts). f.undecided) computed in
-    omega (arith, same, still, d.bit)))
-
--- ---- all of it: a list within the premises, for which the claim therefore holds
-pub record EdgesMet (cs : List Call) : Type 1 where
-  pub numbers_are : numbers toy [] 5 cs ≡ answers
-  pub within : Given toy [] 5 cs
-  -- two sites are faulty, as many as there may be
-  pub few : FewFaulty toy [] 5 cs
-  pub two_at_most : most_faulty 5 ≡ 2
-  pub sound_1 : Sound toy [] 5 1 cs
-  pub sound_2 : Sound toy [] 5 2 cs
-  pub sound_3 : Sound toy [] 5 3 cs
-  pub faulty_4 : Sound toy [] 5 4 cs → ⊥
-  pub faulty_5 : Sound toy [] 5 5 cs → ⊥
-  -- site 1 decides 0, which as many sites proposed as its backing is; one proposed 1, which is too few
-  pub decided : Decides toy [] 5 cs 1 0 0 0
-  pub off : AllOff toy [] 5 cs 0
-  pub backed : backing 5 0 ≤ count (proposed (log toy [] 5 cs) 0 0) 5
-  pub just_backed : count (proposed (log toy [] 5 cs) 0 0) 5 ≡ backing 5 0
-  pub too_few : count (proposed (log toy [] 5 cs) 0 1) 5 < backing 5 1
-  pub claimed : Claim toy [] 5 cs
-  -- site 1's station names what it decided, which is backed and decided; site 2's, on another question and with jump on, names none
-  pub named : (present toy [] 5 cs 1 0).lasting.decision ≡ 0
-  pub named_decided : Decides toy [] 5 cs 1 0 (present toy [] 5 cs 1 0).identity.question 0
-  pub named_backed : backing 5 (present toy [] 5 cs 1 0).lasting.decision
-      ≤ count (proposed (log toy [] 5 cs) (present toy [] 5 cs 1 0).identity.question (present toy [] 5 cs 1 0).lasting.decision) 5
-  pub unnamed : (present toy [] 5 cs 2 0).lasting.decision ≡ none
-
-pub edges_met : EdgesMet edges
-unfolding backing Rattle.laws.specs.Pick.pick
-edges_met =
-    record {
-      numbers_are = ap (λ (f : Facts). f.numbers) computed;
-      within = within;
-      few = few_faulty;
-      two_at_most = refl;
-      sound_1 = sound_1;
-      sound_2 = sound_2;
-      sound_3 = others 3 (omega arith) (omega arith) refl;
-      faulty_4 = faulty_4;
-      faulty_5 = faulty_5;
-      decided = decision;
-      off = all_off;
-      backed = claimed.backed 1 0 0 0 sound_1 all_off decision;
-      just_backed = ap (λ (f : Facts). f.proposed_0) computed;
-      too_few = subst (λ (x : ℕ). x < 2) (sym (ap (λ (f : Facts). f.proposed_1) computed)) (omega arith);
-      claimed = claimed;
-      named = named;
-      named_decided = claimed.names 1 0 0 (line toy [] 5 edges 1 0) sound_1 there_1 (omega arith) named;
-      named_backed = named_backed;
-      unnamed = unnamed;
-    }
 
 -- ---- n at its edges: the smallest group and the largest, before any call
 none_faulty : (n : ℕ) → FewFaulty toy [] n []

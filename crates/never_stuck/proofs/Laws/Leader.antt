@@ -1,14 +1,12 @@
 -- The leader of a team: a site at a step that no site of the team is past. It is found by looking at one site after the other.
-use Rattle.std.specs.Prelude.{◌≡◌, refl, Bool, true, false, List, ℕ, zero, suc, ◌≤◌, eqb, leb}
+use Rattle.std.specs.Prelude.{◌≡◌, refl, Bool, true, false, List, ℕ, suc, ◌≤◌, eqb, leb}
 use Rattle.std.proofs.Common.{sym, subst, arith, eqb-true, leb-true, leb-false}
 use Rattle.std.proofs.lemmas.Bool.{eqb-false}
-use Rattle.laws.specs.Bools.{never}
-use Rattle.laws.specs.Count.{meet, every_one}
 use Rattle.format.specs.Form.{present_form}
 use Rattle.station.specs.Machine.{stage_step}
 use Rattle.agreement.proofs.Laws.Ground.{Ground}
 use Rattle.agreement.specs.Demand.{Call}
-use Rattle.never_stuck.specs.Claim.{Quorate, Ready}
+use Rattle.never_stuck.specs.Claim.{Ready}
 
 module _ (G : Ground present_form) (q : ℕ) (team : ℕ → Bool) (cs : List Call) (r : ℕ) (jump : Bool) where
   open G use {mac, key, n}
@@ -28,7 +26,7 @@ module _ (G : Ground present_form) (q : ℕ) (team : ℕ → Bool) (cs : List Ca
     pub stands : stage_step ready.station.stage ≡ f
     pub under : (y : ℕ) → 1 ≤ y → y ≤ j → team y ≡ true → Under y f
 
-  data Search (j : ℕ) : Type 0 where
+  pub data Search (j : ℕ) : Type 0 where
     nobody : ((y : ℕ) → 1 ≤ y → y ≤ j → team y ≡ true → ⊥) → Search j
     somebody : (f : ℕ) → Leads j f → Search j
 
@@ -36,7 +34,7 @@ module _ (G : Ground present_form) (q : ℕ) (team : ℕ → Bool) (cs : List Ca
   higher y f g e u = record { ready = u.ready; upto = omega (arith, u.upto) }
 
   -- one site more
-  with_site : (j : ℕ) → suc j ≤ n → team (suc j) ≡ true → Ready mac key n cs q r jump (suc j) → Search j → Search (suc j)
+  pub with_site : (j : ℕ) → suc j ≤ n → team (suc j) ≡ true → Ready mac key n cs q r jump (suc j) → Search j → Search (suc j)
   with_site j b c R (nobody none) = somebody (stage_step R.station.stage) (record { at = suc j; low = omega arith; high = b; of_team = c; ready = R; stands = refl; under = one })
     where
       one : (y : ℕ) → 1 ≤ y → y ≤ suc j → team y ≡ true → Under y (stage_step R.station.stage)
@@ -75,38 +73,3 @@ module _ (G : Ground present_form) (q : ℕ) (team : ℕ → Bool) (cs : List Ca
             stands = refl;
             under = all_under (stage_step R.station.stage) (omega (arith, leb-false (stage_step R.station.stage) f z)) (omega arith);
           })
-
-  -- who is of the team, where site j + 1 is not
-  inside : (j y : ℕ) → team (suc j) ≡ false → y ≤ suc j → team y ≡ true → y ≤ j
-  inside j y out e c = by (eqb y (suc j)) refl
-    where
-      by : (z : Bool) → eqb y (suc j) ≡ z → y ≤ j
-      by true z = never (team (suc j)) out (subst (λ (v : ℕ). team v ≡ true) (eqb-true y (suc j) z) c)
-      by false z = omega (arith, eqb-false y (suc j) z)
-
-  search_to : (j : ℕ) → j ≤ n → ((y : ℕ) → 1 ≤ y → y ≤ n → team y ≡ true → Ready mac key n cs q r jump y) → Search j
-  search_to zero b ready = nobody (λ y a e c. omega arith)
-  search_to (suc j) b ready = go (team (suc j)) refl (search_to j (omega arith) ready)
-    where
-      -- a site outside the team changes nothing
-      skipped : team (suc j) ≡ false → Search j → Search (suc j)
-      skipped out (nobody none) = nobody (λ y a e c. none y a (inside j y out e c) c)
-      skipped out (somebody f L) =
-          somebody f (record { at = L.at; low = L.low; high = L.high; of_team = L.of_team; ready = L.ready; stands = L.stands; under = λ y a e c. L.under y a (inside j y out e c) c })
-
-      go : (z : Bool) → team (suc j) ≡ z → Search j → Search (suc j)
-      go true c S = with_site j b c (ready (suc j) (omega arith) b c) S
-      go false c S = skipped c S
-
-  pub record Leader : Type 0 where
-    pub step : ℕ
-    pub leads : Leads n step
-
-  pub leader : Quorate n team → ((y : ℕ) → 1 ≤ y → y ≤ n → team y ≡ true → Ready mac key n cs q r jump y) → Leader
-  leader enough ready = go (search_to n (omega arith) ready)
-    where
-      go : Search n → Leader
-      go (somebody f L) = record { step = f; leads = L }
-      go (nobody none) =
-          let s = meet team (λ i. true) n (omega (arith, every_one n)) in
-          absurd (none s.at s.low s.high s.in_first)

@@ -22,7 +22,8 @@ use Rattle.never_stuck.proofs.Laws.Spoken.{Premises}
 use Rattle.never_stuck.proofs.Laws.Steps.{any, every_any, calm, within_round}
 use Rattle.never_stuck.proofs.Laws.Heard.{same_waiting}
 use Rattle.never_stuck.proofs.Laws.Advance.{last_sound}
-use Rattle.never_stuck.proofs.Laws.Leader.{Under, Leads, Leader, leader}
+use Rattle.never_stuck.proofs.Laws.Leader.{Under, Leads}
+use Rattle.never_stuck.proofs.Laws.LeaderFound.{Leader, leader}
 use Rattle.never_stuck.proofs.Laws.Calm.{coin, coin_low, calm_held}
 use Rattle.never_stuck.proofs.Laws.Mover.{Stood, Trails, Brought, then_brought, follow}
 use Rattle.never_stuck.proofs.Laws.Relay.{Names, relay, climb}

@@ -22,7 +22,8 @@ use Rattle.never_stuck.proofs.Laws.Steps.{within_round}
 use Rattle.never_stuck.proofs.Laws.Advance.{then_onward, onward_sound}
 use Rattle.never_stuck.proofs.Laws.Sweep.{Arrived}
 use Rattle.never_stuck.proofs.Laws.Level.{Waiting, level}
-use Rattle.never_stuck.proofs.Laws.Leader.{Under, Leader, leader}
+use Rattle.never_stuck.proofs.Laws.Leader.{Under}
+use Rattle.never_stuck.proofs.Laws.LeaderFound.{Leader, leader}
 use Rattle.never_stuck.proofs.Laws.Together.{jump_on, together}
 use Rattle.never_stuck.proofs.Laws.Unanimous.{Done, unanimous}
 use Rattle.never_stuck.proofs.Laws.Calm.{coin, coin_low, calmed}
