@@ -7,6 +7,7 @@ pub mod Keep
 pub mod Pieces
 pub mod End
 pub mod Views
+pub mod LastRound
 pub mod Fits
 pub mod Bundles
 pub mod Returns

@@ -5,7 +5,6 @@ use mathlib.Core.List.{List, [], ◌∷◌, ◌++◌}
 use Rattle.std.proofs.Math.Path.{refl, subst}
 use Rattle.std.proofs.Common.{sym, arith, eqb-true, eq-eqb}
 use Rattle.std.proofs.Math.Dec.{eqb}
-use Rattle.std.proofs.lemmas.Bool.{eqb-false}
 use Rattle.laws.specs.Pick.{pick}
 use Rattle.laws.specs.Bools.{never, both, join, left}
 use Rattle.laws.specs.All.{All, all_append}
@@ -33,6 +32,7 @@ use Rattle.station.specs.Calls.{returned, opening, giving, opening_outcome, givi
 use Rattle.format.proofs.Laws.ReadBack.{Proper}
 use Rattle.station.proofs.Laws.Sane.{Kept, InRounds, FlagOf, Sane, sane_fits}
 use Rattle.station.proofs.Laws.FitSane.{fits_sane}
+use Rattle.station.proofs.Laws.LastRound.{below_last}
 use Rattle.station.proofs.Laws.Keep.{Fitting, keep_sane, all_take, taken_for_value, taken_for_none, stage_of_rounds, stage_of_flag}
 use Rattle.station.proofs.Laws.End.{Full, EarlyDGet, Sendable, inits_ready, inits_backed, votes_ready, votes_backed, proposals_ready, proposals_backed}
 use Rattle.station.proofs.Laws.Views.{InRange, Accepted, Jumping, jump_statement, after, lasting_then, sent_statement, Gives, refuses, holds_on, shuts, goes_on, enters, gives_view, sane_before, full_after, init_statement, Opens, no_opening, begins, opens_view}
@@ -109,17 +109,13 @@ module _ (form : Form) where
   unfolding state_of
   decision_before n site t S = S.decision
 
-  -- a round that is not the last is below it
-  below_last : (r : ℕ) → r ≤ last_round form → eqb r (last_round form) ≡ false → r < last_round form
-  below_last r x y = omega (arith, eqb-false r (last_round form) y)
-
   -- ---- what follows is ready, and backed
   module _ (n : ℕ) (k : State) (F : Full form n k) (coin : ℕ) (bit : coin < 2) where
     pub ready : (g : Stage) → k.stage ≡ g → closes (last_round form) g ≡ false → Sendable form n k.question (follows n g k coin)
     unfolding follows
     ready Gathering e c = inits_ready form n k F e
     ready (Proposing r f) e c = votes_ready form n k F r.0 f e
-    ready (Voting r) e c = proposals_ready form n k F r.0 e (below_last r.0 (subst (InRounds form) e F.rounds).1 c) coin bit
+    ready (Voting r) e c = proposals_ready form n k F r.0 e (below_last form r.0 (subst (InRounds form) e F.rounds).1 c) coin bit
 
     pub backed : EarlyDGet k.held → (g : Stage) → k.stage ≡ g → closes (last_round form) g ≡ false → (s : Statement)
         → s.kind ≡ (follows n g k coin).kind → s.value ≡ (follows n g k coin).value → s.flag ≡ (follows n g k coin).flag → s.round ≡ (follows n g k coin).round
@@ -130,7 +126,7 @@ module _ (form : Form) where
     backed early (Voting p) e c s a b d r = go (ltb (carried k.held) none) refl
       where
         top : p.0 < last_round form
-        top = below_last p.0 (subst (InRounds form) e F.rounds).1 c
+        top = below_last form p.0 (subst (InRounds form) e F.rounds).1 c
 
         go : (z : Bool) → ltb (carried k.held) none ≡ z → Backed n s ((after_votes p.0 k coin).first ++ (after_votes p.0 k coin).second)
         go true q =
