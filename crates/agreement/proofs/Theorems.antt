@@ -3,6 +3,7 @@ pub mod Prefix
 pub mod Computed
 pub mod Toy
 pub mod Example
+pub mod EdgesSites
 pub mod Edges
 pub mod EdgesNamed
 pub mod EdgesMet

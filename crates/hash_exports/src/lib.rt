@@ -68,8 +68,8 @@ pub extern "C" fn hash_exports_code(
     ws: &[u32],
     out: &mut [u32; 8],
 ) -> u32
-    ensures value { result ≡ (short_code (record { inner = inner.entry.now; outer = outer.now }) ws.now).number }
-    ensures out_after { out.new ≡ (short_code (record { inner = inner.entry.now; outer = outer.now }) ws.now).words }
+    ensures value { result ≡ (short_code (record { inner = inner.now; outer = outer.now }) ws.now).number }
+    ensures out_after { out.new ≡ (short_code (record { inner = inner.now; outer = outer.now }) ws.now).words }
 {
     let i = *inner;
     let o = *outer;

@@ -1,2 +1,2 @@
-// Never stuck, about every list of calls: the statement, the theorem and its examples in specs/, no code.
+// Never stuck, about every list of calls: the statement in specs/, the theorem and its examples in proofs/, no code.
 #![tactic(auto)]

@@ -1,2 +1,2 @@
--- The proofs of Theorem.antt, and what the code's proofs cite.
+-- What contracts cite of the laws.
 pub mod Put

@@ -1,5 +1,5 @@
 // The console program valley (document 01, "The program valley"): it reads standard input in pieces, feeds them to the run, and writes what the run
-// prints. What is printed for an input is the definition `valley` of the crate world, however the input is cut (`every-cutting` of console).
+// prints. What is printed for an input is the definition `valley` of the crate world, however the input is cut (`every_cutting` of valley_console).
 #![tactic(auto)]
 
 ghost use Rattle.std.specs.Prelude.{◌≤◌, ◌<◌, length, IfOk};

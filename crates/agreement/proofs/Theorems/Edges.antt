@@ -12,6 +12,7 @@ use Rattle.station.specs.Machine.{undecided}
 use Rattle.station.specs.declared.Stage.TheVariants.{Gathering}
 use Rattle.station.specs.declared.Station.{Station}
 use Rattle.station.specs.Present.{empty_station}
+use Rattle.agreement.proofs.Theorems.EdgesSites.{but_5}
 use Rattle.agreement.specs.Demand.{opens, gives, codes, tosses, Call, call, found, member}
 use Rattle.agreement.proofs.Theorems.Prefix.{sound_before}
 use Rattle.agreement.proofs.Theorems.Theorem.{demand_3_by}
@@ -109,10 +110,6 @@ pub record Facts : Type 0 where
   pub asked : ℕ
   pub there : Bool
   pub undecided : ℕ
-
--- a site that is not the last
-abbrev but_5 : ℕ → Bool
-but_5 i = not (eqb i 5)
 
 abbrev facts : List Call → Facts
 facts cs =
