@@ -1,2 +1,3 @@
 pub mod Behind
+pub mod Shapes
 pub mod Formed

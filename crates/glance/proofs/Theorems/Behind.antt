@@ -14,7 +14,8 @@ use Rattle.rules.specs.declared.Group.{Group}
 use Rattle.walk.specs.declared.Findings.{Findings}
 use Rattle.walk.specs.Walk.{walked, between, answer}
 use Rattle.walk.proofs.Laws.Turns.{stopped}
-use Rattle.glance.specs.Glance.{passed, passed_at, glanced, stays, glance_is_walk}
+use Rattle.glance.specs.Glance.{passed, passed_at, glanced}
+use Rattle.glance.proofs.Glance.{stays, glance_is_walk}
 
 -- 3 is answered whatever else was found, and 4 or 5 whatever was found of the rules
 answer_3 : (f : Findings) → f.malformed ≡ true → answer f ≡ malformed

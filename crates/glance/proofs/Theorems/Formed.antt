@@ -1,34 +1,11 @@
 -- Whether the fields of a word are in place, from its top five bits and its round: `formed_word`.
-use Rattle.std.specs.Prelude.{ℕ, zero, suc, ◌+◌, ◌*◌, ◌/◌, ◌%◌, ◌^◌, ◌<◌, Bool, true, false, not, ◌&&◌, ◌||◌, ◌≡◌, refl, eqb, leb}
+use Rattle.std.specs.Prelude.{ℕ, zero, suc, ◌/◌, ◌%◌, ◌^◌, ◌<◌, Bool, true, false, not, ◌&&◌, ◌||◌, ◌≡◌, refl, eqb, leb}
 use Rattle.std.proofs.Common.{ap, ◌∙◌, arith, eqb-true, le-leb}
 use Rattle.std.proofs.lemmas.Bool.{eqb-false}
 use Rattle.laws.specs.Bools.{never, both, or_nothing}
-use Rattle.format.specs.Numbers.{kind_init, kind_p, kind_v, none, d_get}
-use Rattle.format.specs.Words.{kind_bit, value_bit, flag_bit, station_bit, kind_size, value_size, flag_size, spare_of, station_of, round_of, fields_of, of_group}
+use Rattle.format.specs.Words.{kind_bit, value_bit, station_bit, value_size, flag_size, spare_of, station_of, round_of, fields_of, of_group}
 use Rattle.format.specs.Present.{last_round, shaped, formed}
-
--- bits 31..27 of a word: kind, value and flag
-abbrev pub top : ℕ → ℕ
-top w = w / 2 ^ flag_bit
-
--- the weight of the kind in the number that they make, and how many such numbers there are
-abbrev pub kind_at : ℕ
-kind_at = value_size * flag_size
-
-abbrev pub shapes : ℕ
-shapes = kind_size * kind_at
-
--- the number of a kind, value and flag
-abbrev pub shape : ℕ → ℕ → ℕ → ℕ
-shape kind value flag = kind * kind_at + value * flag_size + flag
-
--- "INIT has round 0, value 0 or 1, flag 0.": its top bits in round 0
-abbrev pub of_init : ℕ → Bool
-of_init k = eqb k (shape kind_init 0 d_get) || eqb k (shape kind_init 1 d_get)
-
--- "P has round 1 to 65,535 and value 0 or 1.", of either flag: so many numbers in a row. "V has such a round, flag 0 and value 0, 1 or none."
-abbrev pub of_later : ℕ → Bool
-of_later k = eqb (k / (none * flag_size)) (shape kind_p 0 0 / (none * flag_size)) || eqb k (shape kind_v 0 d_get) || eqb k (shape kind_v 1 d_get) || eqb k (shape kind_v none d_get)
+use Rattle.glance.proofs.Theorems.Shapes.{top, kind_at, shapes, of_init, of_later}
 
 -- ---- a test of all numbers below one, computed
 unfoldable each : (ℕ → Bool) → ℕ → Bool

@@ -8,7 +8,7 @@ use lib.Dec.{leb}
 use lib.ListN.{length}
 use borrow.Author.Tests.{leb-true}
 use Rattle.laws.specs.Bools.{both}
-use Rattle.glance.specs.Glance.{glance_turn, glance_end}
+use Rattle.glance.proofs.Glance.{glance_turn, glance_end}
 use borrow.Author.Rules.{rules}
 use Rattle.glance.proofs.answer_behind.Goals as goal
 
