@@ -1,6 +1,6 @@
 -- One turn of a loop of rounds is one step of `rounds`.
 use Rattle.std.proofs.Common.{◌≡◌, ℕ, suc, ◌+◌, ◌<◌, ◌≤◌, List, ◌∷◌, length, get_or, drop, sym, refl, ◌∙◌, add-one, drop_of_length-le, drop-cons}
-use Rattle.compression.specs.Compression.{rounds, extended}
+use Rattle.compression.specs.Compression.{rounds}
 use Rattle.compression.specs.Steps.{stepped, listed, onward}
 use Rattle.compression.specs.declared.Working.{Working}
 
@@ -19,8 +19,3 @@ turn ks ws r i w v v' p q w_is v_is inv =
 pub last : (ks ws : List ℕ) (i : ℕ) (v : Working) → length ks ≤ i → onward (drop i ks) (drop i ws) v ≡ listed v
 unfolding onward rounds
 last ks ws i v p = rw (drop_of_length-le ks p)
-
--- the first loop's end, in the words of its contract
-pub half_way : (ks w x b : List ℕ) (i : ℕ) (v s : Working) → i ≡ 48 → w ≡ extended 48 x → x ≡ b → onward (drop i ks) (drop i (extended 48 x)) v ≡ onward ks (extended 48 x) s
-    → onward (drop 48 ks) (drop 48 w) v ≡ onward ks (extended 48 b) s
-half_way ks w x b i v s i_is w_is x_is inv = rw (w_is, ← x_is) (rw i_is at inv)

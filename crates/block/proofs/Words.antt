@@ -1,5 +1,5 @@
 -- A word that a turn adds to the schedule is one step of `extended`.
-use Rattle.std.proofs.Common.{◌≡◌, ℕ, zero, suc, ◌+◌, ◌-◌, ◌<◌, ◌≤◌, List, [], ◌∷◌, ◌++◌, length, get_or, take, set, sym, refl, ap, ◌∙◌, add-one, arith, length-append, length-take-le, take_all, get_or-take, take-suc, take-suc-set}
+use Rattle.std.proofs.Common.{◌≡◌, ℕ, zero, suc, ◌+◌, ◌-◌, ◌<◌, ◌≤◌, List, [], ◌∷◌, ◌++◌, length, get_or, take, set, sym, refl, ap, ◌∙◌, arith, length-append, length-take-le, take_all, get_or-take, take-suc-set}
 use lib.ListN.{get_or-append}
 use Rattle.compression.specs.Compression.{plus, σ0, σ1, next, extended}
 
@@ -52,12 +52,3 @@ word_of w r i p long e =
     let l : length (take (i + 16) w) ≡ i + 16 = length-take-le (i + 16) w (omega arith) in
     let d : i < i + 16 = omega arith in
     sym (get_or-take (i + 16) w i 0 d) ∙ sym (kept (48 - i) (take (i + 16) w) i (omega arith)) ∙ ap (λ (l : List ℕ). get_or l i 0) e
-
-pub copied : (w b : List ℕ) (j : ℕ) → j < length w → j < length b → take j w ≡ take j b → take (j + 1) (set w j (get_or b j 0)) ≡ take (j + 1) b
-copied w b j p q e = rw (add-one, take-suc-set w j (get_or b j 0), take-suc b j 0, e)
-
-pub first : (w b : List ℕ) (j : ℕ) → 16 ≤ j → j ≤ 16 → length b ≡ 16 → take j w ≡ take j b → take 16 w ≡ b
-first w b j p q long e =
-    let j_is : j ≡ 16 = omega arith in
-    let h : length b ≤ 16 = omega arith in
-    rw j_is at e ∙ take_all 16 b h

@@ -6,7 +6,6 @@ ghost use Rattle.compression.specs.Compression.{extended, rounds_from, compresse
 ghost use Rattle.compression.specs.Steps.{onward, listed};
 
 use compression::Working;
-use std::num::wrapping_add_u32 as add;
 
 // After forty-eight rounds: the whole schedule, and the working variables.
 #[derive(Clone, Copy)]
@@ -31,12 +30,8 @@ const K: [u32; 64] = [
 fn opened(block: [u32; 16]) -> [u32; 64]
     ensures { take 16 result ≡ block }
 {
-    let mut w = [0u32; 64];
-    let mut j = 0;
-    while j < 16 {
-        w[j] = block[j];
-        j += 1;
-    }
+    let mut w = [0; 64];
+    w[..16].copy_from_slice(&block);
     w
 }
 
@@ -46,14 +41,11 @@ fn first_rounds(k: [u32; 64], s: Working, block: [u32; 16]) -> Half
 {
     let mut w = opened(block);
     let mut v = s;
-    let mut i = 0;
-    while i < 48 {
-        let next = compression::round(v, k[i], w[i]);
-        v = next;
+    for i in 0..48 {
+        v = compression::round(v, k[i], w[i]);
         w[i + 16] = compression::word(w[i + 14], w[i + 9], w[i + 1], w[i]);
-        i += 1;
     }
-    Half { words: w, v: v }
+    Half { words: w, v }
 }
 
 // The last sixteen rounds.
@@ -61,11 +53,8 @@ fn last_rounds(k: [u32; 64], w: [u32; 64], s: Working) -> Working
     ensures { listed result ≡ onward (drop 48 k) (drop 48 w) s }
 {
     let mut v = s;
-    let mut i = 48;
-    while i < 64 {
-        let next = compression::round(v, k[i], w[i]);
-        v = next;
-        i += 1;
+    for i in 48..64 {
+        v = compression::round(v, k[i], w[i]);
     }
     v
 }
@@ -75,20 +64,19 @@ fn all_rounds(s: [u32; 8], block: [u32; 16]) -> [u32; 8]
     ensures { result ≡ rounds_from (extended 48 block) s }
 {
     let k = K;
+    let [a, b, c, d, e, f, g, h] = s;
     let start = Working {
-        a: s[0],
-        b: s[1],
-        c: s[2],
-        d: s[3],
-        e: s[4],
-        f: s[5],
-        g: s[6],
-        h: s[7],
+        a,
+        b,
+        c,
+        d,
+        e,
+        f,
+        g,
+        h,
     };
-    let m = first_rounds(k, start, block);
-    let words = m.words;
-    let half = m.v;
-    let v = last_rounds(k, words, half);
+    let half = first_rounds(k, start, block);
+    let v = last_rounds(k, half.words, half.v);
     [v.a, v.b, v.c, v.d, v.e, v.f, v.g, v.h]
 }
 
@@ -96,15 +84,9 @@ fn all_rounds(s: [u32; 8], block: [u32; 16]) -> [u32; 8]
 pub fn compress(s: [u32; 8], block: [u32; 16]) -> [u32; 8]
     ensures { result ≡ compressed s block }
 {
-    let r = all_rounds(s, block);
-    [
-        add(s[0], r[0]),
-        add(s[1], r[1]),
-        add(s[2], r[2]),
-        add(s[3], r[3]),
-        add(s[4], r[4]),
-        add(s[5], r[5]),
-        add(s[6], r[6]),
-        add(s[7], r[7]),
-    ]
+    let mut sums = all_rounds(s, block);
+    for i in 0..8 {
+        sums[i] = s[i].wrapping_add(sums[i]);
+    }
+    sums
 }

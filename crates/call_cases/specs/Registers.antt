@@ -1,20 +1,25 @@
 -- The words that a script is run over (docs/SCRIPT.md), in one list: the numbers of a line, the words that a call may change as they were, and behind
 -- them the registers, 32 modules of 13 words, 64 stations of 640 words, 128 buffers of 400 words with their length behind them. A register is
 -- named by the place where it begins.
-use Rattle.std.specs.Prelude.{◌≡◌, ℕ, ◌+◌, ◌-◌, ◌≤◌, List, take, drop, ◌==◌, nat_le, slice_index}
+use Rattle.std.specs.Prelude.{◌≡◌, ℕ, ◌+◌, ◌-◌, ◌≤◌, List, Result, Ok, Err, take, drop, ◌==◌, nat_le, slice_index}
+use Rattle.std.specs.Result.{result_unwrap_or}
 use Rattle.std.proofs.Common.{ap, ◌∙◌, arith, take-take}
 use Rattle.sha256.specs.Sha256.{bytes}
 use Rattle.certificate.specs.Present.{checked}
 use Rattle.laws.specs.Pick.{pick}
 use Rattle.hmac.specs.Code.{hmac_code}
+use Rattle.format.specs.Returns.{number_in}
+use Rattle.format.specs.declared.Refusal.{Refusal}
 use Rattle.modules.specs.declared.Last.{Last}
 use Rattle.modules.specs.declared.Module.{Module}
+use Rattle.modules.specs.Counter.{Made}
 use Rattle.modules.specs.Present.{making}
+use Rattle.modules.specs.Returned.{made_of}
 use Rattle.sealed.specs.Present.{coding_plain, coding_coin}
 use Rattle.station.specs.Calls.{Returned}
-use Rattle.station.specs.Present.{opening, giving}
-use Rattle.station_words.specs.declared.Reading.{Reading}
-use Rattle.station_words.specs.Words.{station_words, part, reading}
+use Rattle.station.specs.declared.Station.{Station}
+use Rattle.station.specs.Present.{no_station, opening, giving}
+use Rattle.station_words.specs.Words.{station_words, part, Reading, read_by, reading}
 use Rattle.call_cases.specs.declared.Copied.{Copied}
 use Rattle.call_cases.specs.declared.Named.{Named}
 
@@ -100,6 +105,11 @@ pub seen_copy : (ws copy : List ℕ) (at l : ℕ) → copy ≡ part at 400 ws �
 unfolding seen part
 seen_copy ws copy at l CopyIs e short = rw (CopyIs, take-take l 400 (drop at ws) short, e)
 
+-- the number of a making
+pub number_made : (r : Result Module Refusal) (x : Made) → made_of r ≡ x → number_in r ≡ x.number
+number_made (Ok m) x e = ap (λ (y : Made). y.number) e
+number_made (Err f) x e = ap (λ (y : Made). y.number) e
+
 module _ (ws : List ℕ) where
   pub check_is : (key : List ℕ) (m b l r : ℕ) → key ≡ key_of ws m → l ≡ shown (slice_index ws (b + 400))
       → r ≡ checked key (slice_index ws (m + 8)) (take (b + l - b) (drop b ws)) → r ≡ check_of ws m b
@@ -117,35 +127,24 @@ module _ (ws : List ℕ) where
       → r ≡ (coding_coin hmac_code (module_in ws m) (seen ws b) coin).number
   coin_number m b l coin r x x_is l_is r_is = r_is ∙ rw (x_is, seen_lent ws b l l_is)
 
-abbrev number_of : Returned → ℕ
-number_of x = x.number
-
-abbrev count_of : Returned → ℕ
-count_of x = x.count
-
--- a number and a count that belong to an answer equal to the defined one
-counted : (x y : Returned) (number count : ℕ) → x ≡ y → number ≡ x.number → count ≡ x.count → Counted y number count
-counted x y number count e number_is count_is = record { number_is = number_is ∙ ap number_of e; count_is = count_is ∙ ap count_of e }
-
 module _ (ws : List ℕ) (names : Named) (x : Module) (l number count : ℕ) (x_is : x ≡ module_in ws names.module)
-    (l_is : l ≡ shown (slice_index ws (names.lent + 400))) where
+    (l_is : l ≡ shown (slice_index ws (names.lent + 400))) (y : Returned) (counted : Counted y number count) where
   pub opened_is : (question proposal jump : ℕ)
-      → number ≡ (opening hmac_code x question proposal jump (take (names.lent + l - names.lent) (drop names.lent ws))).number
-      → count ≡ (opening hmac_code x question proposal jump (take (names.lent + l - names.lent) (drop names.lent ws))).count
+      → y ≡ opening hmac_code x question proposal jump (take (names.lent + l - names.lent) (drop names.lent ws))
       → Counted (opened_by ws names question proposal jump) number count
   unfolding opened_by
-  opened_is question proposal jump number_is count_is =
-      counted (opening hmac_code x question proposal jump (take (names.lent + l - names.lent) (drop names.lent ws)))
-      (opened_by ws names question proposal jump) number count (rw (x_is, seen_lent ws names.lent l l_is)) number_is count_is
+  opened_is question proposal jump y_is = rw (← x_is, ← seen_lent ws names.lent l l_is, ← y_is) counted
 
-  pub given_is : (words : List ℕ) (r : Reading) (coin : ℕ) → r ≡ reading (part names.station station_words ws)
-      → number ≡ (giving hmac_code x r.station words coin (take (names.lent + l - names.lent) (drop names.lent ws))).number
-      → count ≡ (giving hmac_code x r.station words coin (take (names.lent + l - names.lent) (drop names.lent ws))).count
+  pub given_is : (words : List ℕ) (t : Station) (coin : ℕ) → t ≡ (reading (part names.station station_words ws)).station
+      → y ≡ giving hmac_code x t words coin (take (names.lent + l - names.lent) (drop names.lent ws))
       → Counted (given_words ws names words coin) number count
   unfolding given_words
-  given_is words r coin r_is number_is count_is =
-      counted (giving hmac_code x r.station words coin (take (names.lent + l - names.lent) (drop names.lent ws)))
-      (given_words ws names words coin) number count (rw (x_is, r_is, seen_lent ws names.lent l l_is)) number_is count_is
+  given_is words t coin t_is y_is = rw (← x_is, ← t_is, ← seen_lent ws names.lent l l_is, ← y_is) counted
+
+-- a station that was read, or the one that is none
+pub station_or_none : (r : Result Station Refusal) (x : Reading) (none : Station) → read_by r ≡ x → none ≡ no_station → result_unwrap_or r none ≡ x.station
+station_or_none (Ok t) x none e none_is = ap (λ (y : Reading). y.station) e
+station_or_none (Err f) x none e none_is = none_is ∙ ap (λ (y : Reading). y.station) e
 
 -- of a copy of the words that are given
 pub given_copy : (ws : List ℕ) (names : Named) (copy : List ℕ) (k coin number count : ℕ) → copy ≡ part names.given 400 ws

@@ -4,18 +4,29 @@
 
 ghost use Rattle.std.specs.Prelude.{◌≡◌};
 ghost use Rattle.compression.specs.Compression.{compressed};
+ghost use Rattle.format.specs.Returns.{number_in};
 ghost use Rattle.rules.specs.declared.Which.TheVariants.{Only};
 ghost use Rattle.certificate.specs.Present.{judged, checked};
 
+use format::Refusal;
 use rules::Which;
+
+// The returned number of an answer: 0 where there is no refusal.
+fn number(answer: Result<(), Refusal>) -> u32
+    ensures { result ≡ number_in answer }
+{
+    match answer {
+        Ok(()) => 0,
+        Err(refusal) => refusal.number(),
+    }
+}
 
 // The validity check of the words under a key and n.
 #[unsafe(no_mangle)]
 pub extern "C" fn check_exports_check(key: &[u8; 32], n: u32, ws: &[u32]) -> u32
     ensures { result ≡ checked key.now n ws.now }
 {
-    let k = *key;
-    certificate::check(k, n, ws)
+    number(certificate::check(*key, n, ws))
 }
 
 // The same, of a bundle that is to be of the question asked for, as a station judges it.
@@ -23,8 +34,7 @@ pub extern "C" fn check_exports_check(key: &[u8; 32], n: u32, ws: &[u32]) -> u32
 pub extern "C" fn check_exports_judge(key: &[u8; 32], n: u32, asked: u32, ws: &[u32]) -> u32
     ensures { result ≡ judged key.now n (Only asked) ws.now }
 {
-    let k = *key;
-    certificate::judge(k, n, Which::Only(asked), ws)
+    number(certificate::judge(*key, n, Which::Only(asked), ws))
 }
 
 // The state after one block of sixteen words, in its place.
@@ -32,8 +42,5 @@ pub extern "C" fn check_exports_judge(key: &[u8; 32], n: u32, asked: u32, ws: &[
 pub extern "C" fn check_exports_compress(state: &mut [u32; 8], block: &[u32; 16])
     ensures { state.new ≡ compressed state.old block.now }
 {
-    let s = *state;
-    let b = *block;
-    let r = block::compress(s, b);
-    *state = r;
+    *state = block::compress(*state, *block);
 }

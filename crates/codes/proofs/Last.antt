@@ -3,9 +3,9 @@ use mathlib.Core.Path.{◌≡◌, refl, sym, ap, ◌∙◌}
 use mathlib.Core.List.{List, [], ◌∷◌, ◌++◌, append_assoc}
 use Prim.Native.Nat.{ℕ, zero, suc, ◌+◌, ◌-◌, ◌*◌, ◌^◌, ◌≤◌}
 use native.Mathlib.Omega.{arith}
-use lib.ListN.{length, take, set, replicate, length-append, length-replicate}
+use lib.ListN.{length, drop, set, replicate, length-append, length-replicate}
 use lib.Seq.{set_at}
-use Rattle.laws.specs.Fill.{marked}
+use Rattle.laws.specs.Fill.{marked, copied}
 use Rattle.compression.specs.Compression.{compressed}
 use Rattle.laws.specs.Below.{Below}
 use Rattle.sha256.specs.Sha256.{bytes, padding}
@@ -22,18 +22,18 @@ one_more : (k : ℕ) → replicate {A = ℕ} (suc k) 0 ≡ replicate k 0 ++ (0 �
 one_more zero = refl
 one_more (suc k) = ap (λ (l : List ℕ). 0 ∷ l) (one_more k)
 
-pub filled : (ws b : List ℕ) (j v : ℕ) → length ws ≤ 13 → length ws ≤ j → j ≤ length ws → b ≡ take j ws ++ replicate (16 - j) 0
-    → v ≡ (64 + length ws * 4) * 8 → set (set b j (2 ^ 31)) 15 v ≡ last ws
-filled ws b j v h p q b_is v_is =
-    let m : set b j (2 ^ 31) ≡ ws ++ (2 ^ 31 ∷ replicate (16 - 1 - length ws) 0) = marked 16 ws b j (length ws) (2 ^ 31) refl p q (omega arith) b_is in
-    let e : 16 - 1 - length ws ≡ suc (14 - length ws) = omega arith in
-    let front : List ℕ = ws ++ (2 ^ 31 ∷ replicate (14 - length ws) 0) in
-    let l : length (ws ++ (2 ^ 31 ∷ replicate {A = ℕ} (14 - length ws) 0)) ≡ 15 = simp (length-append, length-replicate) (omega arith) in
-    let f : ws ++ (2 ^ 31 ∷ (replicate (14 - length ws) 0 ++ (0 ∷ []))) ≡ ws ++ (2 ^ 31 ∷ replicate (14 - length ws) 0) ++ (0 ∷ [])
-    = sym (append_assoc ws (2 ^ 31 ∷ replicate (14 - length ws) 0) (0 ∷ [])) in
+pub filled : (ws b : List ℕ) (v : ℕ) → length ws ≤ 13 → b ≡ ws → v ≡ (64 + length ws * 4) * 8 → set (set (b ++ drop (length ws) (replicate 16 0)) (length ws) (2 ^ 31)) 15 v ≡ last ws
+filled ws b v h b_is v_is =
+    let n : ℕ = length ws in
+    let m : set (b ++ drop n (replicate 16 0)) n (2 ^ 31) ≡ ws ++ (2 ^ 31 ∷ replicate (16 - 1 - n) 0)
+    = marked 16 ws (b ++ drop n (replicate 16 0)) n n (2 ^ 31) refl (omega arith) (omega arith) (omega arith) (copied 16 ws b n b_is refl) in
+    let e : 16 - 1 - n ≡ suc (14 - n) = omega arith in
+    let l : length (ws ++ (2 ^ 31 ∷ replicate {A = ℕ} (14 - n) 0)) ≡ 15 = simp (length-append, length-replicate) (omega arith) in
+    let f : ws ++ (2 ^ 31 ∷ (replicate (14 - n) 0 ++ (0 ∷ []))) ≡ ws ++ (2 ^ 31 ∷ replicate (14 - n) 0) ++ (0 ∷ [])
+    = sym (append_assoc ws (2 ^ 31 ∷ replicate (14 - n) 0) (0 ∷ [])) in
     rw (m, e, one_more, f, v_is)
-    (set_at (ws ++ (2 ^ 31 ∷ replicate (14 - length ws) 0)) 0 [] ((64 + length ws * 4) * 8) 15 l
-    ∙ append_assoc ws (2 ^ 31 ∷ replicate (14 - length ws) 0) ((64 + length ws * 4) * 8 ∷ []))
+    (set_at (ws ++ (2 ^ 31 ∷ replicate (14 - n) 0)) 0 [] ((64 + n * 4) * 8) 15 l
+    ∙ append_assoc ws (2 ^ 31 ∷ replicate (14 - n) 0) ((64 + n * 4) * 8 ∷ []))
 
 pub closed_block : (s ws : List ℕ) → Below ws → length ws ≤ 13 → closed s ws ≡ compressed s (last ws)
 unfolding closed

@@ -4,11 +4,8 @@
 ghost use Rattle.std.specs.Prelude.{◌≡◌, ◌+◌, ◌-◌, ◌*◌, ◌^◌, ◌≤◌, [], ◌∷◌, ◌++◌, length, replicate};
 ghost use Rattle.hmac.specs.Hmac.{code_of, closed, short_code};
 
-use hmac::{Code, Prepared};
-use sha256::Digest;
-
-// A hashed input has fewer bytes than this.
-const LIMIT: u64 = 2305843009213693952;
+use hmac::Prepared;
+use sha256::HashError;
 
 // The words of the last block, where one block went before: the message's words, the bit 1, zeros, and the length in bits.
 fn last_block(ws: &[u32]) -> [u32; 16]
@@ -16,13 +13,9 @@ fn last_block(ws: &[u32]) -> [u32; 16]
     ensures { result ≡ ws.now ++ (2 ^ 31 ∷ (replicate (14 - length ws.now) 0 ++ ((64 + length ws.now * 4) * 8 ∷ []))) }
 {
     let n = ws.len();
-    let mut b = [0u32; 16];
-    let mut j = 0;
-    while j < n {
-        b[j] = ws[j];
-        j += 1;
-    }
-    b[j] = 2147483648;
+    let mut b = [0; 16];
+    b[..n].copy_from_slice(ws);
+    b[n] = 1 << 31;
     b[15] = ((64 + n * 4) * 8) as u32;
     b
 }
@@ -35,54 +28,24 @@ fn close(s: [u32; 8], ws: &[u32]) -> [u32; 8]
     block::compress(s, last_block(ws))
 }
 
-fn close_state(s: [u32; 8], i: [u32; 8]) -> [u32; 8]
-    ensures { result ≡ closed s i }
-{
-    close(s, &i)
-}
-
-// The code over at most 13 words, in two compressions; 3 for more words.
-pub fn code_words(key: Prepared, ws: &[u32]) -> Code
+// The code over at most 13 words, in two compressions.
+pub fn code_words(key: Prepared, ws: &[u32]) -> Result<[u32; 8], HashError>
     ensures { result ≡ short_code key ws.now }
 {
     if ws.len() <= 13 {
-        let first = key.inner;
-        let last = key.outer;
-        let i = close(first, ws);
-        let o = close_state(last, i);
-        Code {
-            number: 0,
-            words: o,
-        }
+        let inner = close(key.inner, ws);
+        Ok(close(key.outer, &inner))
     } else {
-        Code {
-            number: 3,
-            words: [0; 8],
-        }
+        Err(HashError::TooManyWords)
     }
 }
 
-// The code of m under k, or 3 where a hashed input would reach 2^61 bytes.
-pub fn hmac(k: &[u8], m: &[u8]) -> Digest
+// The code of m under k.
+pub fn hmac(k: &[u8], m: &[u8]) -> Result<[u8; 32], HashError>
     ensures { result ≡ code_of k.now m.now }
 {
-    if (k.len() as u64) < LIMIT {
-        if (m.len() as u64) < LIMIT - 64 {
-            let p = hmac::prepare(k);
-            let key = p.key;
-            let first = key.inner;
-            let last = key.outer;
-            let i = digest::hash_after(first, 1, m);
-            let s = i.state;
-            let c = sha256::state_bytes(close_state(last, s));
-            return Digest {
-                number: 0,
-                bytes: c,
-            };
-        }
-    }
-    Digest {
-        number: 3,
-        bytes: [0; 32],
-    }
+    let key = hmac::prepare(k)?;
+    let inner = digest::hash_after(key.inner, 1, m)?;
+    let outer = close(key.outer, &inner);
+    Ok(sha256::state_bytes(outer))
 }

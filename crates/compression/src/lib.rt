@@ -4,8 +4,6 @@
 ghost use Rattle.std.specs.Prelude.{◌≡◌};
 ghost use Rattle.compression.specs.Steps.{scheduled, stepped};
 
-use std::num::wrapping_add_u32 as add;
-
 // The eight working variables.
 #[derive(Clone, Copy)]
 pub struct Working {
@@ -23,33 +21,43 @@ pub struct Working {
 pub fn word(p: u32, q: u32, r: u32, s: u32) -> u32
     ensures { result ≡ scheduled p q r s }
 {
-    let small1 = (p >> 17 | p << 15) ^ (p >> 19 | p << 13) ^ (p >> 10);
-    let small0 = (r >> 7 | r << 25) ^ (r >> 18 | r << 14) ^ (r >> 3);
-    add(add(add(small1, q), small0), s)
+    let small1 = p.rotate_right(17) ^ p.rotate_right(19) ^ (p >> 10);
+    let small0 = r.rotate_right(7) ^ r.rotate_right(18) ^ (r >> 3);
+    small1.wrapping_add(q).wrapping_add(small0).wrapping_add(s)
 }
 
 // One round.
+#[tactic(auto, unfolding(crate::specs::Compression::t1, crate::specs::Compression::t2))]
 pub fn round(v: Working, k: u32, w: u32) -> Working
     ensures { result ≡ stepped v k w }
 {
-    let a = v.a;
-    let b = v.b;
-    let c = v.c;
-    let e = v.e;
-    let f = v.f;
-    let g = v.g;
+    let Working {
+        a,
+        b,
+        c,
+        d,
+        e,
+        f,
+        g,
+        h,
+    } = v;
+    // two shifts a rotation here: with `rotate_right` the validity check takes 3 percent longer
     let big1 = (e >> 6 | e << 26) ^ (e >> 11 | e << 21) ^ (e >> 25 | e << 7);
     let ch = (e & f) ^ (!e & g);
-    let t1 = add(add(add(add(v.h, big1), ch), k), w);
-    let big0 = (a >> 2 | a << 30) ^ (a >> 13 | a << 19) ^ (a >> 22 | a << 10);
+    let t1 = h
+        .wrapping_add(big1)
+        .wrapping_add(ch)
+        .wrapping_add(k)
+        .wrapping_add(w);
+    let big0 = a.rotate_right(2) ^ a.rotate_right(13) ^ a.rotate_right(22);
     let maj = (a & b) ^ (a & c) ^ (b & c);
-    let t2 = add(big0, maj);
+    let t2 = big0.wrapping_add(maj);
     Working {
-        a: add(t1, t2),
+        a: t1.wrapping_add(t2),
         b: a,
         c: b,
         d: c,
-        e: add(v.d, t1),
+        e: d.wrapping_add(t1),
         f: e,
         g: f,
         h: g,

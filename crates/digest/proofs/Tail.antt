@@ -1,34 +1,16 @@
 -- The last one or two blocks as the code builds them in a buffer of zeros: the rest of the message, 128, and the length at its place.
-use mathlib.Core.Path.{◌≡◌, refl, sym, ◌∙◌}
-use mathlib.Core.List.{List, [], ◌∷◌, ◌++◌, append_assoc}
-use Prim.Native.Nat.{ℕ, suc, ◌+◌, ◌-◌, ◌*◌, ◌/◌, ◌%◌, ◌^◌, ◌≤◌, ◌<◌}
-use native.Mathlib.Omega.{arith}
-use lib.ListN.{length, take, drop, set, replicate, length-append, length-replicate, replicate-append-replicate}
-use lib.Seq.{sets-eq, take_at}
+use Rattle.std.proofs.Common.{◌≡◌, refl, sym, ◌∙◌, List, ◌∷◌, ◌++◌, append_assoc, ℕ, ◌+◌, ◌-◌, ◌*◌, ◌%◌, ◌≤◌, ◌<◌, arith, length, take, drop, replicate, length-append, take_at}
+use Rattle.std.proofs.lemmas.List.{length-replicate}
+use lib.ListN.{replicate-append-replicate}
+use Rattle.std.specs.Int.{to_be_bytes, w64}
+use Rattle.std.proofs.lemmas.Slice.{put_mid-paste}
+use borrow.Rule.Slice.PartMut.{put_mid}
 use Rattle.sha256.specs.Sha256.{big64, padding}
 
-pub stored : (b : List ℕ) (at p q r s t u v w : ℕ) → at + 8 ≤ length b
-    → set (set (set (set (set (set (set (set b at p) (at + 1) q) (at + 2) r) (at + 3) s) (at + 4) t) (at + 5) u) (at + 6) v) (at + 7) w
-    ≡ take at b ++ (p ∷ q ∷ r ∷ s ∷ t ∷ u ∷ v ∷ w ∷ drop (at + 8) b)
-stored b at p q r s t u v w h =
-    let e1 : at + 1 ≡ suc at = omega arith in
-    let e2 : at + 2 ≡ suc (suc at) = omega arith in
-    let e3 : at + 3 ≡ suc (suc (suc at)) = omega arith in
-    let e4 : at + 4 ≡ suc (suc (suc (suc at))) = omega arith in
-    let e5 : at + 5 ≡ suc (suc (suc (suc (suc at)))) = omega arith in
-    let e6 : at + 6 ≡ suc (suc (suc (suc (suc (suc at))))) = omega arith in
-    let e7 : at + 7 ≡ suc (suc (suc (suc (suc (suc (suc at)))))) = omega arith in
-    rw (e1, e2, e3, e4, e5, e6, e7) (sets-eq (p ∷ q ∷ r ∷ s ∷ t ∷ u ∷ v ∷ w ∷ []) b at h
-    ∙ append_assoc (take at b) (p ∷ q ∷ r ∷ s ∷ t ∷ u ∷ v ∷ w ∷ []) (drop (at + 8) b))
-
-pub put64 : (b : List ℕ) (at n p q r s t u v w : ℕ) → at + 8 ≤ length b
-    → p ≡ n / 2 ^ 56 % 256 → q ≡ n / 2 ^ 48 % 256 → r ≡ n / 2 ^ 40 % 256 → s ≡ n / 2 ^ 32 % 256
-    → t ≡ n / 2 ^ 24 % 256 → u ≡ n / 2 ^ 16 % 256 → v ≡ n / 2 ^ 8 % 256 → w ≡ n % 256
-    → set (set (set (set (set (set (set (set b at p) (at + 1) q) (at + 2) r) (at + 3) s) (at + 4) t) (at + 5) u) (at + 6) v) (at + 7) w
-    ≡ take at b ++ (big64 n ++ drop (at + 8) b)
+pub put64 : (b eight : List ℕ) (at n k : ℕ) → at + 8 ≤ length b → eight ≡ to_be_bytes w64 n → 8 ≡ k → put_mid at k b eight ≡ take at b ++ (big64 n ++ drop (at + 8) b)
 unfolding big64
-put64 b at n p q r s t u v w h p_is q_is r_is s_is t_is u_is v_is w_is =
-    stored b at p q r s t u v w h ∙ rw (p_is, q_is, r_is, s_is, t_is, u_is, v_is, w_is)
+put64 b eight at n k h eight_is k_is =
+    put_mid-paste at k b eight (big64 n) 8 eight_is k_is refl ∙ append_assoc (take at b) (big64 n) (drop (at + 8) b)
 
 front : (d : List ℕ) (left m : ℕ) → length d ≡ left → left < m → m ≤ 128 → take m (d ++ (128 ∷ replicate (127 - left) 0)) ≡ d ++ (128 ∷ replicate (m - 1 - left) 0)
 front d left m long p q =

@@ -4,10 +4,7 @@
 ghost use Rattle.std.specs.Prelude.{◌≡◌, ◌+◌, ◌-◌, ◌*◌, ◌%◌, ◌<◌, ◌≤◌, ◌∷◌, ◌++◌, length, take, drop, replicate};
 ghost use Rattle.sha256.specs.Sha256.{big64, padding, hashed, limit, digest, hash_after};
 
-use sha256::{Digest, Hashed};
-
-// A hashed input has fewer bytes than this.
-const LIMIT: u64 = 2305843009213693952;
+use sha256::{HashError, LIMIT};
 
 // What stands in s from `from` on, then 128, then zeros.
 fn rest(s: &[u8], from: usize) -> [u8; 128]
@@ -15,13 +12,9 @@ fn rest(s: &[u8], from: usize) -> [u8; 128]
     ensures { result ≡ drop from s.now ++ (128 ∷ replicate (127 - (length s.now - from)) 0) }
 {
     let n = s.len() - from;
-    let mut b = [0u8; 128];
-    let mut j = 0;
-    while j < n {
-        b[j] = s[from + j];
-        j += 1;
-    }
-    b[j] = 128;
+    let mut b = [0; 128];
+    b[..n].copy_from_slice(&s[from..]);
+    b[n] = 128;
     b
 }
 
@@ -31,14 +24,8 @@ fn with_length(b: [u8; 128], at: usize, bits: u64) -> [u8; 128]
     ensures { result ≡ take at b ++ (big64 bits ++ drop (at + 8) b) }
 {
     let mut r = b;
-    r[at] = ((bits >> 56) % 256) as u8;
-    r[at + 1] = ((bits >> 48) % 256) as u8;
-    r[at + 2] = ((bits >> 40) % 256) as u8;
-    r[at + 3] = ((bits >> 32) % 256) as u8;
-    r[at + 4] = ((bits >> 24) % 256) as u8;
-    r[at + 5] = ((bits >> 16) % 256) as u8;
-    r[at + 6] = ((bits >> 8) % 256) as u8;
-    r[at + 7] = (bits % 256) as u8;
+    let eight = bits.to_be_bytes();
+    r[at..at + 8].copy_from_slice(&eight);
     r
 }
 
@@ -60,40 +47,24 @@ fn finish(state: [u32; 8], done: u64, s: &[u8]) -> [u32; 8]
     }
 }
 
-// The hash of m, or 3 where m has 2^61 bytes or more.
-pub fn sha256(m: &[u8]) -> Digest
+// The hash of m.
+pub fn sha256(m: &[u8]) -> Result<[u8; 32], HashError>
     ensures { result ≡ digest m.now }
 {
     if (m.len() as u64) < LIMIT {
-        let d = sha256::state_bytes(finish(sha256::initial_state(), 0, m));
-        Digest {
-            number: 0,
-            bytes: d,
-        }
+        let state = finish(sha256::initial_state(), 0, m);
+        Ok(sha256::state_bytes(state))
     } else {
-        Digest {
-            number: 3,
-            bytes: [0; 32],
-        }
+        Err(HashError::TooLong)
     }
 }
 
-// The state after m and the padding, where `n` blocks went before, or 3 where the whole would reach 2^61 bytes.
-pub fn hash_after(state: [u32; 8], n: u64, m: &[u8]) -> Hashed
+// The state after m and the padding, where `n` blocks went before.
+pub fn hash_after(state: [u32; 8], n: u64, m: &[u8]) -> Result<[u32; 8], HashError>
     ensures { result ≡ hash_after state n m.now }
 {
-    if n < LIMIT / 64 {
-        let done = n * 64;
-        if (m.len() as u64) < LIMIT - done {
-            let s = finish(state, done, m);
-            return Hashed {
-                number: 0,
-                state: s,
-            };
-        }
+    if n < LIMIT / 64 && (m.len() as u64) < LIMIT - n * 64 {
+        return Ok(finish(state, n * 64, m));
     }
-    Hashed {
-        number: 3,
-        state: [0; 8],
-    }
+    Err(HashError::TooLong)
 }

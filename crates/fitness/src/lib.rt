@@ -1,4 +1,5 @@
-// Whether a station fits its module (document 01, "A station fits if", and docs/STATION.md). The contracts cite specs/ of crate station.
+// Whether a station fits its module (document 01, "A station fits if", and docs/STATION.md). The
+// contracts cite specs/ of crate station.
 #![tactic(auto)]
 
 ghost use Rattle.std.specs.Prelude.{◌≡◌, true, ◌&&◌, ◌≤◌};
@@ -11,7 +12,8 @@ use format::{FLAG, LAST_ROUND, NONE, STATEMENT_WORDS};
 use modules::Module;
 use station::{Stage, Station};
 
-// Whether the stage's round is in range, and a proposing station's flag that of its own proposal, whose word 0 is w.
+// Whether the stage's round is in range, and a proposing station's flag that of its own proposal,
+// whose word 0 is w.
 fn stage_fits(stage: Stage, w: u32) -> bool
     ensures { result ≡ stage_fits stage w }
 {
@@ -27,33 +29,24 @@ fn words_fit(t: Station, n: u32, site: u32) -> bool
     requires { (1 ≤ site) × (site ≤ most_stations) × (size_fits n ≡ true) }
     ensures { result ≡ words_fit n site t }
 {
-    let held = t.held;
-    let slots = held.slots;
-    let heard = held.heard;
-    let stage = t.stage;
-    let groups = t.groups;
-    let id = t.identity;
-    let question = id.question;
-    let lasting = t.lasting;
-    let step = stages::step_in(stage);
     let own = site - 1;
-    let at = own as usize * STATEMENT_WORDS;
-    let a = held_fitness::held_fits(&slots, heard, n, own, question, step);
-    let b = stage_fits(stage, slots[at]);
-    let c = kept_fitness::groups_fit(groups, &slots, heard, stage, n, question);
-    a & (b & (lasting.decision <= NONE) & c)
+    let question = t.identity.question;
+    let step = stages::step_in(t.stage);
+    held_fitness::held_fits(&t.held, n, own, question, step)
+        & (stage_fits(t.stage, t.held.slots[own as usize * STATEMENT_WORDS])
+            & (t.lasting.decision <= NONE)
+            & kept_fitness::groups_fit(t.groups, &t.held, t.stage, n, question))
 }
 
-// Whether a station fits a module: the module is in range, the station has its n and number, and is closed or all of its words fit.
+// Whether a station fits a module: the module is in range, the station has its n and number, and is
+// closed or all of its words fit.
 pub fn fits_module(t: Station, m: Module) -> bool
     ensures { result ≡ (module_fits m && fits m.n m.station t) }
 {
     if !modules::fits(m) {
         return false;
     }
-    let n = m.n;
-    let number = m.station;
-    let id = t.identity;
-    let all = words_fit(t, n, number);
-    (id.n == n) & (id.station == number) & (t.closed | all)
+    (t.identity.n == m.n)
+        & (t.identity.station == m.station)
+        & (t.closed | words_fit(t, m.n, m.station))
 }

@@ -7,3 +7,4 @@ pub mod ReadBack
 pub mod Apart
 pub mod Group
 pub mod Drops
+pub mod Returns

@@ -7,3 +7,4 @@ pub mod Lists
 pub mod Bundle
 pub mod Tables
 pub mod Present
+pub mod Returns

@@ -1,12 +1,13 @@
 -- A turn behind a fault is one of the walk, whatever the group: `glance_is_walk`. And the loop at word `at`: one turn, and its end.
-use Prim.Native.Nat.{ℕ, zero, suc, ◌+◌, ◌-◌, ◌*◌, ◌/◌, ◌≤◌}
-use Rattle.std.specs.Prelude.{Bool, ◌&&◌, ◌||◌, List, ◌≡◌, eqb, leb, length, get_or}
+use Prim.Native.Nat.{ℕ, zero, suc, ◌+◌, ◌-◌, ◌*◌, ◌/◌, ◌≤◌, ◌<◌}
+use Rattle.std.specs.Prelude.{Bool, ◌||◌, List, ◌≡◌, eqb, length, get_or}
 use Rattle.std.proofs.Math.Bool.{true, false, not}
 use Rattle.std.proofs.Math.Path.{refl}
-use Rattle.std.proofs.Common.{sym, ap, ◌∙◌, arith}
-use borrow.Author.Tests.{leb-true, leb-false, not-true}
+use Rattle.std.proofs.Common.{sym, ap, subst, ◌∙◌, arith}
 use Rattle.laws.specs.Pick.{pick}
-use Rattle.laws.specs.Bools.{both, or_nothing}
+use Rattle.laws.specs.Bools.{or_nothing}
+use Rattle.laws.specs.Refusals.{first_failed}
+use Rattle.format.specs.Numbers.{malformed}
 use Rattle.format.specs.Words.{station_of, fields_of}
 use Rattle.format.specs.Present.{place_of, statement_words, formed}
 use Rattle.rules.specs.declared.Group.{Group}
@@ -46,37 +47,51 @@ module _ (code : List ℕ → List ℕ) (n : ℕ) (g : Group) (question : ℕ) (
       go true ih = refl
       go false ih = rw (turn_passes f fault) ih
 
-module _ (n question : ℕ) (ws : List ℕ) (f : Findings) (at : ℕ) (bad o : Bool) where
-  next_passed : (p last : ℕ) (good : Bool) → at ≡ place_of p → good ≡ formed n (fields_of (get_or ws at 0)) → bad ≡ false → at + statement_words ≤ length ws
-      → glanced n question ws (further f p last bad o) (left ws p)
-      ≡ glanced n question ws (further f (p + 1) (station_of (get_or ws at 0)) (not good) (o || not (eqb (get_or ws (at + 1) 0) question))) (left ws (p + 1))
-  unfolding glanced passed fields_of pick left
-  next_passed p last good here well clean inside =
-      let z : (length ws - (1 + p * statement_words)) / statement_words ≡ suc ((length ws - (1 + (p + 1) * statement_words)) / statement_words) = omega (arith, inside, here) in
-      rw (z, clean, well, here)
+-- 3 is answered behind a malformed statement, whatever stands there
+pub answered_3 : (n question : ℕ) (ws : List ℕ) (f : Findings) (k : ℕ) → f.malformed ≡ true → malformed ≡ answer (glanced n question ws f k)
+unfolding glanced answer first_failed pick
+answered_3 n question ws f zero h = rw h
+answered_3 n question ws f (suc k) h = rw h
 
-  pub glance_turn : (good : Bool) → good ≡ formed n (fields_of (get_or ws at 0)) → (not bad && leb (at + statement_words) (length ws)) ≡ true → Glancing n question ws f at bad o
-      → Glancing n question ws f (at + statement_words) (not good) (o || not (eqb (get_or ws (at + 1) 0) question))
-  glance_turn good well inside G =
-      let i = both (not bad) (leb (at + statement_words) (length ws)) inside in
-      record {
-        place = G.place + 1;
-        last = station_of (get_or ws at 0);
-        here = omega (arith, G.here);
-        same = G.same ∙ next_passed G.place G.last good G.here well (not-true bad i.0) (leb-true (at + statement_words) (length ws) i.1);
-      }
+module _ (n question : ℕ) (ws : List ℕ) (f : Findings) where
+  pub glance_start : f.malformed ≡ false → Glancing n question ws f (place_of f.place) false f.other
+  glance_start h = record {
+    place = f.place;
+    last = f.last;
+    here = refl;
+    same = subst (λ b. glanced n question ws f (left ws f.place) ≡ glanced n question ws (further f f.place f.last b f.other) (left ws f.place)) h refl;
+  }
 
-  none_passed : (p last : ℕ) → at ≡ place_of p → (not bad && leb (at + statement_words) (length ws)) ≡ false
-      → answer (further f f.place f.last bad o) ≡ answer (glanced n question ws (further f p last bad o) (left ws p))
-  unfolding glanced pick left answer
-  none_passed p last here h = go bad refl ((length ws - (1 + p * statement_words)) / statement_words) refl
-    where
-      go : (b : Bool) → bad ≡ b → (k : ℕ) → (length ws - (1 + p * statement_words)) / statement_words ≡ k
-          → answer (further f f.place f.last bad o) ≡ answer (glanced n question ws (further f p last bad o) k)
-      go b e zero z = refl
-      go true e (suc k) z = rw e
-      go false e (suc k) z = absurd (omega (arith, z, here, leb-false (at + statement_words) (length ws) (rw e at h)))
+  module _ (at : ℕ) (o : Bool) where
+    next_passed : (p last : ℕ) (good : Bool) → at ≡ place_of p → formed n (fields_of (get_or ws at 0)) ≡ good → at + statement_words ≤ length ws
+        → glanced n question ws (further f p last false o) (left ws p)
+        ≡ glanced n question ws (further f (p + 1) (station_of (get_or ws at 0)) (not good) (o || not (eqb (get_or ws (at + 1) 0) question))) (left ws (p + 1))
+    unfolding glanced passed fields_of pick left
+    next_passed p last good here well inside =
+        let z : (length ws - (1 + p * statement_words)) / statement_words ≡ suc ((length ws - (1 + (p + 1) * statement_words)) / statement_words) = omega (arith, inside, here) in
+        rw (z, ← well, here)
 
-  pub glance_end : (not bad && leb (at + statement_words) (length ws)) ≡ false → Glancing n question ws f at bad o
-      → answer (further f f.place f.last bad o) ≡ answer (glanced n question ws f (left ws f.place))
-  glance_end h G = none_passed G.place G.last G.here h ∙ sym (ap answer G.same)
+    pub glance_turn : formed n (fields_of (get_or ws at 0)) ≡ true → at + statement_words ≤ length ws → Glancing n question ws f at false o
+        → Glancing n question ws f (at + statement_words) false (o || not (eqb (get_or ws (at + 1) 0) question))
+    glance_turn well inside G = record {
+      place = G.place + 1;
+      last = station_of (get_or ws at 0);
+      here = omega (arith, G.here);
+      same = G.same ∙ next_passed G.place G.last true G.here well inside;
+    }
+
+    pub glance_malformed : formed n (fields_of (get_or ws at 0)) ≡ false → at + statement_words ≤ length ws → Glancing n question ws f at false o
+        → malformed ≡ answer (glanced n question ws f (left ws f.place))
+    glance_malformed ill inside G =
+        answered_3 n question ws _ (left ws (G.place + 1)) refl ∙ sym (ap answer (G.same ∙ next_passed G.place G.last false G.here ill inside))
+
+    none_left : (p last : ℕ) → at ≡ place_of p → length ws < at + statement_words
+        → answer (further f f.place f.last false o) ≡ answer (glanced n question ws (further f p last false o) (left ws p))
+    unfolding glanced left answer
+    none_left p last here short =
+        let z : (length ws - (1 + p * statement_words)) / statement_words ≡ 0 = omega (arith, here, short) in
+        rw z
+
+    pub glance_end : length ws < at + statement_words → Glancing n question ws f at false o
+        → answer (further f f.place f.last false o) ≡ answer (glanced n question ws f (left ws f.place))
+    glance_end short G = none_left G.place G.last G.here short ∙ sym (ap answer G.same)

@@ -4,11 +4,12 @@
 ghost use Rattle.std.specs.Prelude.{◌≡◌};
 ghost use Rattle.format.specs.Words.{fields_of};
 ghost use Rattle.format.specs.Present.{formed};
+ghost use Rattle.format.specs.Returns.{number_in};
 ghost use Rattle.walk.specs.Walk.{answer};
 ghost use Rattle.glance.specs.Glance.{glanced, left};
 
 use format::{
-    D_GET, FLAG, FLAG_SIZE, INIT, NONE, P, SPARE, SPARE_SIZE, STATEMENT_WORDS, STATION,
+    D_GET, FLAG, FLAG_SIZE, INIT, NONE, P, Refusal, SPARE, SPARE_SIZE, STATEMENT_WORDS, STATION,
     STATION_SIZE, V, VALUE_SIZE,
 };
 use walk::Findings;
@@ -48,29 +49,23 @@ fn word_formed(w: u32, n: u32) -> bool
 }
 
 // The answer, where the turns have ended: the whole statements from the findings' place on, or up to a malformed one, are passed for a number that is answered before.
-// That one is there is seen by the words' length, so that no word needs a test of its own. What else was found stays, and the place and the last station do not
-// matter to the answer.
-pub fn answer_behind(n: u32, question: u32, ws: &[u32], f: Findings) -> u32
-    ensures { result ≡ answer (glanced n question ws.now f (left ws.now f.place)) }
+// A chunk has all ten words of one, so that no word needs a test of its own. What else was found stays, and the place and the last station do not matter to the
+// answer.
+pub fn answer_behind(n: u32, question: u32, ws: &[u32], f: Findings) -> Result<(), Refusal>
+    ensures { number_in result ≡ answer (glanced n question ws.now f (left ws.now f.place)) }
 {
-    let mut at = 1 + f.place as usize * STATEMENT_WORDS;
-    let mut malformed = f.malformed;
-    let mut other = f.other;
-    while !malformed & (at + STATEMENT_WORDS <= ws.len()) {
-        let good = word_formed(ws[at], n);
-        other = other | (ws[at + 1] != question);
-        malformed = !good;
-        at += STATEMENT_WORDS;
+    if f.malformed {
+        return Err(Refusal::Malformed);
     }
-    walk::answer(Findings {
-        place: f.place,
-        last: f.last,
-        malformed: malformed,
-        other: other,
-        wrong: f.wrong,
-        unbacked: f.unbacked,
-        dget: f.dget,
-        zero: f.zero,
-        one: f.one,
-    })
+    let behind = ws
+        .get(1 + f.place as usize * STATEMENT_WORDS..)
+        .unwrap_or(&[]);
+    let mut other = f.other;
+    for words in behind.chunks_exact(STATEMENT_WORDS) {
+        if !word_formed(words[0], n) {
+            return Err(Refusal::Malformed);
+        }
+        other |= words[1] != question;
+    }
+    walk::answer(Findings { other, ..f })
 }

@@ -2,8 +2,8 @@
 // in hex. The expected lines come from another implementation (tests/hash_vectors.py).
 #![tactic(auto)]
 
-use hmac::{Code, Prepared};
-use sha256::Digest;
+use hmac::Prepared;
+use sha256::HashError;
 use std::io;
 
 // A line of hex digits, two for each byte.
@@ -22,36 +22,23 @@ fn show_words(rt: &impl Print, ws: [u32; 8]) -> io::Result<()> {
     println!(rt)
 }
 
-// The line of a call that answered another number than 0.
-fn refused(rt: &impl Print, number: u32) -> io::Result<()> {
-    println!(rt; "refused {number}")
-}
-
-fn show_first(rt: &impl Print, d: [u8; 32], n: usize) -> io::Result<()> {
-    if n <= 32 {
-        show(rt, &d[..n])?;
-    }
-    Ok(())
+// The line of a call that was refused.
+fn refused(rt: &impl Print, e: HashError) -> io::Result<()> {
+    println!(rt; "refused {}", e.number())
 }
 
 // The first n bytes of a digest, where there is one.
-fn show_digest(rt: &impl Print, d: Digest, n: usize) -> io::Result<()> {
-    let number = d.number;
-    let bytes = d.bytes;
-    if number != 0 {
-        refused(rt, number)
-    } else {
-        show_first(rt, bytes, n)
+fn show_digest(rt: &impl Print, d: Result<[u8; 32], HashError>, n: usize) -> io::Result<()> {
+    match d {
+        Ok(bytes) => show(rt, &bytes[..n.min(32)]),
+        Err(e) => refused(rt, e),
     }
 }
 
-fn show_code(rt: &impl Print, c: Code) -> io::Result<()> {
-    let number = c.number;
-    let words = c.words;
-    if number != 0 {
-        refused(rt, number)
-    } else {
-        show_words(rt, words)
+fn show_code(rt: &impl Print, c: Result<[u32; 8], HashError>) -> io::Result<()> {
+    match c {
+        Ok(words) => show_words(rt, words),
+        Err(e) => refused(rt, e),
     }
 }
 
@@ -120,70 +107,60 @@ fn rfc_last(rt: &impl Print) -> io::Result<()> {
 
 // The bytes 0, 1, 2 and so on.
 fn counting() -> [u8; 130] {
-    let mut r = [0u8; 130];
-    let mut i: u8 = 0;
-    while i < 130 {
-        r[i as usize] = i;
-        i += 1;
+    let mut r = [0; 130];
+    for i in 0..130 {
+        r[i] = i as u8;
     }
     r
 }
 
-fn hash_each_length(rt: &impl Print, p: [u8; 130]) -> io::Result<()> {
-    let mut n = 0;
-    while n <= 130 {
+fn hash_each_length(rt: &impl Print, p: &[u8; 130]) -> io::Result<()> {
+    for n in 0..=130 {
         hash(rt, &p[..n])?;
-        n += 1;
     }
     Ok(())
 }
 
-// Keys of each length from the front of k, and what is left to 130 bytes from the front of m.
-fn code_each_length(rt: &impl Print, k: [u8; 130], m: [u8; 130]) -> io::Result<()> {
-    let mut n = 0;
-    while n <= 130 {
-        let left = 130 - n;
-        code(rt, &k[..n], &m[..left])?;
-        n += 1;
+// Keys of each length from the front of p, and what is left to 130 bytes from there.
+fn code_each_length(rt: &impl Print, p: &[u8; 130]) -> io::Result<()> {
+    for n in 0..=130 {
+        code(rt, &p[..n], &p[..130 - n])?;
     }
     Ok(())
 }
 
 // The multiples of 0x01020304 from the first on.
 fn multiples() -> [u32; 14] {
-    let mut r = [0u32; 14];
-    let mut i: u32 = 0;
-    while i < 14 {
-        r[i as usize] = 0x01020304 * (i + 1);
-        i += 1;
+    let mut r = [0; 14];
+    for i in 0..14 {
+        r[i] = 0x01020304 * (i as u32 + 1);
     }
     r
 }
 
-fn code_each_count(rt: &impl Print, key: Prepared, ws: [u32; 14]) -> io::Result<()> {
-    let mut n = 0;
-    while n <= 13 {
+fn code_each_count(rt: &impl Print, key: Prepared, ws: &[u32; 14]) -> io::Result<()> {
+    for n in 0..=13 {
         show_code(rt, codes::code_words(key, &ws[..n]))?;
-        n += 1;
     }
     Ok(())
 }
 
 // The number alone of a call that refuses: one word too many.
-fn code_too_many(rt: &impl Print, key: Prepared, ws: [u32; 14]) -> io::Result<()> {
-    let c = codes::code_words(key, &ws);
-    println!(rt; "{:02x}", c.number)
+fn code_too_many(rt: &impl Print, key: Prepared, ws: &[u32; 14]) -> io::Result<()> {
+    match codes::code_words(key, ws) {
+        Ok(_) => println!(rt; "00"),
+        Err(e) => println!(rt; "{:02x}", e.number()),
+    }
 }
 
-fn word_codes(rt: &impl Print, p: [u8; 130]) -> io::Result<()> {
-    let k = hmac::prepare(&p[..32]);
-    let number = k.number;
-    let key = k.key;
-    if number != 0 {
-        refused(rt, number)
-    } else {
-        code_each_count(rt, key, multiples())?;
-        code_too_many(rt, key, multiples())
+fn word_codes(rt: &impl Print, p: &[u8; 130]) -> io::Result<()> {
+    let words = multiples();
+    match hmac::prepare(&p[..32]) {
+        Ok(key) => {
+            code_each_count(rt, key, &words)?;
+            code_too_many(rt, key, &words)
+        }
+        Err(e) => refused(rt, e),
     }
 }
 
@@ -194,7 +171,7 @@ fn main(rt: HostRuntime) -> io::Result<()> {
     rfc_cut(&rt)?;
     rfc_last(&rt)?;
     let p = counting();
-    hash_each_length(&rt, p)?;
-    code_each_length(&rt, p, p)?;
-    word_codes(&rt, p)
+    hash_each_length(&rt, &p)?;
+    code_each_length(&rt, &p)?;
+    word_codes(&rt, &p)
 }

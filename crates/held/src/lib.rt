@@ -1,9 +1,9 @@
-// Sets of stations, one bit for each, and the scan over the held statements (document 01, "The station"). The contracts cite specs/.
+// Sets of stations, one bit for each, and the scan over the held statements (document 01, "The
+// station"). The contracts cite specs/.
 #![tactic(auto)]
 
 ghost use Rattle.std.specs.Prelude.{◌≡◌, false, ◌&&◌, ◌||◌, ◌%◌, ◌^◌, ◌<◌, eqb, ltb};
 ghost use Rattle.std.specs.Int.Count.{ones, count_trailing_zeros};
-ghost use Rattle.laws.specs.Count.{one_if};
 ghost use Rattle.format.specs.Numbers.{d_get, r_get};
 ghost use Rattle.laws.specs.Sets.{bit};
 ghost use Rattle.station.specs.Machine.{supplies_for_value, supplies_for_none, undecided as Undecided, with_setting, with_decision};
@@ -15,9 +15,10 @@ use rules::Which;
 use station::{Groups, Held, Identity, KEPT_WORDS, Lasting, SLOTS_WORDS, Stage, Station};
 
 // The first set with a bit after that of the last station.
-const BEHIND: u32 = 2147483648;
+const BEHIND: u32 = 1 << MOST_STATIONS;
 
 // Whether the number i is in the set.
+#[tactic(auto, using(crate::proofs::Laws::Sets::none_above))]
 pub fn in_set(set: u32, i: u32) -> bool
     ensures { result ≡ bit set i }
 {
@@ -45,38 +46,30 @@ pub fn with_station(set: u32, s: u32) -> u32
     if in_set(set, i) {
         return set;
     }
-    let more: u32 = 1 << i;
-    set + more
+    set + (1 << i)
 }
 
 // The lowest number in the set, or 32 where there is none.
 pub fn first_of(set: u32) -> u32
     ensures { result ≡ count_trailing_zeros 32 set }
 {
-    u32::trailing_zeros(set)
+    set.trailing_zeros()
 }
 
 // How many numbers are in the set.
 pub fn number_of(set: u32) -> u32
     ensures { result ≡ ones set }
 {
-    u32::count_ones(set)
+    set.count_ones()
 }
 
 // How many of its numbers are below i.
+#[tactic(auto, using(crate::proofs::Laws::Sets::one_bit))]
 fn number_below(set: u32, i: u32) -> u32
     requires { i < sites }
     ensures { result ≡ ones (set % 2 ^ i) }
 {
-    let first: u32 = 1 << i;
-    u32::count_ones(set % first)
-}
-
-// 1 for a test that holds, else 0.
-fn one_if(b: bool) -> u32
-    ensures { result ≡ one_if b }
-{
-    if b { 1 } else { 0 }
+    (set % (1 << i)).count_ones()
 }
 
 // The stations of the set whose held statement has such a value and such a flag.
@@ -84,12 +77,10 @@ pub fn scan(slots: &[u32; SLOTS_WORDS], set: u32, value: Which, flag: Which) -> 
     ensures { result ≡ Scan (such value flag) set slots.now }
 {
     let mut out: u32 = 0;
-    let mut i = MOST_STATIONS;
-    while 0 < i {
-        i -= 1;
+    for i in (0..MOST_STATIONS).rev() {
         let f = format::read_fields(slots[i as usize * STATEMENT_WORDS]);
         let wanted = rules::allows(value, f.value) & rules::allows(flag, f.flag);
-        out = 2 * out + one_if(in_set(set, i) & wanted);
+        out = 2 * out + u32::from(in_set(set, i) & wanted);
     }
     out
 }
@@ -99,54 +90,63 @@ pub fn lowest(set: u32, k: u32) -> u32
     ensures { result ≡ Lowest set k }
 {
     let mut out: u32 = 0;
-    let mut i = MOST_STATIONS;
-    while 0 < i {
-        i -= 1;
-        out = 2 * out + one_if(in_set(set, i) & (number_below(set, i) < k));
+    for i in (0..MOST_STATIONS).rev() {
+        out = 2 * out + u32::from(in_set(set, i) & (number_below(set, i) < k));
     }
     out
 }
 
 // The stations whose proposal of round r is D-GET; in round 1 all.
-fn first_or_d_get(slots: &[u32; SLOTS_WORDS], set: u32, r: Round) -> u32
-    ensures { result ≡ Scan (λ s. eqb r.0 1 || eqb s.flag d_get) set slots.now }
+#[tactic(auto, using(crate::proofs::Laws::Held::scan_first_round, crate::proofs::Laws::Held::scan_d_get))]
+fn first_or_d_get(held: &Held, r: Round) -> u32
+    ensures { result ≡ Scan (λ s. eqb r.0 1 || eqb s.flag d_get) held.now.heard held.now.slots }
 {
     if r.0 == 1 {
-        return scan(slots, set, Which::Any, Which::Any);
+        return scan(&held.slots, held.heard, Which::Any, Which::Any);
     }
-    scan(slots, set, Which::Any, Which::Only(format::D_GET))
+    scan(
+        &held.slots,
+        held.heard,
+        Which::Any,
+        Which::Only(format::D_GET),
+    )
 }
 
 // The stations whose proposal of round r, over 1, is R-GET.
-fn later_r_get(slots: &[u32; SLOTS_WORDS], set: u32, r: Round) -> u32
-    ensures { result ≡ Scan (λ s. ltb 1 r.0 && eqb s.flag r_get) set slots.now }
+#[tactic(auto, using(crate::proofs::Laws::Held::scan_r_get, crate::proofs::Laws::Held::scan_early))]
+fn later_r_get(held: &Held, r: Round) -> u32
+    ensures { result ≡ Scan (λ s. ltb 1 r.0 && eqb s.flag r_get) held.now.heard held.now.slots }
 {
     if 1 < r.0 {
-        return scan(slots, set, Which::Any, Which::Only(format::R_GET));
+        return scan(
+            &held.slots,
+            held.heard,
+            Which::Any,
+            Which::Only(format::R_GET),
+        );
     }
     0
 }
 
 // The stations whose held bundle supplies the group kept for a value.
-pub fn for_value(slots: &[u32; SLOTS_WORDS], set: u32, stage: Stage) -> u32
-    ensures { result ≡ Scan (supplies_for_value stage) set slots.now }
+pub fn for_value(held: &Held, stage: Stage) -> u32
+    ensures { result ≡ Scan (supplies_for_value stage) held.now.heard held.now.slots }
 {
     match stage {
         Stage::Gathering => 0,
-        Stage::Proposing(r, _) => first_or_d_get(slots, set, r),
-        Stage::Voting(_) => scan(slots, set, Which::Only(0), Which::Any)
-            + scan(slots, set, Which::Only(1), Which::Any),
+        Stage::Proposing(r, _) => first_or_d_get(held, r),
+        Stage::Voting(_) => scan(&held.slots, held.heard, Which::Only(0), Which::Any)
+            + scan(&held.slots, held.heard, Which::Only(1), Which::Any),
     }
 }
 
 // The stations whose held bundle supplies the group kept for a none vote.
-pub fn for_none(slots: &[u32; SLOTS_WORDS], set: u32, stage: Stage) -> u32
-    ensures { result ≡ Scan (supplies_for_none stage) set slots.now }
+pub fn for_none(held: &Held, stage: Stage) -> u32
+    ensures { result ≡ Scan (supplies_for_none stage) held.now.heard held.now.slots }
 {
     match stage {
-        Stage::Gathering => 0,
-        Stage::Proposing(r, _) => later_r_get(slots, set, r),
-        Stage::Voting(_) => 0,
+        Stage::Proposing(r, _) => later_r_get(held, r),
+        Stage::Gathering | Stage::Voting(_) => 0,
     }
 }
 
@@ -164,40 +164,32 @@ pub fn undecided(jump: bool) -> Lasting
 pub fn jump_off(l: Lasting) -> Lasting
     ensures { result ≡ with_setting false l }
 {
-    Lasting {
-        jump: false,
-        decision: l.decision,
-    }
+    Lasting { jump: false, ..l }
 }
 
 // The same with this decision.
 pub fn with_decision(l: Lasting, decision: u32) -> Lasting
     ensures { result ≡ with_decision decision l }
 {
-    Lasting {
-        jump: l.jump,
-        decision,
-    }
+    Lasting { decision, ..l }
 }
 
 // A station that holds nothing.
 pub fn empty(identity: Identity, stage: Stage, closed: bool, lasting: Lasting) -> Station
     ensures { result ≡ empty_station identity stage closed lasting }
 {
-    let held = Held {
-        heard: 0,
-        slots: [0; SLOTS_WORDS],
-    };
-    let groups = Groups {
-        value: [0; KEPT_WORDS],
-        none: [0; KEPT_WORDS],
-    };
     Station {
         identity,
         stage,
         closed,
         lasting,
-        held,
-        groups,
+        held: Held {
+            heard: 0,
+            slots: [0; SLOTS_WORDS],
+        },
+        groups: Groups {
+            value: [0; KEPT_WORDS],
+            none: [0; KEPT_WORDS],
+        },
     }
 }

@@ -1,4 +1,5 @@
-// Whether the statements that a station holds fit (document 01, "A station fits if"). The contracts cite specs/ of crate station.
+// Whether the statements that a station holds fit (document 01, "A station fits if"). The contracts
+// cite specs/ of crate station.
 #![tactic(auto)]
 
 ghost use Rattle.std.specs.Prelude.{◌≡◌, ◌*◌, ◌<◌};
@@ -8,22 +9,15 @@ ghost use Rattle.station.specs.Present.{sites, slot_fits, slots_fit};
 ghost use Rattle.held_fitness.specs.Laws.Parts.{slot_right, held_words_fit};
 
 use format::{MOST_STATIONS, STATEMENT_WORDS, Step};
-use station::SLOTS_WORDS;
+use station::{Held, SLOTS_WORDS};
 
 // Whether the ten words of slot i are zero.
 fn slot_empty(slots: &[u32; SLOTS_WORDS], i: u32) -> bool
     requires { i < sites }
     ensures { result ≡ zeros slots.now (i * statement_words) statement_words }
 {
-    let mut at = i as usize * STATEMENT_WORDS;
-    let end = at + STATEMENT_WORDS;
-    while at < end {
-        if slots[at] != 0 {
-            return false;
-        }
-        at += 1;
-    }
-    true
+    let at = i as usize * STATEMENT_WORDS;
+    slots[at..at + STATEMENT_WORDS].iter().all(|w| *w == 0)
 }
 
 // Whether slot i holds a well-formed statement of its station, of the question and of the step.
@@ -33,54 +27,37 @@ fn slot_fits(slots: &[u32; SLOTS_WORDS], i: u32, n: u32, question: u32, step: St
 {
     let at = i as usize * STATEMENT_WORDS;
     let f = format::read_fields(slots[at]);
-    let s = format::step_of(f);
-    format::well_formed(f, n) & (f.station == i + 1) & (slots[at + 1] == question) & (s.0 == step.0)
+    format::well_formed(f, n)
+        & (f.station == i + 1)
+        & (slots[at + 1] == question)
+        & (format::step_of(f).0 == step.0)
 }
 
 // Whether slot i is as its bit says.
-fn slot_matches(
-    slots: &[u32; SLOTS_WORDS],
-    heard: u32,
-    i: u32,
-    n: u32,
-    question: u32,
-    step: Step,
-) -> bool
+fn slot_matches(held: &Held, i: u32, n: u32, question: u32, step: Step) -> bool
     requires { i < sites }
-    ensures { result ≡ slot_right n question step.0 heard slots.now i }
+    ensures { result ≡ slot_right n question step.0 held.now.heard held.now.slots i }
 {
-    if held::in_set(heard, i) {
-        return slot_fits(slots, i, n, question, step);
+    if held::in_set(held.heard, i) {
+        return slot_fits(&held.slots, i, n, question, step);
     }
-    slot_empty(slots, i)
+    slot_empty(&held.slots, i)
 }
 
 // Whether every slot is.
-fn slots_fit(slots: &[u32; SLOTS_WORDS], heard: u32, n: u32, question: u32, step: Step) -> bool
-    ensures { result ≡ slots_fit n question step.0 heard slots.now 0 sites }
+fn slots_fit(held: &Held, n: u32, question: u32, step: Step) -> bool
+    ensures { result ≡ slots_fit n question step.0 held.now.heard held.now.slots 0 sites }
 {
-    let mut i: u32 = 0;
-    while i < MOST_STATIONS {
-        if !slot_matches(slots, heard, i, n, question, step) {
-            return false;
-        }
-        i += 1;
-    }
-    true
+    (0..MOST_STATIONS).all(|i| slot_matches(held, i, n, question, step))
 }
 
-// Whether the held statements fit: no bit behind the last slot, fewer than q, the own, of slot i, among them, and each slot as its bit says.
-pub fn held_fits(
-    slots: &[u32; SLOTS_WORDS],
-    heard: u32,
-    n: u32,
-    i: u32,
-    question: u32,
-    step: Step,
-) -> bool
-    ensures { result ≡ held_words_fit n i question step.0 heard slots.now }
+// Whether the held statements fit: no bit behind the last slot, fewer than q, the own, of slot i,
+// among them, and each slot as its bit says.
+pub fn held_fits(held: &Held, n: u32, i: u32, question: u32, step: Step) -> bool
+    ensures { result ≡ held_words_fit n i question step.0 held.now.heard held.now.slots }
 {
-    let own = held::in_set(heard, i);
-    let all = slots_fit(slots, heard, n, question, step);
-    held::names_stations(heard) & (held::number_of(heard) < format::quorum(n)) & own & all
+    held::names_stations(held.heard)
+        & (held::number_of(held.heard) < format::quorum(n))
+        & held::in_set(held.heard, i)
+        & slots_fit(held, n, question, step)
 }

@@ -1,3 +1,3 @@
-mod Masked
 pub mod Laws
+mod Masked
 pub mod Theorems

@@ -1,30 +1,23 @@
 -- A turn of the loop that masks the key's block masks one byte.
-use mathlib.Core.Path.{◌≡◌, refl}
-use mathlib.Core.List.{List, [], ◌∷◌, ◌++◌, append-nil, append_assoc}
-use Prim.Native.Nat.{ℕ, ◌+◌, ◌≤◌, ◌<◌}
-use native.Mathlib.Numerals.{add-one}
-use native.Mathlib.Omega.{arith}
+use Rattle.std.proofs.Common.{◌≡◌, refl, List, [], ◌∷◌, ◌++◌, append-nil, append_assoc, ℕ, ◌+◌, ◌≤◌, ◌<◌, add-one, arith, length, get_or, take, drop, set, drop_of_length-le, drop-cons, take-suc-set, take_all, drop-set-lt}
 use lib.Bits.{bit_xor}
-use lib.ListN.{length, get_or, take, drop, set, drop_of_length-le}
-use lib.Seq.{drop-cons, take-suc-set, take_all}
 use Rattle.hmac.specs.Hmac.{masked}
 
 masked_cons : (p x : ℕ) (k : List ℕ) → masked p (x ∷ k) ≡ bit_xor x p ∷ masked p k
 unfolding masked
 masked_cons p x k = refl
 
-pub one_masked : (k r : List ℕ) (i p : ℕ) → i < 64 → length k ≡ 64 → length r ≡ 64
-    → take (i + 1) (set r i (bit_xor (get_or k i 0) p)) ++ masked p (drop (i + 1) k) ≡ take i r ++ masked p (drop i k)
-one_masked k r i p low kl rl =
-    let h : i < length r = omega arith in
-    let g : drop i k ≡ get_or k i 0 ∷ drop (i + 1) k = rw add-one (drop-cons k i 0 (omega arith)) in
-    let f : take (i + 1) (set r i (bit_xor (get_or k i 0) p)) ≡ take i r ++ (bit_xor (get_or k i 0) p ∷ []) = rw add-one (take-suc-set r i (bit_xor (get_or k i 0) p) h) in
-    rw (g, f, masked_cons p (get_or k i 0) (drop (i + 1) k)) (append_assoc (take i r) (bit_xor (get_or k i 0) p ∷ []) (masked p (drop (i + 1) k)))
+-- the bytes before place i as they are, and those from it on masked
+abbrev pub rest_masked : ℕ → List ℕ → ℕ → List ℕ
+rest_masked p r i = take i r ++ masked p (drop i r)
 
-pub all_masked : (k r : List ℕ) (i p : ℕ) → 64 ≤ i → i ≤ 64 → length k ≡ 64 → length r ≡ 64 → take i r ++ masked p (drop i k) ≡ r
+pub one_masked : (r : List ℕ) (i p v : ℕ) → i < length r → v ≡ bit_xor (get_or r i 0) p → rest_masked p (set r i v) (i + 1) ≡ rest_masked p r i
+one_masked r i p v low v_is =
+    let g : drop i r ≡ get_or r i 0 ∷ drop (i + 1) r = rw add-one (drop-cons r i 0 (omega arith)) in
+    let f : take (i + 1) (set r i v) ≡ take i r ++ (v ∷ []) = rw add-one (take-suc-set r i v low) in
+    let d : drop (i + 1) (set r i v) ≡ drop (i + 1) r = drop-set-lt (i + 1) r i v (omega arith) in
+    rw (g, f, d, masked_cons p (get_or r i 0) (drop (i + 1) r), ← v_is) (append_assoc (take i r) (v ∷ []) (masked p (drop (i + 1) r)))
+
+pub all_masked : (r : List ℕ) (i p : ℕ) → length r ≤ i → rest_masked p r i ≡ r
 unfolding masked
-all_masked k r i p low high kl rl =
-    let e : i ≡ 64 = omega arith in
-    let n : length k ≤ 64 = omega arith in
-    let d : drop 64 k ≡ [] = drop_of_length-le k n in
-    rw (e, d, take_all 64 r (omega arith)) (append-nil r)
+all_masked r i p h = rw (drop_of_length-le r h, take_all i r h) (append-nil r)

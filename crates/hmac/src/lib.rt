@@ -1,10 +1,14 @@
 // The key of HMAC-SHA-256 (RFC 2104), prepared: the states after its two blocks. The contracts cite specs/Hmac.antt.
 #![tactic(auto)]
 
-ghost use Rattle.std.specs.Prelude.{◌≡◌, ◌<◌, ◌≤◌, length};
+ghost use Rattle.std.specs.Prelude.{◌≡◌, ◌≤◌, length, ltb, Ok, Err};
+ghost use Rattle.laws.specs.Pick.{pick};
 ghost use Rattle.compression.specs.Compression.{compressed};
 ghost use Rattle.sha256.specs.Sha256.{words, initial, limit};
+ghost use Rattle.sha256.specs.declared.HashError.TheVariants.{TooLong};
 ghost use Rattle.hmac.specs.Hmac.{zero_filled, key_block, masked, keyed};
+
+use sha256::HashError;
 
 // A key's two states: after the block of the key with ipad, and after that with opad.
 #[derive(Clone, Copy)]
@@ -13,60 +17,34 @@ pub struct Prepared {
     pub outer: [u32; 8],
 }
 
-// What preparing a key answers: 0 and the states, or 3 and zeros.
-#[derive(Clone, Copy)]
-pub struct Keyed {
-    pub number: u32,
-    pub key: Prepared,
-}
-
-// What coding words answers: 0 and the code, or 3 and zeros.
-#[derive(Clone, Copy)]
-pub struct Code {
-    pub number: u32,
-    pub words: [u32; 8],
-}
-
-// A hashed input has fewer bytes than this.
-const LIMIT: u64 = 2305843009213693952;
-
 // The bytes with zeros behind them.
 fn zero_fill(k: &[u8]) -> [u8; 64]
     requires { length k.now ≤ 64 }
     ensures { result ≡ zero_filled k.now }
 {
-    let mut b = [0u8; 64];
-    let mut j = 0;
-    while j < k.len() {
-        b[j] = k[j];
-        j += 1;
-    }
+    let mut b = [0; 64];
+    b[..k.len()].copy_from_slice(k);
     b
 }
 
 // The key as one block: with zeros behind it, or its hash where it is longer.
-fn block_of(k: &[u8]) -> [u8; 64]
-    requires { length k.now < limit }
-    ensures { result ≡ key_block k.now }
+fn block_of(k: &[u8]) -> Result<[u8; 64], HashError>
+    ensures { result ≡ pick (ltb (length k.now) limit) (Ok (key_block k.now)) (Err TooLong) }
 {
     if k.len() <= 64 {
-        zero_fill(k)
-    } else {
-        let d = digest::sha256(k);
-        let bytes = d.bytes;
-        zero_fill(&bytes)
+        return Ok(zero_fill(k));
     }
+    let hash = digest::sha256(k)?;
+    Ok(zero_fill(&hash))
 }
 
 // Each byte of the block with p.
 fn mask(k: [u8; 64], p: u8) -> [u8; 64]
     ensures { result ≡ masked p k }
 {
-    let mut r = [0u8; 64];
-    let mut i = 0;
-    while i < 64 {
-        r[i] = k[i] ^ p;
-        i += 1;
+    let mut r = k;
+    for b in r.iter_mut() {
+        *b ^= p;
     }
     r
 }
@@ -78,25 +56,12 @@ fn key_state(b: [u8; 64], p: u8) -> [u32; 8]
     block::compress(sha256::initial_state(), sha256::block_words(mask(b, p)))
 }
 
-// The key's two states, or 3 where the key is too long to be hashed.
-pub fn prepare(k: &[u8]) -> Keyed
+// The key's two states.
+pub fn prepare(k: &[u8]) -> Result<Prepared, HashError>
     ensures { result ≡ keyed k.now }
 {
-    if (k.len() as u64) < LIMIT {
-        let b = block_of(k);
-        let inner = key_state(b, 0x36);
-        let outer = key_state(b, 0x5c);
-        Keyed {
-            number: 0,
-            key: Prepared { inner, outer },
-        }
-    } else {
-        Keyed {
-            number: 3,
-            key: Prepared {
-                inner: [0; 8],
-                outer: [0; 8],
-            },
-        }
-    }
+    let b = block_of(k)?;
+    let inner = key_state(b, 0x36);
+    let outer = key_state(b, 0x5c);
+    Ok(Prepared { inner, outer })
 }

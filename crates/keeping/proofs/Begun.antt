@@ -13,7 +13,6 @@ use Rattle.format.specs.Statement.{Statement}
 use Rattle.format.specs.Lists.{some, every}
 use Rattle.rules.specs.declared.Group.{Group}
 use Rattle.station.specs.declared.Stage.{Stage}
-use Rattle.station.specs.declared.Station.{Station}
 use Rattle.rules.specs.Test.{holds, in_order}
 use Rattle.station.specs.Machine.{State, stage_step, keeping, insert, held_of, began, supplies_for_value, supplies_for_none, kept_for_value, kept_for_none, no_group}
 use Rattle.station.specs.Present as W

@@ -1,2 +1,3 @@
 pub mod Counter
 pub mod Present
+pub mod Returned

@@ -2,52 +2,50 @@
 #![tactic(auto)]
 
 ghost use Rattle.std.specs.Prelude.{◌≡◌};
-ghost use Rattle.station.specs.Answers.{Answers};
+ghost use Rattle.format.specs.Returns.{outcome_number};
+ghost use Rattle.station.specs.Answers.{returned_by};
 ghost use Rattle.sending.specs.Sent.{sent_count, sent_lent, sent_bundle, sent_station, sent_after};
 ghost use Rattle.moving.specs.Moves.{group_by, count_by, answer as the-answer, moving};
 
 use ending::{Following, Kept};
-use format::{Fields, Round};
+use format::{Fields, Outcome, Refusal};
 use modules::Module;
 use sending::Sent;
 use station::{Answer, Groups, KEPT_WORDS, Lasting, Station};
 
 // The kept group that can stand in the certificate.
-fn group_by(kept: Kept, groups: Groups) -> [u32; KEPT_WORDS]
-    ensures { result ≡ group_by kept groups }
+#[tactic(auto, unfolding(crate::specs::Moves::group_by))]
+fn group_by(kept: Kept, groups: &Groups) -> &[u32; KEPT_WORDS]
+    ensures { result.now ≡ group_by kept groups.now }
 {
-    let a = groups.value;
-    let b = groups.none;
     match kept {
-        Kept::Nothing => a,
-        Kept::Inits => a,
-        Kept::ForValue => a,
-        Kept::ForNone => b,
+        Kept::Nothing | Kept::Inits | Kept::ForValue => &groups.value,
+        Kept::ForNone => &groups.none,
     }
 }
 
 // How many statements of it stand there, behind a statement with value v: in round 1 the backing of v, else a quorum.
+#[tactic(auto, unfolding(crate::specs::Moves::count_by))]
 fn count_by(kept: Kept, n: u32, v: u32) -> u32
     ensures { result ≡ count_by kept n v }
 {
-    let b = format::backing(n, v);
-    let q = format::quorum(n);
     match kept {
         Kept::Nothing => 0,
-        Kept::Inits => b,
-        Kept::ForValue => q,
-        Kept::ForNone => q,
+        Kept::Inits => format::backing(n, v),
+        Kept::ForValue | Kept::ForNone => format::quorum(n),
     }
 }
 
-// 21 where this call decides first, else 20.
-fn answer(old: u32, d: u32) -> u32
-    ensures { result ≡ the-answer old d }
+// Whether this call decides first.
+#[tactic(auto, unfolding(crate::specs::Moves::answer, laws::specs::Pick::pick))]
+fn answer(old: u32, d: u32) -> Outcome
+    ensures { outcome_number result ≡ the-answer old d }
 {
-    if (old < format::NONE) | (d == format::NONE) {
-        return format::SENT;
+    if old < format::NONE || d == format::NONE {
+        Outcome::Sent
+    } else {
+        Outcome::SentDecided
     }
-    format::SENT_DECIDED
 }
 
 // Sends the statement that follows, with its certificate.
@@ -57,65 +55,46 @@ fn send_next(m: Module, k: Station, x: Following, f: Fields, l: Lasting, out: &m
         × (result.after ≡ sent_after m k.identity.question f k.held.slots x.set (group_by x.kept k.groups) (count_by x.kept m.n x.value) out.old)
         × (out.new ≡ sent_lent m k.identity.question f k.held.slots x.set (group_by x.kept k.groups) (count_by x.kept m.n x.value) out.old) }
 {
-    let identity = k.identity;
-    let held = k.held;
-    let slots = held.slots;
-    let groups = k.groups;
-    let kept = x.kept;
-    let stage = x.stage;
-    let group = group_by(kept, groups);
-    let size = count_by(kept, m.n, x.value);
     sending::send(
         m,
-        identity.question,
+        k.identity.question,
         f,
         l,
-        stage,
-        &slots,
+        x.stage,
+        &k.held.slots,
         x.set,
-        &group,
-        size,
+        group_by(x.kept, &k.groups),
+        count_by(x.kept, m.n, x.value),
         out,
     )
 }
 
-// The fields of the statement that follows, of the module's station.
-fn own_fields(site: u32, kind: u32, value: u32, flag: u32, round: Round) -> Fields
-    ensures { result ≡ record { kind = kind; value = value; flag = flag; spare = 0; station = site; round = round } }
+// Sends what follows, or is refused by 12.
+pub fn go_on(
+    m: Module,
+    k: Station,
+    x: Following,
+    l: Lasting,
+    out: &mut [u32],
+) -> Result<Answer, Refusal>
+    ensures { returned_by k m out.new result ≡ moving m k x l out.old }
 {
-    Fields {
-        kind,
-        value,
-        flag,
+    let f = Fields {
+        kind: x.kind,
+        value: x.value,
+        flag: x.flag,
         spare: 0,
-        station: site,
-        round,
-    }
-}
-
-// Sends what follows, or answers 12 and changes nothing.
-pub fn go_on(m: Module, k: Station, x: Following, l: Lasting, out: &mut [u32]) -> Answer
-    ensures { Answers (moving m k x l out.old) result.number result.count result.station result.after out.new }
-{
-    let identity = k.identity;
-    let old = k.lasting;
-    let round = x.round;
-    let f = own_fields(m.station, x.kind, x.value, x.flag, round);
-    if !modules::is_above(m, identity.question, format::step_of(f)) {
-        return Answer {
-            number: format::NOT_ABOVE,
-            count: 0,
-            station: k,
-            after: m,
-        };
+        station: m.station,
+        round: x.round,
+    };
+    if !modules::is_above(m, k.identity.question, format::step_of(f)) {
+        return Err(Refusal::NotAbove);
     }
     let s = send_next(m, k, x, f, l, out);
-    let station = s.station;
-    let after = s.after;
-    Answer {
-        number: answer(old.decision, l.decision),
+    Ok(Answer {
+        outcome: answer(k.lasting.decision, l.decision),
         count: s.count,
-        station,
-        after,
-    }
+        station: s.station,
+        after: s.after,
+    })
 }

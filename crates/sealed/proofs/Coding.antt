@@ -6,7 +6,7 @@ use mathlib.Core.Path.{◌≡◌, refl, sym, ap, ◌∙◌}
 use lib.Dec.{eqb, ltb}
 use lib.ListN.{get_or, length, set}
 use lib.Seq.{get_or-set_same, get_or-set_other}
-use borrow.Author.Tests.{eqb-true, eq-eqb, ne_eqb}
+use borrow.Author.Tests.{eqb-true, ne_eqb}
 use native.Mathlib.Omega.{arith}
 use Rattle.laws.specs.Pick.{pick}
 use Rattle.laws.specs.Bools.{both}
@@ -14,18 +14,22 @@ use Rattle.laws.specs.Refusals.{test, first_failed, all_passed}
 use Rattle.laws.specs.All.{All}
 use Rattle.format.specs.declared.Fields.{Fields}
 use Rattle.format.specs.declared.Step.{Step}
+use Rattle.std.specs.Prelude.{Result, Ok, Err, ⊤}
+use Rattle.format.specs.declared.Refusal.{Refusal}
+use Rattle.format.specs.Returns.{refusal_number, number_in}
+use Rattle.format.proofs.Laws.Returns.{above as above_0}
 use Rattle.format.specs.Numbers.{out_of_range, malformed, wrong_code, not_above}
 use Rattle.format.specs.Words.{fields_of, step_in}
-use Rattle.format.specs.Statement.{Statement, step}
-use Rattle.format.specs.Present.{statement_words, formed, statement, written}
+use Rattle.format.specs.Statement.{step}
+use Rattle.format.specs.Present.{statement_words, formed, statement}
 use Rattle.hmac.specs.Code.{hmac_code}
 use Rattle.modules.specs.declared.Module.{Module}
 use Rattle.modules.specs.Counter.{above, last_for, advanced}
 use Rattle.modules.specs.Present.{module_fits}
 use Rattle.sealed.specs.Sealed.{Coded, by_plain, by_coin, with_value, tossed}
-use Rattle.sealed.specs.Answers.{Answered}
+use Rattle.sealed.specs.Answers.{Answered, after_in}
 use Rattle.sealed.specs.Laws.Answers.{Tested, word_with, lent_with}
-use Rattle.sealed.specs.Present.{signed, coding, coding_tests, coding_plain, coding_coin}
+use Rattle.sealed.specs.Present.{coding, coding_tests, coding_plain, coding_coin}
 
 -- the same, by its words
 pub lent_words : (key ws : List ℕ) (v : ℕ)
@@ -40,17 +44,16 @@ ten m ws range way h =
     let shape = (both (eqb (length ws) statement_words && formed m.n (fields_of (get_or ws 0 0))) way all.1.0).0 in
     eqb-true (length ws) statement_words (both (eqb (length ws) statement_words) (formed m.n (fields_of (get_or ws 0 0))) shape).0
 
-module _ (code : List ℕ → List ℕ) (m : Module) (s : Statement) (ws : List ℕ) (refusal : ℕ) where
-  -- a refusal changes nothing
-  pub refused : (refusal ≡ 0 → ⊥) → Answered (coding code m s ws refusal) refusal m ws
+module _ (m : Module) (ws : List ℕ) (v : ℕ) (y : Coded) (tested : Result ⊤ Refusal)
+    (same : coding (hmac_code m.key) m (with_value v (statement ws 0)) ws (number_in tested) ≡ y) where
+  -- a refusal changes nothing, and is handed on
+  pub refused : (e : Refusal) (r : Result Module Refusal) → tested ≡ Err e → r ≡ Err e → Answered y (number_in r) (after_in m r) ws
   unfolding pick
-  refused h = rw (ne_eqb refusal 0 h) (record { number_is = refl; after_is = refl; lent_is = refl })
+  refused e r is handed = rw (handed, ← same, is, ne_eqb (refusal_number e) 0 (λ z. omega (arith, above_0 e))) (record { number_is = refl; after_is = refl; lent_is = refl })
 
-  -- what is coded
-  pub coded_so : (after : Module) (lent : List ℕ) → refusal ≡ 0 → after ≡ advanced m s.question (step s) → lent ≡ written (signed code s)
-      → Answered (coding code m s ws refusal) 0 after lent
-  unfolding pick
-  coded_so after lent h a l = rw (eq-eqb refusal 0 h) (record { number_is = refl; after_is = a; lent_is = l })
+  -- what is not refused is coded
+  pub coded : (x : ⊤) (after : Module) (lent : List ℕ) → tested ≡ Ok x → Answered (coding (hmac_code m.key) m (with_value v (statement ws 0)) ws 0) 0 after lent → Answered y 0 after lent
+  coded x after lent is a = rw (← same, is) a
 
 -- the refusal, from what the code computes on the way: the words 0 and 1, the fields, and the tests on them
 pub refusal_is : (m : Module) (ws : List ℕ) (range way : Bool) (w q : ℕ) (f : Fields) (shape : Bool) (s : Step) (later : Bool) (r : ℕ)
@@ -91,14 +94,11 @@ signed_is key ws code last v w long w_is code_is last_is =
     ∙ sym (lent_words key ws v)
 
 -- a coding that is not refused: the module one pair on, and the words with the value put in and coded
-pub finished : (m : Module) (ws : List ℕ) (v number : ℕ) (f : Fields) (s : Step) (after : Module) (lent : List ℕ)
-    → number ≡ 0 → f ≡ fields_of (get_or ws 0 0) → s ≡ step_in f → after ≡ advanced m (get_or ws 1 0) s.0 → lent ≡ lent_with m.key ws v
-    → Answered (coding (hmac_code m.key) m (with_value v (statement ws 0)) ws number) 0 after lent
-unfolding fields_of step_in step lent_with
-finished m ws v number f s after lent n_is f_is s_is after_is lent_is =
-    coded_so (hmac_code m.key) m (with_value v (statement ws 0)) ws number after lent n_is
-    (after_is ∙ ap (λ (k : Step). advanced m (get_or ws 1 0) k.0) (s_is ∙ ap step_in f_is))
-    lent_is
+pub finished : (m : Module) (ws : List ℕ) (v : ℕ) (f : Fields) (s : Step) (lent : List ℕ) → f ≡ fields_of (get_or ws 0 0) → s ≡ step_in f → lent ≡ lent_with m.key ws v
+    → Answered (coding (hmac_code m.key) m (with_value v (statement ws 0)) ws 0) 0 (advanced m (get_or ws 1 0) s.0) lent
+unfolding fields_of step_in step lent_with pick
+finished m ws v f s lent f_is s_is lent_is =
+    record { number_is = refl; after_is = ap (λ (k : Step). advanced m (get_or ws 1 0) k.0) (s_is ∙ ap step_in f_is); lent_is = lent_is }
 
 -- the two ways, from what the code computes
 pub plain_is : (m : Module) (ws : List ℕ) (w : ℕ) (f : Fields) (fit way : Bool) (number : ℕ)
@@ -123,8 +123,3 @@ coin_is m ws coin w f fit way number w_is f_is fit_is way_is n_is =
     let te : way ≡ by_coin (statement ws 0).kind (statement ws 0).flag = way_is ∙ (λ i. by_coin (fe i).kind (fe i).flag) in
     ap (coding (hmac_code m.key) m (tossed coin (statement ws 0)) ws)
     (n_is ∙ (λ i. first_failed (test (fit_is i && ltb coin 2) out_of_range ∷ coding_tests m ws (te i))))
-
--- an answer by an equal definition
-pub by : (x y : Coded) (number : ℕ) (after : Module) (lent : List ℕ) → x ≡ y → Answered x number after lent → Answered y number after lent
-by x y number after lent e a =
-    record { number_is = a.number_is ∙ ap (λ (z : Coded). z.number) e; after_is = a.after_is ∙ ap (λ (z : Coded). z.after) e; lent_is = a.lent_is ∙ ap (λ (z : Coded). z.lent) e }

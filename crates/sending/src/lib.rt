@@ -35,25 +35,47 @@ fn begin(
         station: m.station,
         question,
     };
-    let t = held::empty(identity, stage, false, lasting);
-    keeping::keep(t, &out[..count])
+    keeping::keep(held::empty(identity, stage, false, lasting), &out[..count])
 }
 
 // The module codes the statement that stands behind the head of the lent words: with the coin where it is a P flagged R-GET, whose value the coin is;
-// else plain. Where no word was written it is not asked.
+// else plain. A refusal leaves the module as it was; where no word was written it is not asked.
 fn code_main(m: Module, f: Fields, count: usize, out: &mut [u32]) -> Module
     requires { (count ≡ 0 → ⊥) → place_of 1 ≤ length out.old }
     ensures { (result ≡ coded_after m f count out.old) × (out.new ≡ coded_lent m f count out.old) }
 {
     if count == 0 {
-        return m;
+        m
+    } else if (f.kind == format::P) & (f.flag == format::R_GET) {
+        sealed::code_coin(m, &mut out[1..CERTIFICATE_AT], f.value).unwrap_or(m)
+    } else {
+        sealed::code_plain(m, &mut out[1..CERTIFICATE_AT]).unwrap_or(m)
     }
-    if (f.kind == format::P) & (f.flag == format::R_GET) {
-        let tossed = sealed::code_coin(m, &mut out[1..CERTIFICATE_AT], f.value);
-        return tossed.after;
+}
+
+// What sending answers, where the lent words have the uncoded bundle of so many words.
+fn finish(
+    m: Module,
+    question: u32,
+    f: Fields,
+    lasting: Lasting,
+    stage: Stage,
+    count: usize,
+    out: &mut [u32],
+) -> Sent
+    requires within { count ≤ length out.old }
+    requires whole { (count ≡ 0 → ⊥) → place_of 1 ≤ length out.old }
+    ensures counted { result.count ≡ count }
+    ensures station { result.station ≡ sent_station m question lasting stage (take count out.new) }
+    ensures after { result.after ≡ coded_after m f count out.old }
+    ensures lent { out.new ≡ coded_lent m f count out.old }
+{
+    let after = code_main(m, f, count, out);
+    Sent {
+        count,
+        station: begin(m, question, lasting, stage, out, count),
+        after,
     }
-    let coded = sealed::code_plain(m, &mut out[1..CERTIFICATE_AT]);
-    coded.after
 }
 
 // Sends a statement with these fields: behind it the held statements of the set, and behind these k statements of a kept group.
@@ -76,13 +98,7 @@ pub fn send(
 {
     let w0 = format::write_fields(f);
     let count = writer::write_bundle(out, w0, question, slots, set, group, k);
-    let after = code_main(m, f, count, out);
-    let station = begin(m, question, lasting, stage, out, count);
-    Sent {
-        count,
-        station,
-        after,
-    }
+    finish(m, question, f, lasting, stage, count, out)
 }
 
 // Sends a statement with these fields and the certificate of a given bundle.
@@ -102,11 +118,5 @@ pub fn send_copy(
 {
     let w0 = format::write_fields(f);
     let count = writer::copy_bundle(out, w0, ws);
-    let after = code_main(m, f, count, out);
-    let station = begin(m, question, lasting, stage, out, count);
-    Sent {
-        count,
-        station,
-        after,
-    }
+    finish(m, question, f, lasting, stage, count, out)
 }

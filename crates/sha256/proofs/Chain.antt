@@ -1,11 +1,6 @@
 -- The turns of two loops: a block's words are loaded one by one, and the blocks are compressed one by one.
-use mathlib.Core.Path.{◌≡◌, ap, ◌∙◌}
-use mathlib.Core.List.{List, [], ◌∷◌, ◌++◌, append-nil, append_assoc}
-use Prim.Native.Nat.{ℕ, suc, ◌+◌, ◌-◌, ◌*◌, ◌^◌, ◌≤◌, ◌<◌}
-use native.Mathlib.Numerals.{add-one}
-use native.Mathlib.Omega.{arith}
-use lib.ListN.{length, get_or, take, drop, set}
-use lib.Seq.{drop-cons, drop-drop, take-suc-set, take_all}
+use Rattle.std.proofs.Common.{◌≡◌, ap, ◌∙◌, List, [], ◌∷◌, ◌++◌, append-nil, append_assoc, ℕ, suc, ◌+◌, ◌-◌, ◌*◌, ◌^◌, ◌≤◌, ◌<◌, add-one, arith, length, get_or, take, drop, set, drop-cons, drop-drop, take-suc-set, take_all}
+use Rattle.std.specs.Int.{from_be_bytes, w32}
 use Rattle.compression.specs.Compression.{compressed}
 use Rattle.sha256.specs.Sha256.{words, blocks}
 
@@ -27,9 +22,17 @@ four : (s : List ℕ) (p n : ℕ) → p + 4 ≤ length s → words (take (suc (s
 unfolding words
 four s p n h = ap (λ (l : List ℕ). words (take (suc (suc (suc (suc n)))) l)) (cut s p h)
 
-pub loaded : (s w : List ℕ) (at j v : ℕ) → at + 64 ≤ length s → j < 16 → length w ≡ 16 → v ≡ big s (at + j * 4)
+joined : (a b c d : ℕ) → from_be_bytes w32 (a ∷ b ∷ c ∷ d ∷ []) ≡ a * 2 ^ 24 + b * 2 ^ 16 + c * 2 ^ 8 + d
+joined a b c d = omega arith
+
+abbrev read : List ℕ → ℕ → ℕ
+read s p = from_be_bytes w32 (get_or s p 0 ∷ get_or s (p + 1) 0 ∷ get_or s (p + 2) 0 ∷ get_or s (p + 3) 0 ∷ [])
+
+pub loaded : (s w : List ℕ) (at j v : ℕ) → at + 64 ≤ length s → j < 16 → length w ≡ 16 → v ≡ read s (at + j * 4)
     → take (j + 1) (set w j v) ++ words (take (64 - (j + 1) * 4) (drop (at + (j + 1) * 4) s)) ≡ take j w ++ words (take (64 - j * 4) (drop (at + j * 4) s))
-loaded s w at j v room low long v_is =
+loaded s w at j v room low long read_is =
+    let p : ℕ = at + j * 4 in
+    let v_is : v ≡ big s p = read_is ∙ joined (get_or s p 0) (get_or s (p + 1) 0) (get_or s (p + 2) 0) (get_or s (p + 3) 0) in
     let h : j < length w = omega arith in
     let e1 : 64 - j * 4 ≡ suc (suc (suc (suc (64 - (j + 1) * 4)))) = omega arith in
     let e2 : at + (j + 1) * 4 ≡ (at + j * 4) + 4 = omega arith in

@@ -1,9 +1,9 @@
 -- SHA-256 of a list of bytes, as FIPS 180-4 gives it, in whole bytes. The compression of a block is that of crate compression.
-use Rattle.std.specs.Prelude.{ℕ, zero, suc, ◌+◌, ◌-◌, ◌*◌, ◌/◌, ◌%◌, ◌^◌, List, [], ◌∷◌, ◌++◌, length, take, drop, replicate, ltb}
+use Rattle.std.specs.Prelude.{ℕ, zero, suc, ◌+◌, ◌-◌, ◌*◌, ◌/◌, ◌%◌, ◌^◌, List, [], ◌∷◌, ◌++◌, length, take, drop, replicate, ltb, Result, Ok, Err}
 use Rattle.laws.specs.Pick.{pick}
 use Rattle.compression.specs.Compression.{compressed}
-use Rattle.sha256.specs.declared.Hashed.{Hashed}
-use Rattle.sha256.specs.declared.Digest.{Digest}
+use Rattle.sha256.specs.declared.HashError.{HashError}
+use Rattle.sha256.specs.declared.HashError.TheVariants.{TooLong, TooManyWords}
 
 -- 3.1: a word of four bytes, the top byte first; a word's four bytes
 unfoldable pub words : List ℕ → List ℕ
@@ -55,13 +55,15 @@ sha256 m = bytes (hashed initial (m ++ padding (length m)))  -- 6.2: the hash of
 abbrev pub limit : ℕ
 limit = 2 ^ 61
 
--- the public hash: 0 and the digest, or 3 and zeros
-unfoldable pub digest : List ℕ → Digest
-digest m = pick (ltb (length m) limit) (record { number = 0; bytes = sha256 m }) (record { number = 3; bytes = replicate 32 0 })
+-- the number of a refusal: "where a hashed input .. would reach 2^61 bytes, 3 is returned"
+abbrev pub error_number : HashError → ℕ
+error_number TooLong = 3
+error_number TooManyWords = 3
 
--- the hash of a message that n whole blocks went before, from the state after these: 0 and the state, or 3 and zeros
-unfoldable pub hash_after : List ℕ → ℕ → List ℕ → Hashed
-hash_after s n m =
-    pick (ltb (n * 64 + length m) limit)
-    (record { number = 0; state = hashed s (m ++ padding (n * 64 + length m)) })
-    (record { number = 3; state = replicate 8 0 })
+-- the public hash: the digest, or the refusal 3
+unfoldable pub digest : List ℕ → Result (List ℕ) HashError
+digest m = pick (ltb (length m) limit) (Ok (sha256 m)) (Err TooLong)
+
+-- the hash of a message that n whole blocks went before, from the state after these: the state, or the refusal 3
+unfoldable pub hash_after : List ℕ → ℕ → List ℕ → Result (List ℕ) HashError
+hash_after s n m = pick (ltb (n * 64 + length m) limit) (Ok (hashed s (m ++ padding (n * 64 + length m)))) (Err TooLong)

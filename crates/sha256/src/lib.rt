@@ -2,26 +2,27 @@
 #![tactic(auto)]
 
 ghost use Rattle.std.specs.Prelude.{◌≡◌, ◌+◌, ◌*◌, ◌/◌, ◌^◌, ◌≤◌, length, take, drop};
-ghost use Rattle.sha256.specs.Sha256.{words, bytes, initial, blocks};
+ghost use Rattle.sha256.specs.Sha256.{words, bytes, initial, blocks, error_number};
 
-// What a hash answers: 0 and the digest, or 3 and zeros.
-#[derive(Clone, Copy)]
-pub struct Digest {
-    pub number: u32,
-    pub bytes: [u8; 32],
+// A hashed input has fewer bytes than this.
+pub const LIMIT: u64 = 1 << 61;
+
+// Why a hash or a code is refused: a hashed input would reach the limit, or there are more words than a last block has room for.
+#[derive(Clone, Copy, Debug, PartialEq, Eq)]
+pub enum HashError {
+    TooLong,
+    TooManyWords,
 }
 
-// What a hash that goes on from a state answers: 0 and the state, or 3 and zeros.
-#[derive(Clone, Copy)]
-pub struct Hashed {
-    pub number: u32,
-    pub state: [u32; 8],
-}
-
-fn joined(a: u8, b: u8, c: u8, d: u8) -> u32
-    ensures { result ≡ a * 2 ^ 24 + b * 2 ^ 16 + c * 2 ^ 8 + d }
-{
-    (a as u32) * 16777216 + (b as u32) * 65536 + (c as u32) * 256 + (d as u32)
+impl HashError {
+    // The returned number that stands for it.
+    pub fn number(self) -> u32
+        ensures { result ≡ error_number self }
+    {
+        match self {
+            HashError::TooLong | HashError::TooManyWords => 3,
+        }
+    }
 }
 
 // The sixteen words of the block at `at`.
@@ -29,12 +30,10 @@ fn load(s: &[u8], at: usize) -> [u32; 16]
     requires { at + 64 ≤ length s.now }
     ensures { result ≡ words (take 64 (drop at s.now)) }
 {
-    let mut w = [0u32; 16];
-    let mut j = 0;
-    while j < 16 {
+    let mut w = [0; 16];
+    for j in 0..16 {
         let p = at + j * 4;
-        w[j] = joined(s[p], s[p + 1], s[p + 2], s[p + 3]);
-        j += 1;
+        w[j] = u32::from_be_bytes([s[p], s[p + 1], s[p + 2], s[p + 3]]);
     }
     w
 }
@@ -50,14 +49,10 @@ pub fn block_words(b: [u8; 64]) -> [u32; 16]
 pub fn whole_blocks(state: [u32; 8], s: &[u8]) -> [u32; 8]
     ensures { result ≡ blocks (length s.now / 64) state s.now }
 {
-    let n = s.len() / 64;
     let mut h = state;
-    let mut i = 0;
-    while i < n {
-        let block = load(s, i * 64);
-        let next = block::compress(h, block);
+    for i in 0..s.len() / 64 {
+        let next = block::compress(h, load(s, i * 64));
         h = next;
-        i += 1;
     }
     h
 }
@@ -66,16 +61,10 @@ pub fn whole_blocks(state: [u32; 8], s: &[u8]) -> [u32; 8]
 pub fn state_bytes(h: [u32; 8]) -> [u8; 32]
     ensures { result ≡ bytes h }
 {
-    let mut r = [0u8; 32];
-    let mut i = 0;
-    while i < 8 {
-        let w = h[i];
-        let p = i * 4;
-        r[p] = ((w >> 24) % 256) as u8;
-        r[p + 1] = ((w >> 16) % 256) as u8;
-        r[p + 2] = ((w >> 8) % 256) as u8;
-        r[p + 3] = (w % 256) as u8;
-        i += 1;
+    let mut r = [0; 32];
+    for i in 0..8 {
+        let four = h[i].to_be_bytes();
+        r[i * 4..i * 4 + 4].copy_from_slice(&four);
     }
     r
 }

@@ -1,4 +1,5 @@
-// The round and the step of a stage (document 01, "The station"). The contracts cite specs/ of crate station.
+// The round and the step of a stage (document 01, "The station"). The contracts cite specs/ of
+// crate station.
 #![tactic(auto)]
 
 ghost use Rattle.std.specs.Prelude.{◌≡◌, ◌-◌};
@@ -8,13 +9,14 @@ use format::{Round, Step};
 use station::Stage;
 
 // The step of a stage.
+#[tactic(auto, unfolding(format::specs::Words::step_of, laws::specs::Pick::pick))]
 pub fn step_in(stage: Stage) -> Step
     ensures { result.0 ≡ stage_step stage }
 {
     match stage {
         Stage::Gathering => Step(0),
-        Stage::Proposing(r, _) => Step(2 * (r.0 as u64)),
-        Stage::Voting(r) => Step(2 * (r.0 as u64) + 1),
+        Stage::Proposing(r, _) => Step(2 * u64::from(r.0)),
+        Stage::Voting(r) => Step(2 * u64::from(r.0) + 1),
     }
 }
 
@@ -24,8 +26,7 @@ pub fn round_in(stage: Stage) -> Round
 {
     match stage {
         Stage::Gathering => Round(0),
-        Stage::Proposing(r, _) => r,
-        Stage::Voting(r) => r,
+        Stage::Proposing(r, _) | Stage::Voting(r) => r,
     }
 }
 

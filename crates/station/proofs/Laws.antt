@@ -11,3 +11,4 @@ pub mod LastRound
 pub mod Fits
 pub mod Bundles
 pub mod Returns
+pub mod Answering

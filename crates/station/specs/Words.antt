@@ -1,19 +1,15 @@
 -- A station's words: read as a state, and written from one. A bundle's words, written.
-use Rattle.std.specs.Prelude.{ℕ, zero, suc, ◌+◌, ◌-◌, ◌*◌, ◌^◌, Bool, List, [], ◌∷◌, ◌++◌, ◌≡◌, eqb, length, drop, replicate}
+use Rattle.std.specs.Prelude.{ℕ, zero, suc, ◌+◌, ◌-◌, ◌*◌, ◌^◌, Bool, List, [], ◌∷◌, ◌++◌, ◌≡◌, eqb, length, replicate}
 use Rattle.laws.specs.Pick.{pick}
 use Rattle.laws.specs.Sets.{bit}
 use Rattle.format.specs.Form.{Form, most_stations, statement_words}
 use Rattle.format.specs.Group.{quorum}
 use Rattle.format.specs.Statement.{Statement, statement, statements, written}
-use Rattle.rules.specs.declared.Group.{Group}
-use Rattle.rules.specs.declared.Which.TheVariants.{Any, Only}
-use Rattle.rules.specs.Rules.{group, proposals, none_votes}
 use Rattle.station.specs.declared.Stage.{Stage}
-use Rattle.station.specs.declared.Stage.TheVariants.{Gathering, Proposing, Voting}
 use Rattle.station.specs.declared.Identity.{Identity}
 use Rattle.station.specs.declared.Lasting.{Lasting}
 use Rattle.station.specs.declared.Station.{Station}
-use Rattle.station.specs.Machine.{State, supplies_for_value, supplies_for_none, round_in, kept_for_value, kept_for_none}
+use Rattle.station.specs.Machine.{State, kept_for_value, kept_for_none}
 use Rattle.format.specs.Bundle.{all_written}
 
 -- "a set of stations heard, one bit for each": station s has bit s − 1

@@ -1,15 +1,17 @@
 // The station's types (document 01, "The station"). The definitions stand in specs/.
 #![tactic(auto)]
 
-use format::{MOST_STATIONS, Round, STATEMENT_WORDS};
+use format::{MOST_STATIONS, Outcome, Round, STATEMENT_WORDS};
 use modules::Module;
 
-// A slot of a statement for each station that a group may have, and as many statements as the largest quorum.
+// A slot of a statement for each station that a group may have, and as many statements as the
+// largest quorum.
 pub const SLOTS_WORDS: usize = MOST_STATIONS as usize * STATEMENT_WORDS;
 
 pub const KEPT_WORDS: usize = (MOST_STATIONS as usize / 2 + 1) * STATEMENT_WORDS;
 
-// A station is in one of three stages.
+// A station is in one of three stages. The flag is a number, since a host may hand in any: `fits`
+// holds it against word 0 of the station's own proposal.
 #[derive(Clone, Copy)]
 pub enum Stage {
     Gathering,
@@ -25,7 +27,8 @@ pub struct Identity {
     pub question: u32,
 }
 
-// The statements of the step: the set of stations heard, one bit for each, and a slot of ten words for each station.
+// The statements of the step: the set of stations heard, one bit for each, and a slot of ten words
+// for each station.
 #[derive(Clone, Copy)]
 pub struct Held {
     pub heard: u32,
@@ -39,7 +42,9 @@ pub struct Groups {
     pub none: [u32; KEPT_WORDS],
 }
 
-// What outlasts a step: whether the station jumps onto bundles of later steps, a setting that its opening gave it, and its decision, or 2.
+// What outlasts a step: whether the station jumps onto bundles of later steps, a setting that its
+// opening gave it, and its decision, or 2. A number and not an Option: a host may hand in any number
+// here, a closed station fits with each (`fits`), and an Option would ask more of it.
 #[derive(Clone, Copy)]
 pub struct Lasting {
     pub jump: bool,
@@ -57,10 +62,11 @@ pub struct Station {
     pub groups: Groups,
 }
 
-// What a call on a station answers: the returned number, the word count, the station and the module. The output words are lent.
+// What an opening or a giving did that was not refused: its outcome, the word count, the station
+// and the module. The output words are lent.
 #[derive(Clone, Copy)]
 pub struct Answer {
-    pub number: u32,
+    pub outcome: Outcome,
     pub count: usize,
     pub station: Station,
     pub after: Module,

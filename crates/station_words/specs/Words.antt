@@ -1,14 +1,15 @@
 -- A station as 640 words (docs/SCRIPT.md, "The words of a station"), and back. Settings, sets and statements stand apart.
-use Rattle.std.specs.Prelude.{ℕ, ◌+◌, Bool, true, ◌&&◌, ◌||◌, List, [], ◌∷◌, ◌++◌, ◌≡◌, eqb, ltb, leb, length, take, drop, get_or}
+use Rattle.std.specs.Prelude.{ℕ, ◌+◌, Bool, true, ◌&&◌, ◌||◌, List, [], ◌∷◌, ◌++◌, eqb, ltb, leb, length, take, drop, get_or, Result, Ok, Err}
 use Rattle.laws.specs.Pick.{pick}
 use Rattle.laws.specs.Over.{over}
 use Rattle.format.specs.Numbers.{malformed, short_output, out_of_range}
+use Rattle.format.specs.Returns.{refusal_number}
+use Rattle.format.specs.declared.Refusal.{Refusal}
 use Rattle.station.specs.declared.Identity.{Identity}
 use Rattle.station.specs.declared.Stage.{Stage}
 use Rattle.station.specs.declared.Stage.TheVariants.{Gathering, Proposing, Voting}
 use Rattle.station.specs.declared.Station.{Station}
 use Rattle.station.specs.Present.{no_station, slots_words, kept_words}
-use Rattle.station_words.specs.declared.Reading.{Reading}
 
 -- ---- the layout
 -- words 0 to 7: the settings
@@ -106,9 +107,19 @@ station_in ws =
     }
 
 -- ---- the calls
+-- all that reading returns: the number, and the station
+pub record Reading : Type 0 where
+  pub number : ℕ
+  pub station : Station
+
 -- reading: the station, or 3 and the station that is none
 unfoldable pub reading : List ℕ → Reading
 reading ws = pick (is_station ws) (record { number = 0; station = station_in ws }) (record { number = malformed; station = no_station })
+
+-- what was read, as a number and a station: 0 and the station, or the refusal's number and the station that is none
+abbrev pub read_by : Result Station Refusal → Reading
+read_by (Ok t) = record { number = 0; station = t }
+read_by (Err r) = record { number = refusal_number r; station = no_station }
 
 -- a stage's flag is 0 or 1; the type allows others, which no word stands for
 unfoldable pub flag_fits : Stage → Bool
@@ -132,8 +143,7 @@ writing t out =
     pick (eqb (refusal t (length out)) 0) (record { number = 0; count = station_words; lent = over (words_of t) out })
     (record { number = refusal t (length out); count = 0; lent = out })
 
--- the promise of writing: each thing that the call answers is what the definition returns
-pub record Wrote (x : Writing) (number count : ℕ) (lent : List ℕ) : Type 0 where
-  pub number_is : number ≡ x.number
-  pub count_is : count ≡ x.count
-  pub lent_is : lent ≡ x.lent
+-- what was written, with the words that are lent then: 0 and the word count, or the refusal's number and no words
+abbrev pub written_by : List ℕ → Result ℕ Refusal → Writing
+written_by lent (Ok count) = record { number = 0; count = count; lent = lent }
+written_by lent (Err r) = record { number = refusal_number r; count = 0; lent = lent }

@@ -1,13 +1,14 @@
 // A station as words and back (docs/SCRIPT.md, "The words of a station"). The contracts cite specs/.
 #![tactic(auto)]
 
-ghost use Rattle.std.specs.Prelude.{◌≡◌, ◌++◌, ◌+◌, ◌≤◌, length};
+ghost use Rattle.std.specs.Prelude.{◌≡◌, ◌++◌, ◌+◌, ◌≤◌, Some, None, eqb, leb, length, get_or};
+ghost use Rattle.laws.specs.Pick.{pick};
 ghost use Rattle.laws.specs.Over.{over};
-ghost use Rattle.station_words.specs.Words.{slots_at, station_words, stage_words, truth_word, settings_of, sets_of, is_stage, is_station, stage_in, part, station_in, flag_fits, refusal as Refusal, words_of, reading, writing, Wrote};
-ghost use Rattle.station.specs.Present.{slots_words, kept_words};
-ghost use Rattle.station_words.specs.Laws.Put.{put_at, Parts};
+ghost use Rattle.format.specs.Returns.{number_in};
+ghost use Rattle.station_words.specs.Words.{station_words, stage_words, settings_of, sets_of, is_stage, is_station, stage_in, part, station_in, flag_fits, refusal, words_of, read_by, reading, written_by, writing};
+ghost use Rattle.station_words.specs.Laws.Put.{put_at};
 
-use format::{MALFORMED, OUT_OF_RANGE, Round, SHORT_OUTPUT};
+use format::{Refusal, Round};
 use station::{Groups, Held, Identity, KEPT_WORDS, Lasting, SLOTS_WORDS, Stage, Station};
 
 // Where the parts begin: the stage's words, the closed word, the decision, the set of stations heard, the held statements, both kept groups, the
@@ -31,136 +32,88 @@ const JUMP_AT: usize = NONE_AT + KEPT_WORDS;
 // How many words a station has.
 pub const STATION_WORDS: usize = JUMP_AT + 1;
 
-// What reading answers: 0 and the station, or 3 and the station that is none.
-#[derive(Clone, Copy)]
-pub struct Reading {
-    pub number: u32,
-    pub station: Station,
-}
-
-// What writing answers: the returned number and the word count. The words are lent.
-#[derive(Clone, Copy)]
-pub struct Written {
-    pub number: u32,
-    pub count: usize,
-}
-
 // Puts words into a slice from a place on.
+#[tactic(auto, unfolding(crate::specs::Laws::Put::put_at))]
 fn put(out: &mut [u32], at: usize, words: &[u32])
     requires { at + length words.now ≤ length out.old }
     ensures { out.new ≡ put_at out.old at words.now }
 {
-    let mut i: usize = 0;
-    while i < words.len() {
-        out[at + i] = words[i];
-        i += 1;
+    out[at..at + words.len()].copy_from_slice(words);
+}
+
+// The stage of three words, if they are those of one.
+#[tactic(auto, unfolding(crate::specs::Words::stage_in, laws::specs::Pick::pick))]
+fn stage_in(words: [u32; 3]) -> Option<Stage>
+    ensures { result ≡ pick (is_stage (get_or words 0 0) (get_or words 1 0) (get_or words 2 0)) (Some (stage_in (get_or words 0 0) (get_or words 1 0) (get_or words 2 0))) None }
+{
+    match words {
+        [0, 0, 0] => Some(Stage::Gathering),
+        [1, round, flag @ 0..=1] => Some(Stage::Proposing(Round(round), flag)),
+        [2, round, 0] => Some(Stage::Voting(Round(round))),
+        _ => None,
     }
 }
 
-// Whether three words are those of a stage.
-fn is_stage(tag: u32, round: u32, flag: u32) -> bool
-    ensures { result ≡ is_stage tag round flag }
+// What a word says that is 0 or 1.
+#[tactic(auto, unfolding(laws::specs::Pick::pick))]
+fn truth_in(word: u32) -> Option<bool>
+    ensures { result ≡ pick (leb word 1) (Some (eqb word 1)) None }
 {
-    ((tag == 0) & (round == 0) & (flag == 0))
-        | ((tag == 1) & (flag <= 1))
-        | ((tag == 2) & (flag == 0))
+    match word {
+        0 => Some(false),
+        1 => Some(true),
+        _ => None,
+    }
 }
 
-// Whether these words are a station.
-fn is_station(ws: &[u32]) -> bool
-    ensures { result ≡ is_station ws.now }
+// The words from a place on, as many as are wanted: the held statements, or a kept group.
+#[tactic(auto, unfolding(crate::specs::Words::part))]
+fn part<const N: usize>(ws: &[u32], at: usize) -> [u32; N]
+    requires { at + N ≤ length ws.now }
+    ensures { result ≡ part at N ws.now }
+{
+    ws[at..at + N].try_into().unwrap()
+}
+
+// The station of these words, if they are one.
+fn station_in(ws: &[u32]) -> Option<Station>
+    ensures { result ≡ pick (is_station ws.now) (Some (station_in ws.now)) None }
 {
     if ws.len() != STATION_WORDS {
-        return false;
+        return None;
     }
-    let closed = ws[CLOSED_AT];
-    let jump = ws[JUMP_AT];
-    is_stage(ws[STAGE_AT], ws[STAGE_AT + 1], ws[STAGE_AT + 2]) & (closed <= 1) & (jump <= 1)
-}
-
-// The stage of three words that are those of one.
-fn stage_in(tag: u32, round: u32, flag: u32) -> Stage
-    ensures { result ≡ stage_in tag round flag }
-{
-    if tag == 0 {
-        return Stage::Gathering;
-    }
-    if tag == 1 {
-        return Stage::Proposing(Round(round), flag);
-    }
-    Stage::Voting(Round(round))
-}
-
-// The held statements' words.
-fn slots_in(ws: &[u32]) -> [u32; SLOTS_WORDS]
-    requires { length ws.now ≡ station_words }
-    ensures { result ≡ part slots_at slots_words ws.now }
-{
-    let mut slots = [0u32; SLOTS_WORDS];
-    put(&mut slots, 0, &ws[SLOTS_AT..VALUE_AT]);
-    slots
-}
-
-// A kept group's words, from a place on.
-fn group_in(ws: &[u32], at: usize) -> [u32; KEPT_WORDS]
-    requires { at + kept_words ≤ length ws.now }
-    ensures { result ≡ part at kept_words ws.now }
-{
-    let mut group = [0u32; KEPT_WORDS];
-    let end = at + KEPT_WORDS;
-    put(&mut group, 0, &ws[at..end]);
-    group
-}
-
-// The station of words that are one.
-fn station_in(ws: &[u32]) -> Station
-    requires { length ws.now ≡ station_words }
-    ensures { result ≡ station_in ws.now }
-{
-    let identity = Identity {
-        n: ws[0],
-        station: ws[1],
-        question: ws[2],
-    };
-    let lasting = Lasting {
-        jump: ws[JUMP_AT] == 1,
-        decision: ws[DECISION_AT],
-    };
-    let held = Held {
-        heard: ws[HEARD_AT],
-        slots: slots_in(ws),
-    };
-    let groups = Groups {
-        value: group_in(ws, VALUE_AT),
-        none: group_in(ws, NONE_AT),
-    };
-    Station {
-        identity,
-        stage: stage_in(ws[STAGE_AT], ws[STAGE_AT + 1], ws[STAGE_AT + 2]),
-        closed: ws[CLOSED_AT] == 1,
-        lasting,
-        held,
-        groups,
-    }
+    Some(Station {
+        identity: Identity {
+            n: ws[0],
+            station: ws[1],
+            question: ws[2],
+        },
+        stage: stage_in([ws[STAGE_AT], ws[STAGE_AT + 1], ws[STAGE_AT + 2]])?,
+        closed: truth_in(ws[CLOSED_AT])?,
+        lasting: Lasting {
+            jump: truth_in(ws[JUMP_AT])?,
+            decision: ws[DECISION_AT],
+        },
+        held: Held {
+            heard: ws[HEARD_AT],
+            slots: part(ws, SLOTS_AT),
+        },
+        groups: Groups {
+            value: part(ws, VALUE_AT),
+            none: part(ws, NONE_AT),
+        },
+    })
 }
 
 // Reads a station of its words.
-pub fn read(ws: &[u32]) -> Reading
-    ensures { result ≡ reading ws.now }
+pub fn read(ws: &[u32]) -> Result<Station, Refusal>
+    ensures { read_by result ≡ reading ws.now }
 {
-    if !is_station(ws) {
-        return Reading {
-            number: MALFORMED,
-            station: opening::none(),
-        };
-    }
-    Reading {
-        number: 0,
-        station: station_in(ws),
-    }
+    station_in(ws).ok_or(Refusal::Malformed)
 }
 
 // The three words of a stage.
+#[tactic(auto, unfolding(crate::specs::Words::stage_words))]
 fn stage_words(stage: Stage) -> [u32; 3]
     ensures { result ≡ stage_words stage }
 {
@@ -172,105 +125,65 @@ fn stage_words(stage: Stage) -> [u32; 3]
 }
 
 // Whether a stage has a flag that can be written down.
+#[tactic(auto, unfolding(crate::specs::Words::flag_fits))]
 fn flag_fits(stage: Stage) -> bool
     ensures { result ≡ flag_fits stage }
 {
     match stage {
-        Stage::Gathering => true,
+        Stage::Gathering | Stage::Voting(_) => true,
         Stage::Proposing(_, flag) => flag < 2,
-        Stage::Voting(_) => true,
     }
-}
-
-// The word of the closed mark, and of the jump setting.
-fn truth_word(so: bool) -> u32
-    ensures { result ≡ truth_word so }
-{
-    if so { 1 } else { 0 }
 }
 
 // The settings and the set.
 fn head(t: Station) -> [u32; 9]
     ensures { result ≡ settings_of t ++ sets_of t }
 {
-    let identity = t.identity;
-    let g = t.stage;
-    let stage = stage_words(g);
-    let lasting = t.lasting;
-    let held = t.held;
+    let [tag, round, flag] = stage_words(t.stage);
     [
-        identity.n,
-        identity.station,
-        identity.question,
-        stage[0],
-        stage[1],
-        stage[2],
-        truth_word(t.closed),
-        lasting.decision,
-        held.heard,
+        t.identity.n,
+        t.identity.station,
+        t.identity.question,
+        tag,
+        round,
+        flag,
+        u32::from(t.closed),
+        t.lasting.decision,
+        t.held.heard,
     ]
 }
 
-// The number of the first test that fails, or 0.
-fn refusal(t: Station, lent: usize) -> u32
-    ensures { result ≡ Refusal t lent }
+// The refusal of the first test that fails, if one does.
+#[tactic(auto, unfolding(crate::specs::Words::refusal, laws::specs::Pick::pick))]
+fn refusal(t: Station, lent: usize) -> Result<(), Refusal>
+    ensures { number_in result ≡ refusal t lent }
 {
     if lent < STATION_WORDS {
-        return SHORT_OUTPUT;
+        Err(Refusal::ShortOutput)
+    } else if !flag_fits(t.stage) {
+        Err(Refusal::OutOfRange)
+    } else {
+        Ok(())
     }
-    let g = t.stage;
-    if !flag_fits(g) {
-        return OUT_OF_RANGE;
-    }
-    0
 }
 
-// Puts the parts of a station, each behind the one before.
-fn put_parts(
-    out: &mut [u32],
-    head: &[u32],
-    slots: &[u32],
-    value: &[u32],
-    none: &[u32],
-    jump: &[u32],
-)
-    requires { Parts head.now slots.now value.now none.now jump.now × (station_words ≤ length out.old) }
-    ensures { out.new ≡ over (head.now ++ slots.now ++ value.now ++ none.now ++ jump.now) out.old }
-{
-    put(out, 0, head);
-    put(out, SLOTS_AT, slots);
-    put(out, VALUE_AT, value);
-    put(out, NONE_AT, none);
-    put(out, JUMP_AT, jump);
-}
-
-// Puts the words of a station.
+// Puts the words of a station, each part behind the one before.
 fn put_station(t: Station, out: &mut [u32])
     requires { station_words ≤ length out.old }
     ensures { out.new ≡ over (words_of t) out.old }
 {
-    let words = head(t);
-    let held = t.held;
-    let slots = held.slots;
-    let groups = t.groups;
-    let value = groups.value;
-    let none = groups.none;
-    let lasting = t.lasting;
-    let jump = [truth_word(lasting.jump)];
-    put_parts(out, &words, &slots, &value, &none, &jump);
+    put(out, 0, &head(t));
+    put(out, SLOTS_AT, &t.held.slots);
+    put(out, VALUE_AT, &t.groups.value);
+    put(out, NONE_AT, &t.groups.none);
+    put(out, JUMP_AT, &[u32::from(t.lasting.jump)]);
 }
 
-// Writes a station's words at the front of those lent.
-pub fn write(t: Station, out: &mut [u32]) -> Written
-    ensures { Wrote (writing t out.old) result.number result.count out.new }
+// Writes a station's words at the front of those lent, and answers how many there are.
+pub fn write(t: Station, out: &mut [u32]) -> Result<usize, Refusal>
+    ensures { written_by out.new result ≡ writing t out.old }
 {
-    let number = refusal(t, out.len());
-    if number != 0 {
-        return Written { number, count: 0 };
-    }
+    refusal(t, out.len())?;
     put_station(t, out);
-    Written {
-        number: 0,
-        count: STATION_WORDS,
-    }
+    Ok(STATION_WORDS)
 }

@@ -2,62 +2,46 @@
 #![tactic(auto)]
 
 ghost use Rattle.std.specs.Prelude.{◌≡◌};
-ghost use Rattle.status.specs.Status.{decision_on, nothing, status};
+ghost use Rattle.status.specs.Status.{decision_on, if_decided, status};
 
-use format::{NONE, Round};
+use format::{NONE, Refusal, Round};
 use modules::Module;
 use station::{Stage, Station};
 
-// What reading answers: the returned number; the decision on the question asked for, or none (2); the stage, its round, and whether the station is closed.
+// What is told of a station: the decision on the question asked for, if there is one, which of an open station is 0 or 1 (`told_0_or_1`); the stage, its round, and whether the
+// station is closed.
 #[derive(Clone, Copy)]
 pub struct Status {
-    pub number: u32,
-    pub decision: u32,
+    pub decision: Option<u32>,
     pub stage: Stage,
     pub round: Round,
     pub closed: bool,
 }
 
 // The station's decision, if it is on this question.
-fn decision_on(t: Station, question: u32) -> u32
-    ensures { result ≡ decision_on question t }
+#[tactic(auto, unfolding(crate::specs::Status::decision_on, crate::specs::Status::if_decided, laws::specs::Pick::pick))]
+fn decision_on(t: Station, question: u32) -> Option<u32>
+    ensures { result ≡ if_decided (decision_on question t) }
 {
-    let id = t.identity;
-    if id.question == question {
-        let lasting = t.lasting;
-        return lasting.decision;
-    }
-    NONE
-}
-
-// What is told of a station that is not this module's.
-fn refused() -> Status
-    ensures { result ≡ nothing }
-{
-    Status {
-        number: format::OUT_OF_RANGE,
-        decision: NONE,
-        stage: Stage::Gathering,
-        round: Round(0),
-        closed: true,
+    if t.identity.question == question {
+        (t.lasting.decision != NONE).then_some(t.lasting.decision)
+    } else {
+        None
     }
 }
 
-// Reads a station, for the question that the host asks about.
-pub fn read(m: Module, t: Station, question: u32) -> Status
+// Reads a station, for the question that the host asks about. One that is not this module's, or does not fit, is out of range.
+#[tactic(auto, unfolding(crate::specs::Status::status, laws::specs::Pick::pick))]
+pub fn read(m: Module, t: Station, question: u32) -> Result<Status, Refusal>
     ensures { result ≡ status m t question }
 {
     if !fitness::fits_module(t, m) {
-        return refused();
+        return Err(Refusal::OutOfRange);
     }
-    let stage = t.stage;
-    let decision = decision_on(t, question);
-    let round = stages::round_in(stage);
-    Status {
-        number: 0,
-        decision,
-        stage,
-        round,
+    Ok(Status {
+        decision: decision_on(t, question),
+        stage: t.stage,
+        round: stages::round_in(t.stage),
         closed: t.closed,
-    }
+    })
 }

@@ -1,8 +1,8 @@
 -- What a line of valley's input says (document 01, "The program valley").
-use Rattle.std.specs.Prelude.{ℕ, ◌+◌, ◌-◌, ◌*◌, Bool, true, false, ◌&&◌, List, [], ◌∷◌, eqb, leb, length}
+use Rattle.std.specs.Prelude.{ℕ, ◌+◌, ◌-◌, ◌*◌, Bool, true, false, ◌&&◌, List, [], ◌∷◌, Option, Some, None, eqb, leb, length}
 use Rattle.laws.specs.Pick.{pick}
 use Rattle.valley_lines.specs.declared.Line.{Line}
-use Rattle.valley_lines.specs.declared.Line.TheVariants.{Group, Open, Give, Unreadable}
+use Rattle.valley_lines.specs.declared.Line.TheVariants.{Group, Open, Give}
 
 abbrev pub newline : ℕ
 newline = 10
@@ -57,14 +57,14 @@ abbrev pub word_give : List ℕ
 word_give = 103 ∷ 105 ∷ 118 ∷ 101 ∷ []
 
 -- "`n` and a number", "`open s v`", "`give s k c`"; any other words can't be read
-unfoldable pub read_words : List (List ℕ) → Line
-read_words [] = Unreadable
-read_words (k ∷ []) = Unreadable
-read_words (k ∷ n ∷ []) = pick (same k word_n && is_number n) (Group (value n)) Unreadable
-read_words (k ∷ s ∷ v ∷ []) = pick (same k word_open && is_number s && is_number v) (Open (value s) (value v)) Unreadable
-read_words (k ∷ s ∷ b ∷ c ∷ []) = pick (same k word_give && is_number s && is_number b && is_number c) (Give (value s) (value b) (value c)) Unreadable
-read_words (k ∷ s ∷ b ∷ c ∷ d ∷ more) = Unreadable
+unfoldable pub read_words : List (List ℕ) → Option Line
+read_words [] = None
+read_words (k ∷ []) = None
+read_words (k ∷ n ∷ []) = pick (same k word_n && is_number n) (Some (Group (value n))) None
+read_words (k ∷ s ∷ v ∷ []) = pick (same k word_open && is_number s && is_number v) (Some (Open (value s) (value v))) None
+read_words (k ∷ s ∷ b ∷ c ∷ []) = pick (same k word_give && is_number s && is_number b && is_number c) (Some (Give (value s) (value b) (value c))) None
+read_words (k ∷ s ∷ b ∷ c ∷ d ∷ more) = None
 
 -- words are exactly one space apart, with nothing before or behind them
-unfoldable pub read_line : List ℕ → Line
+unfoldable pub read_line : List ℕ → Option Line
 read_line text = read_words (split space text)

@@ -9,7 +9,7 @@ use Rattle.valley_world.specs.Valley.{put_number}
 
 -- what a call returned, as the definitions have it
 abbrev pub returned_by : Call → Returned
-returned_by c = record { number = c.number; count = c.count; station = c.station; after = c.after; lent = c.words }
+returned_by c = record { number = c.number; count = c.bundle.count; station = c.station; after = c.after; lent = c.bundle.words }
 
 -- the group with another station and module of number s
 abbrev pub moved : World → ℕ → Station → Module → World

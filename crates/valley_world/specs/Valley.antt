@@ -1,5 +1,5 @@
 -- The run of the program valley: a definition from the input's bytes to the output's bytes (document 01, "The program valley").
-use Rattle.std.specs.Prelude.{ℕ, suc, ◌-◌, Bool, not, ◌&&◌, List, [], ◌∷◌, ◌++◌, eqb, ltb, leb, take, get_or, set, replicate}
+use Rattle.std.specs.Prelude.{ℕ, suc, ◌-◌, Bool, not, ◌&&◌, List, [], ◌∷◌, ◌++◌, Option, Some, None, eqb, ltb, leb, take, get_or, set, replicate}
 use Rattle.laws.specs.Pick.{pick}
 use Rattle.format.specs.Numbers.{none}
 use Rattle.format.specs.Present.{output_words}
@@ -12,7 +12,7 @@ use Rattle.station.specs.Machine.{stage_step}
 use Rattle.station.specs.Calls.{Returned}
 use Rattle.station.specs.Present.{no_station, opening, giving}
 use Rattle.valley_lines.specs.declared.Line.{Line}
-use Rattle.valley_lines.specs.declared.Line.TheVariants.{Group, Open, Give, Unreadable}
+use Rattle.valley_lines.specs.declared.Line.TheVariants.{Group, Open, Give}
 use Rattle.valley_lines.specs.Read.{newline, split, read_line}
 use Rattle.valley_printing.specs.Print.{event_line, bad_line}
 use Rattle.valley_world.specs.declared.Bundle.{Bundle}
@@ -146,23 +146,23 @@ one_too_many w r = writes r && leb most_bundles w.written
 unfoldable pub event : World → ℕ → ℕ → Returned → World → Turn
 event w number s r u = pick (one_too_many w r) (bad w number) (told u number s r.number)
 
-unfoldable pub first_turn : World → ℕ → Line → Turn
-first_turn w number (Group n) =
+unfoldable pub first_turn : World → ℕ → Option Line → Turn
+first_turn w number (Some (Group n)) =
     pick (leb least_n n && leb n most_n) (record { phase = Running; world = group_of n; printed = [] }) (bad w number)
-first_turn w number (Open s v) = bad w number
-first_turn w number (Give s k c) = bad w number
-first_turn w number Unreadable = bad w number
+first_turn w number (Some (Open s v)) = bad w number
+first_turn w number (Some (Give s k c)) = bad w number
+first_turn w number None = bad w number
 
 -- "A line that can't be read, names no opened station or written bundle": that is looked at before the coin
-unfoldable pub later_turn : World → ℕ → Line → Turn
-later_turn w number (Group n) = bad w number
-later_turn w number (Open s v) = event w number s (opens w s v) (after_opening w s (opens w s v))
-later_turn w number (Give s k c) =
+unfoldable pub later_turn : World → ℕ → Option Line → Turn
+later_turn w number (Some (Group n)) = bad w number
+later_turn w number (Some (Open s v)) = event w number s (opens w s v) (after_opening w s (opens w s v))
+later_turn w number (Some (Give s k c)) =
     pick (is_open w s && is_written w k) (event w number s (gives w s k c) (after w s (gives w s k c))) (bad w number)
-later_turn w number Unreadable = bad w number
+later_turn w number None = bad w number
 
 -- "Its input starts with `n`"; a run that has ended prints nothing more
-unfoldable pub turn : Phase → World → ℕ → Line → Turn
+unfoldable pub turn : Phase → World → ℕ → Option Line → Turn
 turn First w number l = first_turn w number l
 turn Running w number l = later_turn w number l
 turn Ended w number l = record { phase = Ended; world = w; printed = [] }

@@ -5,13 +5,14 @@
 ghost use Rattle.std.specs.Prelude.{◌≡◌, false, not, ◌&&◌, [], ◌∷◌, ◌%◌, ◌^◌, eqb, get_or};
 ghost use Rattle.hmac.specs.Hmac.{code_from};
 ghost use Rattle.format.specs.Numbers.{count_bits};
+ghost use Rattle.format.specs.Returns.{number_in};
 ghost use Rattle.format.specs.Statement.{same_words};
 ghost use Rattle.format.specs.Present.{bundle_words, formed, statement, code_at, fields_at, covered, head_fits};
 ghost use Rattle.walk.specs.Walk.{code_fails, started, noted, first_size, between as Between, answer as Answer};
 
 use format::{
     CODE_WORDS, COUNTS, COVERED_WORDS, Fields, HEAD_MARK, HEAD_ZEROS, MARK, MOST_STATEMENTS, NONE,
-    STATEMENT_WORDS, V,
+    Refusal, STATEMENT_WORDS, V,
 };
 use hmac::Prepared;
 use rules::{Group, Which};
@@ -57,50 +58,44 @@ pub fn laid_out(h: u32, words: usize) -> bool
         & (words == 1 + STATEMENT_WORDS * (1 + count))
 }
 
-// Whether a statement has this code. All eight words are compared before the answer, so that its time says nothing of where a forged code differs.
-fn code_matches(words: [u32; STATEMENT_WORDS], code: [u32; CODE_WORDS]) -> bool
-    ensures { result ≡ same_words (code_at words 0) code }
+// Whether a statement has this code. All eight words are compared before the answer, so that its time says nothing of where a forged code differs: `==` on
+// slices and `all` would end at the first difference.
+fn code_matches(words: &[u32; STATEMENT_WORDS], code: &[u32; CODE_WORDS]) -> bool
+    ensures { result ≡ same_words (code_at words.now 0) code.now }
 {
     let mut same = true;
-    let mut i: usize = 0;
-    while i < CODE_WORDS {
-        same = same & (words[COVERED_WORDS + i] == code[i]);
-        i += 1;
+    for (word, coded) in words[COVERED_WORDS..].iter().zip(code) {
+        same &= *word == *coded;
     }
     same
 }
 
 // Whether the code is wrong. It is not computed behind a fault that is answered before it. Where it is, the words read are those that it covers.
-fn code_fails(key: Prepared, fault: bool, words: [u32; STATEMENT_WORDS]) -> bool
-    requires { fault ≡ false → covered (statement words 0) ≡ get_or words 0 0 ∷ get_or words 1 0 ∷ [] }
-    ensures { result ≡ code_fails (code_from key) fault (statement words 0) }
+fn code_fails(key: Prepared, fault: bool, words: &[u32; STATEMENT_WORDS]) -> bool
+    requires { fault ≡ false → covered (statement words.now 0) ≡ get_or words.now 0 0 ∷ get_or words.now 1 0 ∷ [] }
+    ensures { result ≡ code_fails (code_from key) fault (statement words.now 0) }
 {
     if fault {
         return false;
     }
-    let code = codes::code_words(key, &words[0..COVERED_WORDS]);
-    let right = code.words;
-    !code_matches(words, right)
+    let code = codes::code_words(key, &words[..COVERED_WORDS]).unwrap();
+    !code_matches(words, &code)
 }
 
 // What the main statement brings along.
 pub fn start(key: Prepared, n: u32, asked: Which, t: Taken) -> Findings
     ensures { result ≡ started (code_from key) asked (not (formed n (fields_at t.words 0))) (statement t.words 0) }
 {
-    let words = t.words;
-    let m = format::read_fields(words[0]);
-    let r = m.round;
-    let bad = !format::well_formed(m, n);
-    let other = !rules::allows(asked, words[1]);
-    let wrong = code_fails(key, bad | other, words);
-    let toss = rules::early_toss(m.kind, m.flag, r);
+    let m = format::read_fields(t.words[0]);
+    let malformed = !format::well_formed(m, n);
+    let other = !rules::allows(asked, t.words[1]);
     Findings {
         place: 1,
         last: 0,
-        malformed: bad,
-        other: other,
-        wrong: wrong,
-        unbacked: toss,
+        malformed,
+        other,
+        wrong: code_fails(key, malformed | other, &t.words),
+        unbacked: rules::early_toss(m.kind, m.flag, m.round),
         dget: false,
         zero: false,
         one: false,
@@ -120,85 +115,69 @@ pub fn turn(
 ) -> Findings
     ensures { result ≡ noted (code_from key) g question next f (not (formed n (fields_at t.words 0))) (statement t.words 0) }
 {
-    let words = t.words;
-    let s = format::read_fields(words[0]);
-    let bad = !format::well_formed(s, n);
-    let other = f.other | (words[1] != question);
-    if bad | other | f.wrong {
-        return Findings {
-            place: next,
-            last: s.station,
-            malformed: bad,
-            other: other,
-            wrong: f.wrong,
-            unbacked: f.unbacked,
-            dget: f.dget,
-            zero: f.zero,
-            one: f.one,
-        };
-    }
-    let wrong = code_fails(key, false, words);
-    let wanted = rules::is_wanted(g, s);
-    Findings {
+    let s = format::read_fields(t.words[0]);
+    let malformed = !format::well_formed(s, n);
+    let other = f.other | (t.words[1] != question);
+    let passed = Findings {
         place: next,
         last: s.station,
-        malformed: bad,
-        other: other,
-        wrong: wrong,
-        unbacked: f.unbacked | !(wanted & (f.last < s.station)),
+        malformed,
+        other,
+        ..f
+    };
+    if malformed | other | f.wrong {
+        return passed;
+    }
+    Findings {
+        wrong: code_fails(key, false, &t.words),
+        unbacked: f.unbacked | !(rules::is_wanted(g, s) & (f.last < s.station)),
         dget: f.dget | (s.flag == format::D_GET),
         zero: f.zero | (s.value == 0),
         one: f.one | (s.value == 1),
+        ..passed
     }
 }
 
 // How many statements of its first group, g, a main statement with these fields asks for; an INIT asks for none.
+#[tactic(auto, unfolding(crate::specs::Walk::first_size, laws::specs::Pick::pick))]
 pub fn first_size(m: Fields, g: Group) -> u32
     ensures { result ≡ first_size m g }
 {
-    if m.kind == format::INIT {
-        return 0;
-    }
-    g.size
+    if m.kind == format::INIT { 0 } else { g.size }
 }
 
 // Behind the first group's statements, which are all that were asked for or not, with `rest` to come, of a second group g if there is to be one: whether the
 // sizes and the values are as the rules ask.
+#[tactic(auto, unfolding(crate::specs::Walk::between, crate::specs::Walk::second_size, laws::specs::Pick::pick))]
 pub fn between(m: Fields, whole: bool, rest: u32, g: Group, f: Findings) -> Findings
     ensures { result ≡ Between m whole rest g f }
 {
-    let r = m.round;
-    let due = rules::has_second(m.kind, m.value, r, f.dget);
-    let behind = (due & (rest == g.size)) | (!due & (rest == 0));
+    let due = rules::has_second(m.kind, m.value, m.round, f.dget);
+    let behind = rest == if due { g.size } else { 0 };
     let both = !((m.kind == V) & (m.value == NONE)) | (f.zero & f.one);
     Findings {
-        place: f.place,
         last: 0, // stations rise anew
-        malformed: f.malformed,
-        other: f.other,
-        wrong: f.wrong,
         unbacked: f.unbacked | !(whole & both & behind),
-        dget: f.dget,
-        zero: f.zero,
-        one: f.one,
+        ..f
     }
 }
 
 // The answer at the end of the walk.
-pub fn answer(f: Findings) -> u32
-    ensures { result ≡ Answer f }
+#[tactic(auto, unfolding(crate::specs::Walk::answer, laws::specs::Refusals::first_failed, laws::specs::Pick::pick))]
+pub fn answer(f: Findings) -> Result<(), Refusal>
+    ensures { number_in result ≡ Answer f }
 {
     if f.malformed {
-        return format::MALFORMED;
+        return Err(Refusal::Malformed);
     }
     if f.other {
-        return format::OTHER_QUESTION;
+        return Err(Refusal::OtherQuestion);
     }
     if f.wrong {
-        return format::WRONG_CODE;
+        return Err(Refusal::WrongCode);
     }
     if f.unbacked {
-        return format::NO_CERTIFICATE;
+        return Err(Refusal::NoCertificate);
     }
-    format::VALID
+    Ok(())
 }

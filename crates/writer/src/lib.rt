@@ -1,4 +1,5 @@
-// Writes a bundle into lent words (document 01, "Words" and "The station"). The contracts cite specs/.
+// Writes a bundle into lent words (document 01, "Words" and "The station"). The contracts cite
+// specs/.
 #![tactic(auto)]
 
 ghost use Rattle.std.specs.Prelude.{◌≡◌, ◌+◌, ◌*◌, ◌^◌, ◌≤◌, ◌<◌, length};
@@ -10,8 +11,7 @@ ghost use Rattle.station.specs.Present.{sites, slots_words};
 ghost use Rattle.writer.specs.Written.{segment, held_words, main_words, words_of, writable as Writable, lent_after, count_after, copy_after, copy_count};
 
 use format::{
-    CERTIFICATE_AT, CODE_WORDS, HEAD_MARK, MARK, MOST_STATEMENTS, MOST_STATIONS, OUTPUT_WORDS,
-    STATEMENT_WORDS,
+    CERTIFICATE_AT, HEAD_MARK, MARK, MOST_STATEMENTS, MOST_STATIONS, OUTPUT_WORDS, STATEMENT_WORDS,
 };
 use station::{KEPT_WORDS, SLOTS_WORDS};
 
@@ -21,36 +21,18 @@ const LARGEST_QUORUM: u32 = MOST_STATIONS / 2 + 1;
 // A head that counts no statement.
 const HEAD: u32 = HEAD_MARK * MARK;
 
-// Copies n words, from a place on, to the front of the lent ones.
-fn copy_words(out: &mut [u32], ws: &[u32], at: usize, n: usize)
-    requires { (at + n ≤ length ws.now) × (n ≤ length out.old) }
-    ensures { out.new ≡ over (segment n at ws.now) out.old }
-{
-    let mut i: usize = 0;
-    while i < n {
-        out[i] = ws[at + i];
-        i += 1;
-    }
-}
-
 // Writes the slots of the stations in the set, by rising station, one behind the other.
 fn write_held(out: &mut [u32], slots: &[u32; SLOTS_WORDS], set: u32)
     requires { slots_words ≤ length out.old }
     ensures { out.new ≡ over (held_words set slots.now 0 sites) out.old }
 {
-    let mut at: usize = 0;
-    let mut i: u32 = 0;
-    while i < MOST_STATIONS {
+    let mut at = 0;
+    for i in 0..MOST_STATIONS {
         if held::in_set(set, i) {
-            copy_words(
-                &mut out[at..],
-                &slots[..],
-                i as usize * STATEMENT_WORDS,
-                STATEMENT_WORDS,
-            );
+            let from = i as usize * STATEMENT_WORDS;
+            out[at..at + STATEMENT_WORDS].copy_from_slice(&slots[from..from + STATEMENT_WORDS]);
             at += STATEMENT_WORDS;
         }
-        i += 1;
     }
 }
 
@@ -59,10 +41,12 @@ fn write_group(out: &mut [u32], group: &[u32; KEPT_WORDS], k: usize)
     requires { (k ≤ quorum sites) × (k * statement_words ≤ length out.old) }
     ensures { out.new ≡ over (segment (k * statement_words) 0 group.now) out.old }
 {
-    copy_words(out, &group[..], 0, k * STATEMENT_WORDS);
+    let n = k * STATEMENT_WORDS;
+    out[..n].copy_from_slice(&group[..n]);
 }
 
-// Writes the head word and the main statement at the front of the lent words: zeros stand where its code will.
+// Writes the head word and the main statement at the front of the lent words: zeros stand where its
+// code will.
 fn write_main(out: &mut [u32], count: u32, w0: u32, question: u32)
     requires { (count ≤ most_statements) × (place_of 1 ≤ length out.old) }
     ensures { out.new ≡ over (main_words count w0 question) out.old }
@@ -70,8 +54,7 @@ fn write_main(out: &mut [u32], count: u32, w0: u32, question: u32)
     out[0] = HEAD + count;
     out[1] = w0;
     out[2] = question;
-    let code = [0u32; CODE_WORDS];
-    copy_words(&mut out[3..], &code[..], 0, CODE_WORDS);
+    out[3..CERTIFICATE_AT].fill(0);
 }
 
 // Whether a bundle of the set's count of statements and k more can be written into the words lent.
@@ -81,10 +64,11 @@ fn writable(lent: usize, set: u32, count: u32, k: u32) -> bool
     (OUTPUT_WORDS <= lent)
         & held::names_stations(set)
         & (k <= LARGEST_QUORUM)
-        & ((count as u64) + (k as u64) <= MOST_STATEMENTS as u64)
+        & (count as usize + k as usize <= MOST_STATEMENTS)
 }
 
-// Writes the parts of a bundle, each behind the one before in the same lent words, and answers the word count.
+// Writes the parts of a bundle, each behind the one before in the same lent words, and answers the
+// word count.
 fn write_parts(
     out: &mut [u32],
     w0: u32,
@@ -106,8 +90,9 @@ fn write_parts(
     at + n * STATEMENT_WORDS
 }
 
-// Writes a bundle: the main statement, not coded yet, behind it the held statements of the set, and behind these the first k statements of a kept group. It
-// answers the word count, and changes nothing where the bundle cannot be written.
+// Writes a bundle: the main statement, not coded yet, behind it the held statements of the set, and
+// behind these the first k statements of a kept group. It answers the word count, and changes
+// nothing where the bundle cannot be written.
 pub fn write_bundle(
     out: &mut [u32],
     w0: u32,
@@ -126,8 +111,8 @@ pub fn write_bundle(
     write_parts(out, w0, question, slots, set, count, group, k)
 }
 
-// Writes a given bundle with another word 0 of its main statement. It answers the word count, and changes nothing where there is no main statement or no
-// room.
+// Writes a given bundle with another word 0 of its main statement. It answers the word count, and
+// changes nothing where there is no main statement or no room.
 pub fn copy_bundle(out: &mut [u32], w0: u32, ws: &[u32]) -> usize
     ensures { (result ≡ copy_count (length ws.now) (length out.old)) × (out.new ≡ copy_after w0 ws.now out.old) }
 {
@@ -135,7 +120,7 @@ pub fn copy_bundle(out: &mut [u32], w0: u32, ws: &[u32]) -> usize
     if !((CERTIFICATE_AT <= count) & (count <= out.len())) {
         return 0;
     }
-    copy_words(out, ws, 0, count);
+    out[..count].copy_from_slice(ws);
     out[1] = w0;
     count
 }

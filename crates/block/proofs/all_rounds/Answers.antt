@@ -6,4 +6,4 @@ use Rattle.block.proofs.all_rounds.Goals as goal
 
 pub returns : goal.returns
 unfolding rounds_from onward constants
-returns c = c.last_rounds-v.ensures ∙ c.first_rounds-m.ensures.1
+returns c = c.last_rounds-v.ensures ∙ c.first_rounds-half.ensures.1

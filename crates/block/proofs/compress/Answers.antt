@@ -1,14 +1,16 @@
--- Each sum is a word of the definition.
-use Rattle.std.proofs.Common.{ap, ◌∙◌, rules}
+-- Each turn sums one word more; after the eighth all are.
+use Rattle.std.proofs.Common.{refl, ap, ◌∙◌, rules, arith}
 use Rattle.compression.specs.Compression.{compressed, summed}
-use Rattle.block.proofs.Sums.{sums}
+use Rattle.block.proofs.Sums.{turn, whole}
 use Rattle.block.proofs.compress.Goals as goal
+
+pub loop-i-preserved : goal.loop-i-preserved
+loop-i-preserved c =
+    let l = c.loop-i in
+    turn c.args.s c.all_rounds-sums.result l.sums l.i _ (search rules) (search rules) c.loop-i-test.true refl l.invariant
 
 pub returns : goal.returns
 unfolding compressed
 returns c =
-    let r = c.all_rounds-r in
-    let s = c.args.s in
-    sums s r.result _ _ _ _ _ _ _ _ (search rules) (search rules)
-    c.wrapping_add_u32.ensures.value c.wrapping_add_u32-2.ensures.value c.wrapping_add_u32-3.ensures.value c.wrapping_add_u32-4.ensures.value c.wrapping_add_u32-5.ensures.value c.wrapping_add_u32-6.ensures.value c.wrapping_add_u32-7.ensures.value c.wrapping_add_u32-8.ensures.value
-    ∙ ap (summed s) r.ensures
+    let l = c.loop-i in
+    whole c.args.s c.all_rounds-sums.result l.sums l.i (search rules) (search rules) (omega arith) l.invariant ∙ ap (summed c.args.s) c.all_rounds-sums.ensures

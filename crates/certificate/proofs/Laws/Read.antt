@@ -1,10 +1,8 @@
 -- A statement's ten words, read from a bundle; and the code from a prepared key.
 use Rattle.std.specs.Prelude.{ℕ, ◌+◌, ◌≤◌, ◌<◌, List, [], ◌∷◌, ◌≡◌, refl, length, get_or, set, take, drop}
-use Rattle.std.proofs.Common.{sym, ap, ◌∙◌, add-one, arith, length-drop, drop-drop, get_or-drop, get_or-take, take_all, take-suc, take-suc-set, take-take, lt-ltb}
-use Rattle.laws.specs.Pick.{here}
+use Rattle.std.proofs.Common.{sym, ap, ◌∙◌, add-one, arith, length-drop, drop-drop, get_or-drop, get_or-take, take_all, take-suc, take-suc-set, take-take}
 use Rattle.format.specs.Numbers.{code_words}
-use Rattle.sha256.specs.Sha256.{limit}
-use Rattle.hmac.specs.Hmac.{prepared, keyed, code_from}
+use Rattle.hmac.specs.Hmac.{prepared, code_from}
 use Rattle.hmac.proofs.Theorems.Prepared.{code_is_hmac}
 use Rattle.format.specs.Words.{fields_of}
 use Rattle.format.specs.Present.{covered_words, statement_words, statement, words_at, code_at, fields_at}
@@ -46,11 +44,6 @@ pub statement_read : (ws : List ℕ) (at : ℕ) → statement (words_at ws at) 0
 statement_read ws at =
     let c : code_at (words_at ws at) 0 ≡ code_at ws at = behind_two (drop at ws) ∙ ap (take code_words) (drop-drop covered_words at ws) in
     rw (word_0_read ws at, word_1_read ws at, c)
-
--- a short key, prepared
-pub keyed_short : (k : List ℕ) → length k < limit → keyed k ≡ record { number = 0; key = prepared k }
-unfolding keyed
-keyed_short k h = sym (here _ _ _ (lt-ltb _ _ h))
 
 -- from a prepared key the code is HMAC
 pub code_is : (k : List ℕ) → code_from (prepared k) ≡ hmac_code k

@@ -5,6 +5,7 @@ use native.Mathlib.Omega.{arith}
 use lib.ListN.{length, get_or}
 use Rattle.format.specs.Form.{present_form}
 use Rattle.format.proofs.Laws.Parts.{sizes}
+use Rattle.format.specs.Returns.{number_in}
 use Rattle.hmac.specs.Hmac.{code_from}
 use Rattle.walk.specs.declared.Findings.{Findings}
 use Rattle.walk.specs.Walk.{started}
@@ -34,7 +35,7 @@ returns c =
     let b = sizes present_form _ c.requires.1 in
     omega (arith, b.1, c.requires.2) in
     let a = c.args in
-    judged_walk a.key a.n a.asked a.ws.now c.requires.0 c.requires.1 (code_from c.states_for-states.result) c.take_up-t.result.words c.read_fields-m.result a.count c.start-begun.result c.answer_behind.result
+    judged_walk a.key a.n a.asked a.ws.now c.requires.0 c.requires.1 (code_from c.states_for-states.result) c.take_up-t.result.words c.read_fields-m.result a.count c.start-begun.result (number_in c.answer_behind.result)
     c.well_formed-good.result c.allows-fits.result c.take_up-t.ensures c.read_fields-m.ensures c.well_formed-good.ensures c.allows-fits.ensures c.states_for-states.ensures c.requires.2
     c.start-begun.ensures
     (c.answer_behind.ensures

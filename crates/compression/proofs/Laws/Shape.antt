@@ -1,5 +1,5 @@
 -- The shape of a compressed state: eight words, each below 2 ^ 32.
-use Rattle.std.specs.Prelude.{◌≡◌, ℕ, zero, suc, ◌+◌, ◌%◌, ◌^◌, ◌<◌, ◌≤◌, List, [], ◌∷◌, ◌++◌, length, slice_index, refl}
+use Rattle.std.specs.Prelude.{◌≡◌, ℕ, zero, suc, ◌+◌, ◌≤◌, List, [], ◌∷◌, ◌++◌, length, slice_index, refl}
 use Rattle.std.proofs.Common.{ap, ◌∙◌, arith, length-append}
 use Rattle.compression.specs.Compression.{plus, next, extended, constants, t1, t2, rounds, rounds_from, summed, compressed}
 use Rattle.laws.specs.Below.{Below}
@@ -19,7 +19,7 @@ rounds_length (k ∷ ks) [] a b c d e f g h p = absurd (omega arith)
 rounds_length (k ∷ ks) (w ∷ ws) a b c d e f g h p =
     rounds_length ks ws (plus (t1 e f g h k w) (t2 a b c)) a b c (plus d (t1 e f g h k w)) e f g (omega arith)
 
-summed_length : (s t : List ℕ) → length s ≤ length t → length (summed s t) ≡ length s
+pub summed_length : (s t : List ℕ) → length s ≤ length t → length (summed s t) ≡ length s
 unfolding summed
 summed_length [] t p = refl
 summed_length (x ∷ s) [] p = absurd (omega arith)

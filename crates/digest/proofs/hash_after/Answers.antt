@@ -1,29 +1,19 @@
 -- Each way out is a case of the definition: the sum is below the limit only where both tests hold.
-use mathlib.Core.Path.{ap}
-use mathlib.Core.List.{List}
-use Prim.Native.Nat.{ℕ, ◌+◌, ◌*◌}
-use native.Mathlib.Omega.{arith}
-use lib.ListN.{length}
-use borrow.Author.Tests.{lt-ltb, le-ltb}
+use Rattle.std.proofs.Common.{ap, ◌+◌, ◌*◌, ◌≤◌, length, arith, lt-ltb, le-ltb, Ok}
 use Rattle.laws.specs.Pick.{pick}
 use Rattle.sha256.specs.Sha256.{hash_after, limit}
-use borrow.Author.Rules.{rules}
 use Rattle.digest.proofs.hash_after.Goals as goal
+use Rattle.digest.proofs.hash_after.Goals.{else-n-via-then-n+else-m-n, else-n-via-else-n}
 
-pub returns-then-m-done : goal.returns-then-m-done
+pub returns-then-m-n : goal.returns-then-m-n
 unfolding hash_after pick
-returns-then-m-done c =
+returns-then-m-n c =
     let a = c.args in
-    rw (lt-ltb (a.n * 64 + length a.m.now) limit (omega arith)) (ap (λ (s : List ℕ). record { number = 0; state = s }) c.finish-s.ensures)
+    rw (lt-ltb (a.n * 64 + length a.m.now) limit (omega arith)) (ap Ok c.finish.ensures)
 
-pub returns-else-m-done : goal.returns-else-m-done
+pub returns : goal.returns
 unfolding hash_after pick
-returns-else-m-done c =
+returns c =
     let a = c.args in
-    rw (le-ltb (a.n * 64 + length a.m.now) limit (omega arith))
-
-pub returns-else-n : goal.returns-else-n
-unfolding hash_after pick
-returns-else-n c =
-    let a = c.args in
-    rw (le-ltb (a.n * 64 + length a.m.now) limit (omega arith))
+    let far : limit ≤ a.n * 64 + length a.m.now = elim c.else-n.branch [ else-n-via-then-n+else-m-n w ↦ omega arith | else-n-via-else-n w ↦ omega arith ] in
+    rw (le-ltb (a.n * 64 + length a.m.now) limit far)

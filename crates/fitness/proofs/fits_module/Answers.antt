@@ -10,8 +10,8 @@ returns-then-not-fits c =
     let a = c.args in
     refused a.m c.fits.result c.fits.ensures (F.fits a.m.n a.m.station a.t) (ap not c.if-not-fits.true)
 
-pub words_fit-all-requires : goal.words_fit-all-requires
-words_fit-all-requires c =
+pub words_fit-requires : goal.words_fit-requires
+words_fit-requires c =
     let a = c.args in
     range_out a.m c.fits.result c.fits.ensures (ap not c.if-not-fits.false)
 
@@ -19,4 +19,4 @@ pub returns : goal.returns
 returns c =
     let a = c.args in
     rest_decides a.m c.fits.result c.fits.ensures _ (F.fits a.m.n a.m.station a.t) (ap not c.if-not-fits.false)
-    (whole a.m.n a.m.station a.t c.words_fit-all.result c.words_fit-all.ensures)
+    (whole a.m.n a.m.station a.t c.words_fit.result c.words_fit.ensures)

@@ -1,11 +1,11 @@
--- The invariant: what is passed from here on has the answer of all. Each turn is one unfolding of the definition, and the loop's test says that the words are there.
-use Prim.Native.Nat.{◌+◌, ◌-◌, ◌^◌, ◌≤◌}
-use lib.ListN.{length}
+-- The invariant: the iterator has left the words from some place on, and what is passed from there on has the answer of all.
+use Rattle.std.proofs.Common.{◌≡◌, ℕ, false, drop}
+use Rattle.std.specs.Slice.Iter.{chunks_exact_rest, chunks_exact_size}
+use Rattle.format.specs.Present.{statement_words}
 use Rattle.glance.specs.Glance.{Glancing}
 use Rattle.glance.proofs.answer_behind.Given as goal
 
-abbrev pub invariant-loop-malformed : goal.invariant-loop-malformed
-invariant-loop-malformed l = (l.at ≤ 2 ^ 36 + length l.ws) × Glancing l.n l.question l.ws l.f l.at l.malformed l.other
-
-abbrev pub decreases-loop-malformed : goal.decreases-loop-malformed
-decreases-loop-malformed l = length l.ws - l.at
+abbrev pub invariant-loop-words : goal.invariant-loop-words
+invariant-loop-words l =
+    (chunks_exact_size l.words-iterator ≡ statement_words)
+    × ((at : ℕ) × (chunks_exact_rest l.words-iterator ≡ drop at l.ws) × Glancing l.n l.question l.ws l.f at false l.other)

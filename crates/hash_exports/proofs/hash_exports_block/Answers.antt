@@ -4,4 +4,4 @@ use Rattle.compression.specs.Compression.{compressed}
 use Rattle.hash_exports.proofs.hash_exports_block.Goals as goal
 
 pub returns : goal.returns
-returns c = c.compress-r.ensures ∙ ap (compressed c.args.state.now) c.block_words.ensures
+returns c = c.compress-next.ensures ∙ ap (compressed c.args.state.now) c.block_words.ensures

@@ -6,6 +6,7 @@ use Rattle.std.proofs.Math.Path.{refl}
 use Rattle.std.proofs.Common.{sym, ap, ◌∙◌, div-one, lt_of_lt_of_le, one-mul, lit<, pow_pos, pow_mono, shl_exact, eqb-true, eq-eqb, ne_eqb, leb-true}
 use Rattle.std.proofs.Math.Nat.{pow-suc, div-div-eq-div-mul, div-eq_of_lt}
 use native.Mathlib.Omega.{arith}
+use mir.Val.{bool_byte}
 use Rattle.std.proofs.lemmas.Bool.{eqb-false, not-false}
 use Rattle.laws.specs.Bools.{both}
 use Rattle.laws.specs.Count.{one_if}
@@ -13,6 +14,11 @@ use Rattle.laws.specs.Sets.{bit}
 use Rattle.format.specs.Present.{most_stations}
 use Rattle.station.specs.Present.{sites}
 use Rattle.held.specs.Scan.{gathered}
+
+-- a test as a number, as `u32::from` makes it
+pub as_number : (b : Bool) → bool_byte b ≡ one_if b
+as_number true = refl
+as_number false = refl
 
 -- no number above 31 is in the set that a word holds
 pub none_above : (h i : ℕ) → h < 2 ^ 32 → 31 < i → false ≡ bit h i

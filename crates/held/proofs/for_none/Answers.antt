@@ -1,18 +1,9 @@
--- Each arm is a case of the definition; where none supplies it, the scan finds nothing.
-use mathlib.Core.Path.{refl}
-use mathlib.Core.Bool.{false}
+-- Where none supplies it, the scan finds nothing.
+use Rattle.std.proofs.Common.{inl, inr, refl, false}
 use Rattle.held.proofs.Laws.Held.{scan_nothing}
 use Rattle.held.proofs.for_none.Goals as goal
 
 pub returns-in-Gathering : goal.returns-in-Gathering
 returns-in-Gathering c =
-    let a = c.args in
-    rw c.in-Gathering.is (scan_nothing a.set a.slots.now (λ s. false) (λ s. refl))
-
-pub returns-in-Proposing : goal.returns-in-Proposing
-returns-in-Proposing c = rw (c.later_r_get.ensures, c.in-Proposing.is)
-
-pub returns-in-Voting : goal.returns-in-Voting
-returns-in-Voting c =
-    let a = c.args in
-    rw c.in-Voting.is (scan_nothing a.set a.slots.now (λ s. false) (λ s. refl))
+    let none = scan_nothing c.args.held.now.heard c.args.held.now.slots (λ s. false) (λ s. refl) in
+    elim c.in-Gathering.is [ inl e ↦ rw e none | inr p ↦ rw p.1 none ]

@@ -11,13 +11,13 @@ pub overflow_add-result : goal.overflow_add-result
 overflow_add-result c =
     let a = c.args in
     record {
-      fits = omega (arith, c.scan-in-Voting.ensures, c.scan.ensures, scan_low (such (Only 0) Any) a.set a.slots.now, scan_low (such (Only 1) Any) a.set a.slots.now);
+      fits = omega (arith, c.scan-in-Voting.ensures, c.scan.ensures, scan_low (such (Only 0) Any) a.held.now.heard a.held.now.slots, scan_low (such (Only 1) Any) a.held.now.heard a.held.now.slots);
     }
 
 pub returns-in-Gathering : goal.returns-in-Gathering
 returns-in-Gathering c =
     let a = c.args in
-    rw c.in-Gathering.is (scan_nothing a.set a.slots.now (λ s. false) (λ s. refl))
+    rw c.in-Gathering.is (scan_nothing a.held.now.heard a.held.now.slots (λ s. false) (λ s. refl))
 
 pub returns-in-Proposing : goal.returns-in-Proposing
 returns-in-Proposing c = rw (c.first_or_d_get.ensures, c.in-Proposing.is)
@@ -25,4 +25,4 @@ returns-in-Proposing c = rw (c.first_or_d_get.ensures, c.in-Proposing.is)
 pub returns-in-Voting : goal.returns-in-Voting
 returns-in-Voting c =
     let a = c.args in
-    rw (c.scan-in-Voting.ensures, c.scan.ensures, c.in-Voting.is) (scan_values a.set a.slots.now)
+    rw (c.scan-in-Voting.ensures, c.scan.ensures, c.in-Voting.is) (scan_values a.held.now.heard a.held.now.slots)

@@ -1,5 +1,5 @@
 -- The invariant: what was gathered so far are those from here on that are among the k lowest. Each turn is one unfolding of the definition.
-use Prim.Native.Nat.{◌-◌, ◌%◌, ◌^◌, ◌≤◌}
+use Prim.Native.Nat.{◌-◌, ◌%◌, ◌^◌}
 use mathlib.Core.Bool.{◌&&◌}
 use mathlib.Core.Path.{◌≡◌}
 use lib.Count.{ones}
@@ -10,7 +10,4 @@ use Rattle.held.specs.Scan.{gathered}
 use Rattle.held.proofs.lowest.Given as goal
 
 abbrev pub invariant-loop-i : goal.invariant-loop-i
-invariant-loop-i l = (l.i ≤ 31) × (l.out ≡ gathered (λ j. bit l.set j && ltb (ones (l.set % 2 ^ j)) l.k) l.i (sites - l.i))
-
-abbrev pub decreases-loop-i : goal.decreases-loop-i
-decreases-loop-i l = l.i
+invariant-loop-i l = l.out ≡ gathered (λ j. bit l.set j && ltb (ones (l.set % 2 ^ j)) l.k) l.i (sites - l.i)

@@ -22,8 +22,8 @@ pub returns-then-in_set : goal.returns-then-in_set
 unfolding with_station
 returns-then-in_set c = skip _ _ _ _ (ap not c.if-not-s.false) (here _ _ _ (sym c.in_set.ensures ∙ c.if-in_set.true))
 
-pub overflow_shl-more : goal.overflow_shl-more
-overflow_shl-more c = let a = c.args in
+pub overflow_shl-result : goal.overflow_shl-result
+overflow_shl-result c = let a = c.args in
     omega (arith, is_station a.s (ap not c.if-not-s.false))
 
 pub overflow_add-result : goal.overflow_add-result

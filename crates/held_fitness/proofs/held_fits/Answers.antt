@@ -4,4 +4,4 @@ use Rattle.held_fitness.proofs.held_fits.Goals as goal
 
 pub returns : goal.returns
 unfolding held_words_fit
-returns c = rw (c.quorum.ensures, c.number_of.ensures, c.names_stations.ensures, c.slots_fit-all.ensures, c.in_set-own.ensures)
+returns c = rw (c.quorum.ensures, c.number_of.ensures, c.names_stations.ensures, c.slots_fit.ensures, c.in_set.ensures)

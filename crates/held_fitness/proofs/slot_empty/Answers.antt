@@ -1,41 +1,18 @@
--- The invariant: the words from here on decide the whole. Each turn is one unfolding of the definition.
-use Prim.Native.Nat.{◌+◌, ◌-◌, ◌*◌}
-use mathlib.Core.Bool.{false, not}
-use mathlib.Core.Path.{◌≡◌, refl, sym, ◌∙◌}
-use borrow.Author.Tests.{eq-eqb, ne_eqb}
-use lib.Dec.{eqb}
-use lib.ListN.{get_or}
-use Rattle.laws.specs.Pick.{pick, here, skip, not_t, not_f}
-use Rattle.station.specs.Fit.{zeros}
-use Rattle.held.proofs.Laws.Zeros.{zeros_start, zeros_turn, zeros_end}
-use borrow.Author.Rules.{rules}
+-- The test of each of the ten words is the definition.
+use Rattle.std.proofs.Common.{ℕ, ◌≡◌, ◌+◌, ◌-◌, ◌*◌, ◌∙◌, arith, eqb, take, drop, ap, rules}
+use Rattle.std.proofs.lemmas.Iterator.{YieldsList-from_slice}
+use Rattle.std.proofs.lemmas.Iterator.Search.{all_from_yields_List}
+use borrow.Author.Tests.{tests}
+use Rattle.format.specs.Present.{statement_words}
+use Rattle.held.proofs.Laws.Zeros.{zeros_all}
 use Rattle.held_fitness.proofs.slot_empty.Goals as goal
-
-pub loop-at-init : goal.loop-at-init
-loop-at-init c = (search rules, zeros_start c.args.slots.now (c.args.i * 10) 10)
-
-pub returns-then-slots-at-ne0 : goal.returns-then-slots-at-ne0
-returns-then-slots-at-ne0 c =
-    let turn : (let a = c.args in
-    let v = c.loop-at in
-    zeros a.slots.now (a.i * 10) 10 ≡ pick (not (eqb (get_or a.slots.now v.at 0) 0)) false (zeros a.slots.now (v.at + 1) (a.i * 10 + 10 - (v.at + 1)))) =
-    let a = c.args in
-    let v = c.loop-at in
-    v.invariant.1 ∙ zeros_turn a.slots.now v.at (a.i * 10 + 10) c.loop-at-test.true in
-    here _ _ _ (not_t _ (ne_eqb _ _ c.if-slots-at-ne0.true)) ∙ sym turn
-
-pub loop-at-preserved : goal.loop-at-preserved
-loop-at-preserved c =
-    let turn : (let a = c.args in
-    let v = c.loop-at in
-    zeros a.slots.now (a.i * 10) 10 ≡ pick (not (eqb (get_or a.slots.now v.at 0) 0)) false (zeros a.slots.now (v.at + 1) (a.i * 10 + 10 - (v.at + 1)))) =
-    let a = c.args in
-    let v = c.loop-at in
-    v.invariant.1 ∙ zeros_turn a.slots.now v.at (a.i * 10 + 10) c.loop-at-test.true in
-    (search rules, turn ∙ sym (skip _ _ _ _ (not_f _ (eq-eqb _ _ c.if-slots-at-ne0.false)) refl))
 
 pub returns : goal.returns
 returns c =
     let a = c.args in
-    let v = c.loop-at in
-    zeros_end a.slots.now v.at (a.i * 10 + 10) c.loop-at-test.false ∙ sym v.invariant.1
+    let at : ℕ = a.i * statement_words in
+    let ten : at + statement_words - at ≡ statement_words = omega arith in
+    all_from_yields_List (λ w. eqb w 0) _ _ _ c.all.ensures.ran
+    (YieldsList-from_slice (take statement_words (drop at a.slots.now)) (c.iter.ensures.rest ∙ ap (λ k. take k (drop at a.slots.now)) ten))
+    (λ x b q k. search (rules, tests))
+    ∙ zeros_all a.slots.now at statement_words (omega arith)

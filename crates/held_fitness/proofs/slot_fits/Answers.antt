@@ -5,4 +5,4 @@ use Rattle.held_fitness.proofs.slot_fits.Goals as goal
 pub returns : goal.returns
 unfolding fields_of step_in
 returns c =
-    rw (c.well_formed-2.ensures, c.step_of-s.ensures, c.read_fields-f.ensures)
+    rw (c.well_formed-2.ensures, c.step_of.ensures, c.read_fields-f.ensures)

@@ -1,5 +1,5 @@
 -- Laws of the prepared key: its two states are those behind the key's blocks, so that HMAC goes on from them.
-use Rattle.std.specs.Prelude.{◌≡◌, refl, Bool, true, false, List, [], ◌∷◌, ◌++◌, ℕ, suc, ◌+◌, ◌*◌, ◌≤◌, ◌<◌, length, leb}
+use Rattle.std.specs.Prelude.{◌≡◌, refl, Bool, true, false, List, [], ◌∷◌, ◌++◌, ℕ, suc, ◌+◌, ◌*◌, ◌≤◌, ◌<◌, length, leb, Ok}
 use Rattle.std.proofs.Common.{ap, ◌∙◌, arith, length-append, leb-true, lt-ltb}
 use Rattle.std.proofs.lemmas.List.{length-replicate}
 use Rattle.laws.specs.Pick.{pick}
@@ -56,6 +56,6 @@ unfolding prepared
 outer_below k = compressed_below initial (words (masked opad (key_block k)))
 
 -- preparing a key that is short enough
-pub keyed_short : (k : List ℕ) → length k < limit → (keyed k).key ≡ prepared k
+pub keyed_short : (k : List ℕ) → length k < limit → keyed k ≡ Ok (prepared k)
 unfolding keyed pick
 keyed_short k h = rw (lt-ltb (length k) limit h)

@@ -1,28 +1,31 @@
--- Each way out is a case of the definition; the hash of a key that is too long has 32 bytes.
-use mathlib.Core.Path.{◌≡◌, ap, ◌∙◌}
-use native.Mathlib.Omega.{arith}
-use lib.ListN.{length}
-use borrow.Author.Tests.{le-leb, lt-leb}
+-- Each way out is a case of the definition.
+use Rattle.std.proofs.Common.{◌∙◌, sym, ap, length, ltb, Ok, Err, arith, lt-ltb, le-leb}
+use Rattle.std.proofs.lemmas.Bool.{lt-leb}
+use Rattle.std.proofs.lemmas.Result.{err_from_is_err_and}
 use Rattle.laws.specs.Pick.{pick}
-use Rattle.sha256.specs.declared.Digest.{Digest}
-use Rattle.sha256.proofs.Laws.Answers.{digest_short}
-use Rattle.sha256.proofs.Laws.Shape.{sha256_length}
+use Rattle.laws.proofs.Chosen.{was_ok, was_err}
+use Rattle.sha256.specs.Sha256.{limit, sha256, digest}
+use Rattle.sha256.specs.declared.HashError.TheVariants.{TooLong}
 use Rattle.hmac.specs.Hmac.{zero_filled, key_block}
-use borrow.Author.Rules.{rules}
 use Rattle.hmac.proofs.block_of.Goals as goal
-
-pub zero_fill-requires-else-k-le64 : goal.zero_fill-requires-else-k-le64
-zero_fill-requires-else-k-le64 c =
-    let long : length c.sha256-d.result.bytes ≡ 32 = ap length (ap (λ (d : Digest). d.bytes) c.sha256-d.ensures ∙ digest_short c.args.k.now c.requires) ∙ sha256_length c.args.k.now in
-    omega (arith, long)
 
 pub returns-then-k-le64 : goal.returns-then-k-le64
 unfolding key_block pick
-returns-then-k-le64 c = rw (le-leb _ 64 c.if-k-le64.true) c.zero_fill.ensures
+returns-then-k-le64 c =
+    let k = c.args.k.now in
+    rw (lt-ltb (length k) limit (omega arith), le-leb _ 64 c.if-k-le64.true) (ap Ok c.zero_fill.ensures)
 
-pub returns-else-k-le64 : goal.returns-else-k-le64
-unfolding key_block pick
-returns-else-k-le64 c =
-    let d = c.sha256-d.ensures in
-    rw (lt-leb _ 64 c.if-k-le64.false)
-    (c.zero_fill-else-k-le64.ensures ∙ ap zero_filled (ap (λ (d : Digest). d.bytes) d ∙ digest_short c.args.k.now c.requires))
+pub returns-in_err-hash : goal.returns-in_err-hash
+unfolding digest pick
+returns-in_err-hash c =
+    let k = c.args.k.now in
+    let w = was_err (ltb (length k) limit) (sha256 k) TooLong _ (sym c.sha256.ensures ∙ c.in_err-hash.was) in
+    let p = err_from_is_err_and c.from_residual.result c.from_residual.ensures.1 in
+    rw (p.1, p.2, w.0) (ap Err (sym w.1))
+
+pub returns : goal.returns
+unfolding key_block digest pick
+returns c =
+    let k = c.args.k.now in
+    let w = was_ok (ltb (length k) limit) (sha256 k) _ TooLong (sym c.sha256.ensures ∙ c.in_ok-hash.was) in
+    rw (w.0, lt-leb _ 64 c.if-k-le64.false) (ap Ok (c.zero_fill-2.ensures ∙ ap zero_filled (sym w.1)))

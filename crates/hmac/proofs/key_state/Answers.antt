@@ -1,5 +1,4 @@
 -- The calls, one inside the other, are the definition.
-use borrow.Author.Rules.{rules}
 use Rattle.hmac.proofs.key_state.Goals as goal
 
 pub returns : goal.returns

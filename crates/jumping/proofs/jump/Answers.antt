@@ -13,4 +13,4 @@ pub returns : goal.returns
 returns c =
     let a = c.args in
     jumped_sent a.m a.t a.ws.now a.coin a.out.now _ _ _ _ _ c.word_at.ensures c.read_fields-given.ensures c.own_fields-f.ensures c.step_of.ensures c.is_above.ensures
-    _ _ _ _ _ (ap not c.if-not-is_above.false) c.stage_of-stage.ensures c.send_copy-s.ensures
+    c.send_copy-s.result _ _ (ap not c.if-not-is_above.false) c.stage_of.ensures c.send_copy-s.ensures

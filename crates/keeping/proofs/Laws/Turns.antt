@@ -1,6 +1,6 @@
 -- What one turn of each loop adds, what its end leaves, and what the tests before it tell: each over plain numbers and lists.
-use Rattle.std.specs.Prelude.{ℕ, suc, ◌+◌, ◌-◌, ◌*◌, ◌≤◌, ◌<◌, Bool, true, false, not, ◌&&◌, List, ◌++◌, ◌≡◌, refl, leb, ltb, length, get_or, take, drop, set, replicate}
-use Rattle.std.proofs.Common.{sym, ap, ◌∙◌, add-one, arith, length-drop, get_or-drop, leb-true, ltb-false}
+use Rattle.std.specs.Prelude.{ℕ, suc, ◌+◌, ◌-◌, ◌*◌, ◌≤◌, ◌<◌, Bool, true, false, not, ◌&&◌, List, ◌++◌, ◌≡◌, refl, leb, ltb, min, length, get_or, take, drop, set, replicate}
+use Rattle.std.proofs.Common.{sym, ap, ◌∙◌, add-one, arith, length-drop, get_or-drop, leb-true, ltb-true, ltb-false}
 use Rattle.std.proofs.Math.Seq.{paste, paste-suc}
 use Rattle.std.proofs.lemmas.Bool.{not-false}
 use Rattle.laws.specs.Pick.{pick}
@@ -34,6 +34,15 @@ least_low a b = go (ltb a b) refl
   where
     go : (t : Bool) → ltb a b ≡ t → pick t a b ≤ a
     go true e = omega arith
+    go false e = omega (arith, ltb-false a b e)
+
+-- the smaller of two numbers, as std has it and as the definition does
+pub min_least : (a b : ℕ) → min a b ≡ least a b
+unfolding least pick
+min_least a b = go (ltb a b) refl
+  where
+    go : (t : Bool) → ltb a b ≡ t → min a b ≡ pick t a b
+    go true e = omega (arith, ltb-true a b e)
     go false e = omega (arith, ltb-false a b e)
 
 pub kept_room : (q have : ℕ) → (words_kept q have ≤ kept_words) × (words_kept q have ≤ have - place_of 1)

@@ -6,10 +6,10 @@ pub returns : goal.returns
 unfolding groups_with
 returns c =
     rw (
-      c.group_after-value.ensures,
-      c.group_after-none.ensures,
-      c.is_lowest-a.ensures,
-      c.is_lowest-b.ensures,
+      c.group_after.ensures,
+      c.group_after-2.ensures,
+      c.is_lowest-for_value.ensures,
+      c.is_lowest-for_none.ensures,
       c.for_value.ensures,
       c.for_none.ensures,
       c.quorum-q.ensures,

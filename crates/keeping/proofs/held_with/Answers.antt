@@ -4,4 +4,4 @@ use Rattle.keeping.proofs.held_with.Goals as goal
 
 pub returns : goal.returns
 unfolding held_with
-returns c = rw (c.with_slot-slots.ensures, c.with_station-heard.ensures)
+returns c = rw (c.with_slot.ensures, c.with_station.ensures)

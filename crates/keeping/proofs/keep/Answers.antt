@@ -5,4 +5,4 @@ use Rattle.keeping.proofs.keep.Goals as goal
 pub returns : goal.returns
 unfolding with_bundle
 returns c =
-    rw (c.groups_with-groups.ensures, c.held_with-held.ensures, c.read_fields-f.ensures, c.word_at.ensures)
+    rw (c.groups_with.ensures, c.held_with-held.ensures, c.read_fields-f.ensures, c.word_at.ensures)

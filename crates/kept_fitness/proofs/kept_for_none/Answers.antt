@@ -6,11 +6,11 @@ pub returns-then-found-eq0 : goal.returns-then-found-eq0
 returns-then-found-eq0 c =
     let a = c.args in
     let s = c.for_none-found in
-    for_none_missing a.n a.stage a.heard a.slots.now s.result c.no_group.result s.ensures c.if-found-eq0.true c.no_group.ensures
+    for_none_missing a.n a.stage a.held.now.heard a.held.now.slots s.result c.no_group.result s.ensures c.if-found-eq0.true c.no_group.ensures
 
 pub returns : goal.returns
 returns c =
     let a = c.args in
     let s = c.for_none-found in
-    for_none_found a.n a.stage a.heard a.slots.now s.result c.votes_for_none.result s.ensures c.round_before_in.result.0 c.if-found-eq0.false
+    for_none_found a.n a.stage a.held.now.heard a.held.now.slots s.result c.votes_for_none.result s.ensures c.round_before_in.result.0 c.if-found-eq0.false
     c.round_before_in.ensures c.votes_for_none.ensures

@@ -13,6 +13,6 @@ returns c =
       c.allows-such.ensures,
       c.scan-one.ensures,
       c.scan-zero.ensures,
-      scan_some (such (Only 0) a.wanted) a.heard a.slots.now,
-      scan_some (such (Only 1) a.wanted) a.heard a.slots.now,
+      scan_some (such (Only 0) a.wanted) a.held.now.heard a.held.now.slots,
+      scan_some (such (Only 1) a.wanted) a.held.now.heard a.held.now.slots,
     )

@@ -6,4 +6,4 @@ use Rattle.refusal.proofs.step_refusal.Goals as goal
 pub returns : goal.returns
 unfolding step_refused step_in
 returns c =
-    rw (c.table.ensures, c.conflicts-clash.ensures, c.in_set-held.ensures, c.step_of-step.ensures, c.step_in-own.ensures)
+    rw (c.first_failed.ensures, c.conflicts-clash.ensures, c.in_set-known.ensures, c.step_of-step.ensures, c.step_in-own.ensures)

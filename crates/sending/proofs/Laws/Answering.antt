@@ -1,5 +1,6 @@
 -- Laws of sending: the count fits the words lent; what the calls answer, put together.
-use Rattle.std.specs.Prelude.{ℕ, ◌+◌, ◌≤◌, Bool, true, false, ◌&&◌, ◌≡◌, refl, leb, length, take}
+use Rattle.std.specs.Prelude.{ℕ, ◌+◌, ◌≤◌, Bool, true, false, ◌&&◌, ◌≡◌, refl, leb, length, take, Result, Ok, Err}
+use Rattle.std.specs.Result.{result_unwrap_or}
 use mathlib.Core.List.{List}
 use Rattle.std.proofs.Math.Path.{ap}
 use Rattle.std.proofs.Common.{◌∙◌, arith, eq-eqb, ne_eqb, leb-true}
@@ -7,12 +8,14 @@ use Rattle.std.specs.Int.Count.{ones}
 use Rattle.laws.specs.Pick.{pick, here, skip}
 use Rattle.laws.specs.Bools.{both}
 use Rattle.format.specs.declared.Fields.{Fields}
+use Rattle.format.specs.declared.Refusal.{Refusal}
+use Rattle.format.specs.Returns.{number_in}
 use Rattle.format.specs.Words.{word_of}
 use Rattle.format.specs.Present.{bundle_words, place_of}
 use Rattle.hmac.specs.Code.{hmac_code}
 use Rattle.modules.specs.declared.Module.{Module}
 use Rattle.sealed.specs.Sealed.{Coded, by_coin}
-use Rattle.sealed.specs.Answers.{Answered}
+use Rattle.sealed.specs.Answers.{Answered, after_in}
 use Rattle.sealed.specs.Present.{coding_plain, coding_coin}
 use Rattle.station.specs.declared.Lasting.{Lasting}
 use Rattle.station.specs.declared.Stage.{Stage}
@@ -93,12 +96,19 @@ module _ (m : Module) (f : Fields) (count : ℕ) (out : List ℕ) where
     skip _ _ _ _ (ne_eqb count 0 some) (ap (λ (l : List ℕ). with_main l out) (ey ∙ ap (λ (z : Coded). z.lent) ex)),
   )
 
-  pub main_tossed : (after : Module) (number : ℕ) (ys : List ℕ) → (count ≡ 0 → ⊥) → by_coin f.kind f.flag ≡ true
-      → Answered (coding_coin hmac_code m (main_part out) f.value) number after ys → (after ≡ coded_after m f count out) × (with_main ys out ≡ coded_lent m f count out)
-  unfolding asked
-  main_tossed after number ys some way a = main_asked (coding_coin hmac_code m (main_part out) f.value) after ys some (here _ _ _ way) a.after_is a.lent_is
+  -- the module after the call, or the one that was given
+  after_call : (r : Result Module Refusal) (u : Module) → u ≡ result_unwrap_or r m → u ≡ after_in m r
+  after_call (Ok x) u e = e
+  after_call (Err x) u e = e
 
-  pub main_plain : (after : Module) (number : ℕ) (ys : List ℕ) → (count ≡ 0 → ⊥) → by_coin f.kind f.flag ≡ false
-      → Answered (coding_plain hmac_code m (main_part out)) number after ys → (after ≡ coded_after m f count out) × (with_main ys out ≡ coded_lent m f count out)
+  pub main_tossed : (r : Result Module Refusal) (u : Module) (ys : List ℕ) → (count ≡ 0 → ⊥) → by_coin f.kind f.flag ≡ true
+      → u ≡ result_unwrap_or r m → Answered (coding_coin hmac_code m (main_part out) f.value) (number_in r) (after_in m r) ys
+      → (u ≡ coded_after m f count out) × (with_main ys out ≡ coded_lent m f count out)
   unfolding asked
-  main_plain after number ys some way a = main_asked (coding_plain hmac_code m (main_part out)) after ys some (skip _ _ _ _ way refl) a.after_is a.lent_is
+  main_tossed r u ys some way e a = main_asked (coding_coin hmac_code m (main_part out) f.value) u ys some (here _ _ _ way) (after_call r u e ∙ a.after_is) a.lent_is
+
+  pub main_plain : (r : Result Module Refusal) (u : Module) (ys : List ℕ) → (count ≡ 0 → ⊥) → by_coin f.kind f.flag ≡ false
+      → u ≡ result_unwrap_or r m → Answered (coding_plain hmac_code m (main_part out)) (number_in r) (after_in m r) ys
+      → (u ≡ coded_after m f count out) × (with_main ys out ≡ coded_lent m f count out)
+  unfolding asked
+  main_plain r u ys some way e a = main_asked (coding_plain hmac_code m (main_part out)) u ys some (skip _ _ _ _ way refl) (after_call r u e ∙ a.after_is) a.lent_is

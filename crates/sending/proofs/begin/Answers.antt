@@ -13,4 +13,4 @@ slice_bounds-keep-end c = simp length-take (omega (arith, c.requires))
 
 pub returns : goal.returns
 unfolding sent_station blank
-returns c = c.keep.ensures ∙ ap (λ (t : Station). with_bundle t (take c.args.count c.args.out.now)) c.empty-t.ensures
+returns c = c.keep.ensures ∙ ap (λ (t : Station). with_bundle t (take c.args.count c.args.out.now)) c.empty.ensures

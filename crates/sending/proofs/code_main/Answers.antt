@@ -14,12 +14,12 @@ slice_bounds-code_coin-end c = omega (arith, c.requires c.if-count-eq0.false)
 pub returns-then-f : goal.returns-then-f
 returns-then-f c =
     let a = c.args in
-    main_tossed a.m a.f a.count a.out.now _ _ _ c.if-count-eq0.false c.if-f.true c.code_coin-tossed.ensures
+    main_tossed a.m a.f a.count a.out.now c.code_coin.result _ _ c.if-count-eq0.false c.if-f.true c.unwrap_or.ensures c.code_coin.ensures
 
 pub slice_bounds-code_plain-end : goal.slice_bounds-code_plain-end
 slice_bounds-code_plain-end c = omega (arith, c.requires c.if-count-eq0.false)
 
-pub returns : goal.returns
-returns c =
+pub returns-else-f : goal.returns-else-f
+returns-else-f c =
     let a = c.args in
-    main_plain a.m a.f a.count a.out.now _ _ _ c.if-count-eq0.false c.if-f.false c.code_plain-coded.ensures
+    main_plain a.m a.f a.count a.out.now c.code_plain.result _ _ c.if-count-eq0.false c.if-f.false c.unwrap_or-else-f.ensures c.code_plain.ensures

@@ -1,10 +1,6 @@
 -- The block's words are those of its first 64 bytes, which are all.
-use mathlib.Core.Path.{ap, ◌≡◌, ◌∙◌}
-use lib.ListN.{length}
-use lib.Seq.{take_all}
-use native.Mathlib.Omega.{arith}
+use Rattle.std.proofs.Common.{◌≡◌, ap, ◌∙◌, length, take_all, arith, rules}
 use Rattle.sha256.specs.Sha256.{words}
-use borrow.Author.Rules.{rules}
 use Rattle.sha256.proofs.block_words.Goals as goal
 
 pub returns : goal.returns

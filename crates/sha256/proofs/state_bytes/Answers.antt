@@ -1,28 +1,19 @@
--- Each turn writes one word's bytes: the bytes so far, and those of the words that remain, are the state's.
-use mathlib.Core.Path.{refl, sym, ◌∙◌}
-use native.Mathlib.Omega.{arith}
-use lib.ListN.{length-set}
-use Rattle.sha256.proofs.Out.{spelt, all_spelt}
-use borrow.Author.Rules.{rules}
+-- Each turn writes one word's bytes; after the eighth no word remains.
+use Rattle.std.proofs.Common.{◌≡◌, length, sym, ◌∙◌, arith, rules}
+use Rattle.sha256.proofs.Out.{spelt, kept, all_spelt}
 use Rattle.sha256.proofs.state_bytes.Goals as goal
-
-pub loop-i-init : goal.loop-i-init
-loop-i-init c = (search rules, (refl, (search rules, refl)))
 
 pub loop-i-preserved : goal.loop-i-preserved
 loop-i-preserved c =
-    let l = c.loop-i in (
-      omega arith,
-      (
-        simp length-set l.invariant.1.0,
-        (
-          l.invariant.1.1.0,
-          spelt c.args.h l.r l.i _ _ _ _ c.loop-i-test.true l.invariant.1.1.0 l.invariant.1.0 refl refl refl refl ∙ l.invariant.1.1.1,
-        ),
-      ),
+    let l = c.loop-i in
+    let four : length c.copy_from_slice.new.self ≡ 4 = search rules in (
+      kept l.r c.copy_from_slice.new.self l.i _ c.loop-i-test.true l.invariant.0 four (omega arith),
+      spelt c.args.h l.r c.copy_from_slice.new.self l.i _ c.loop-i-test.true (search rules) l.invariant.0
+          (c.copy_from_slice.ensures.after ∙ c.to_be_bytes-four.ensures)
+          ∙ l.invariant.1,
     )
 
 pub returns : goal.returns
 returns c =
     let l = c.loop-i in
-    sym (all_spelt c.args.h l.r l.i c.loop-i-test.false l.invariant.0 l.invariant.1.1.0 l.invariant.1.0) ∙ l.invariant.1.1.1
+    sym (all_spelt c.args.h l.r l.i (omega arith) (omega arith) (search rules) l.invariant.0) ∙ l.invariant.1

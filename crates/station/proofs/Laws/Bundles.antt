@@ -1,5 +1,5 @@
 -- A bundle that is written of a proper statement and a certificate that backs it is valid.
-use Rattle.std.specs.Prelude.{ℕ, suc, ◌+◌, ◌-◌, ◌*◌, ◌^◌, ◌≤◌, Bool, true, false, ◌≡◌, refl, eqb, ltb, length, drop}
+use Rattle.std.specs.Prelude.{ℕ, suc, ◌+◌, ◌*◌, ◌^◌, ◌≤◌, Bool, true, false, ◌≡◌, refl, eqb, ltb, length, drop}
 use mathlib.Core.List.{List, [], ◌∷◌, ◌++◌, append-nil}
 use Rattle.std.proofs.Math.Path.{sym, ap, subst}
 use Rattle.std.proofs.Common.{◌∙◌, arith, length-append, drop_at, eqb-true, ltb-true, ltb-false}
@@ -10,7 +10,7 @@ use Rattle.format.specs.Form.{Form, most_stations, most_statements, head_bits, f
 use Rattle.format.proofs.Form.{count_fits, head_in_bits, groups_fit}
 use Rattle.format.specs.Numbers.{least_stations, head_mark, mark_bit, count_bits}
 use Rattle.format.proofs.Laws.Group.{backing_most}
-use Rattle.format.specs.Statement.{Statement, statement, statements, written, verifies, formed}
+use Rattle.format.specs.Statement.{Statement, statements, written, verifies, formed}
 use Rattle.format.specs.Bundle.{count_in, main_of, certificate_of, all_formed, all_written, bundle_of}
 use Rattle.rules.specs.Rules.{Backed, rule_1, rule_2, rule_3, rule_4, rule_5, rule_6, rule_7, some_d_get}
 use Rattle.certificate.specs.Valid.{IsBundle, Valid}

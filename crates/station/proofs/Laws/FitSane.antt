@@ -1,6 +1,6 @@
 -- A station that fits, and is not closed, is sane.
 use Prim.Native.Nat.{ℕ, zero, suc, ◌+◌, ◌-◌, ◌*◌, ◌/◌, ◌%◌, ◌^◌, ◌≤◌, ◌<◌}
-use Rattle.std.specs.Prelude.{Bool, not, ◌&&◌, ◌≡◌, take, drop}
+use Rattle.std.specs.Prelude.{Bool, ◌&&◌, ◌≡◌, take, drop}
 use Rattle.std.proofs.Math.Bool.{true, false}
 use mathlib.Core.List.{List, [], ◌∷◌}
 use Rattle.std.proofs.Math.Path.{refl, ap}

@@ -20,7 +20,6 @@ use Rattle.rules.specs.declared.Group.{Group}
 use Rattle.rules.specs.Rules.{Holds, none_votes, Backed}
 use Rattle.rules.proofs.Theorems.Copied.{backed_copied}
 use Rattle.modules.specs.declared.Module.{Module}
-use Rattle.modules.specs.Counter.{last_for}
 use Rattle.station.specs.declared.Stage.{Stage}
 use Rattle.station.specs.declared.Stage.TheVariants.{Gathering, Proposing, Voting}
 use Rattle.station.specs.declared.Station.{Station}

@@ -1,5 +1,5 @@
 -- A station that takes a valid bundle of its step, and does not end the step with it, stays sane.
-use Rattle.std.specs.Prelude.{ℕ, zero, suc, ◌+◌, ◌-◌, ◌*◌, ◌≤◌, ◌<◌, Bool, not, ◌&&◌, ◌||◌, ◌⊎◌, List, [], ◌∷◌, ◌++◌, ◌≡◌, eqb, length, take}
+use Rattle.std.specs.Prelude.{ℕ, zero, suc, ◌+◌, ◌-◌, ◌*◌, ◌≤◌, ◌<◌, Bool, ◌&&◌, ◌||◌, ◌⊎◌, List, [], ◌∷◌, ◌++◌, ◌≡◌, eqb, length, take}
 use Rattle.std.proofs.Math.Bool.{true, false}
 use Rattle.std.proofs.Common.{inl, inr, ap, ◌∙◌, subst, arith, take_at, take_all, eqb-true, eq-eqb, ne_eqb, ltb-true}
 use Rattle.std.proofs.Math.Path.{refl, sym}

@@ -1,11 +1,10 @@
 -- Lists of statements at the end of a step: counts, parts, and what all or some of them have.
-use Rattle.std.specs.Prelude.{ℕ, zero, suc, ◌+◌, ◌-◌, ◌≤◌, ◌<◌, Bool, true, false, not, ◌&&◌, ◌||◌, List, [], ◌∷◌, ◌≡◌, refl, eqb, length, take}
+use Rattle.std.specs.Prelude.{ℕ, zero, suc, ◌+◌, ◌≤◌, ◌<◌, Bool, true, false, ◌&&◌, ◌||◌, List, [], ◌∷◌, ◌≡◌, refl, eqb, length, take}
 use Rattle.std.proofs.Common.{ap, arith, eqb-true, eq-eqb}
 use Rattle.std.proofs.lemmas.Bool.{eqb-false}
 use Rattle.laws.specs.Pick.{pick}
 use Rattle.laws.specs.Bools.{never, join, left, right}
 use Rattle.laws.specs.All.{All}
-use Rattle.format.specs.Numbers.{none}
 use Rattle.format.specs.Statement.{Statement}
 use Rattle.format.specs.Lists.{some, every, number_of, those, leading}
 use Rattle.rules.specs.declared.Which.{Which}

@@ -1,56 +1,115 @@
 -- For the code: its tests are those of the definitions, and what it reads and writes part by part is what they say.
-use Rattle.std.specs.Prelude.{ℕ, ◌+◌, ◌-◌, ◌≤◌, Bool, true, false, not, ◌&&◌, List, [], ◌∷◌, ◌++◌, ◌≡◌, refl, eqb, leb, length, take, drop, get_or, replicate}
-use Rattle.std.proofs.Common.{append_assoc, sym, ◌∙◌, arith, length-drop, length-take-le}
+use Rattle.std.specs.Prelude.{ℕ, ◌+◌, ◌≤◌, Bool, true, false, ◌&&◌, List, [], ◌∷◌, ◌++◌, ◌≡◌, refl, eqb, leb, length, get_or, Option, Some, None, ok_or, Ok, Err}
+use Rattle.std.proofs.Common.{append_assoc, sym, ◌∙◌, arith}
 use Rattle.std.proofs.Math.Path.{ap}
-use Rattle.std.proofs.lemmas.List.{length-replicate}
-use borrow.Author.Tests.{eqb-true, eq-eqb, ne_eqb, le-leb, leb-true, not-true, not-false}
+use mir.Val.{bool_byte}
+use borrow.Author.Tests.{eqb-true, eq-eqb, ne_eqb, leb-true}
 use Rattle.laws.specs.Pick.{pick, here, skip}
-use Rattle.laws.specs.Bools.{both}
+use Rattle.laws.specs.Bools.{both, join, never, is_false}
 use Rattle.laws.specs.Over.{over}
 use Rattle.format.specs.Numbers.{malformed}
+use Rattle.format.specs.Returns.{refusal_number}
+use Rattle.format.specs.declared.Refusal.{Refusal}
+use Rattle.format.specs.declared.Refusal.TheVariants.{Malformed}
+use Rattle.format.proofs.Laws.Returns.{above}
 use Rattle.station.specs.declared.Stage.{Stage}
 use Rattle.station.specs.declared.Stage.TheVariants.{Gathering, Proposing, Voting}
 use Rattle.station.specs.declared.Station.{Station}
-use Rattle.station.specs.Present.{no_station}
-use Rattle.station_words.specs.Words.{station_words, slots_at, stage_at, closed_at, jump_at, stage_words, truth_word, settings_of, sets_of, statements_of, words_of, is_stage, is_station, part, station_in, flag_fits, refusal, reading, writing, Writing, Wrote}
-use Rattle.station_words.specs.Laws.Put.{put_at, put_whole}
+use Rattle.station.specs.Present.{no_station, slots_words, kept_words}
+use Rattle.station_words.specs.Words.{station_words, slots_at, value_at, none_at, stage_at, closed_at, decision_at, heard_at, jump_at, stage_words, truth_word, settings_of, sets_of, statements_of, words_of, is_stage, is_station, stage_in, part, identity_in, station_in, flag_fits, refusal, read_by, reading, writing, Writing, written_by}
 use Rattle.station_words.proofs.Laws.Back.{head_length}
 
+-- ---- a parser's answer: some value where a test holds
+none_of : {A : Type 0} (b : Bool) (x : A) → pick b (Some x) None ≡ None → b ≡ false
+unfolding pick
+none_of true x e = absurd cc
+none_of false x e = refl
+
+some_of : {A : Type 0} (b : Bool) (x y : A) → pick b (Some x) None ≡ Some y → (b ≡ true) × (x ≡ y)
+unfolding pick
+some_of true x y e = (refl, cc)
+some_of false x y e = absurd cc
+
 -- ---- whether words are a station
-pub not_long : (ws : List ℕ) → (length ws ≡ station_words → ⊥) → false ≡ is_station ws
-unfolding is_station
-not_long ws h = rw (ne_eqb (length ws) station_words h)
+module _ (ws : List ℕ) where
+  abbrev staged : Bool
+  staged = is_stage (get_or ws stage_at 0) (get_or ws (stage_at + 1) 0) (get_or ws (stage_at + 2) 0)
 
-pub long : (ws : List ℕ) (b : Bool) → length ws ≡ station_words → b ≡ is_stage (get_or ws stage_at 0) (get_or ws (stage_at + 1) 0) (get_or ws (stage_at + 2) 0)
-    → (b && leb (get_or ws closed_at 0) 1 && leb (get_or ws jump_at 0) 1) ≡ is_station ws
-unfolding is_station
-long ws b e b_is = rw (eq-eqb (length ws) station_words e, b_is)
+  abbrev stage_read : Option Stage
+  stage_read = pick staged (Some (stage_in (get_or ws stage_at 0) (get_or ws (stage_at + 1) 0) (get_or ws (stage_at + 2) 0))) None
 
--- ---- a part of the words, put over zeros
-pub part_put : (ws : List ℕ) (at count : ℕ) → at + count ≤ length ws
-    → put_at (replicate {A = ℕ} count 0) 0 (take (at + count - at) (drop at ws)) ≡ part at count ws
-unfolding part
-part_put ws at count h =
-    let e : at + count - at ≡ count = omega arith in
-    rw e
-    (put_whole (take count (drop at ws)) (replicate {A = ℕ} count 0)
-    (length-take-le count (drop at ws) (rw length-drop (omega arith)) ∙ sym (length-replicate {A = ℕ} count 0)))
+  abbrev truth_read : ℕ → Option Bool
+  truth_read w = pick (leb w 1) (Some (eqb w 1)) None
+
+  abbrev station_read : Option Station
+  station_read = pick (is_station ws) (Some (station_in ws)) None
+
+  -- what a station's words are
+  parts : is_station ws ≡ true → (length ws ≡ station_words) × (staged ≡ true) × (leb (get_or ws closed_at 0) 1 ≡ true) × (leb (get_or ws jump_at 0) 1 ≡ true)
+  unfolding is_station
+  parts h =
+      let a = both (eqb (length ws) station_words) _ h in
+      let b = both (staged && leb (get_or ws closed_at 0) 1) _ a.1 in
+      let c = both staged _ b.0 in
+      (eqb-true _ _ a.0, c.0, c.1, b.1)
+
+  none_read : (is_station ws ≡ true → ⊥) → None ≡ station_read
+  none_read h = skip (is_station ws) (Some (station_in ws)) None None (is_false (is_station ws) h) refl
+
+  -- words of another length, and words of which a part cannot be read, are none
+  pub not_long : (length ws ≡ station_words → ⊥) → None ≡ station_read
+  not_long h = none_read (λ is. h (parts is).0)
+
+  pub no_stage : stage_read ≡ None → None ≡ station_read
+  no_stage e = none_read (λ is. never staged (none_of staged _ e) (parts is).1)
+
+  pub no_closed : truth_read (get_or ws closed_at 0) ≡ None → None ≡ station_read
+  no_closed e = none_read (λ is. never (leb (get_or ws closed_at 0) 1) (none_of (leb (get_or ws closed_at 0) 1) _ e) (parts is).2)
+
+  pub no_jump : truth_read (get_or ws jump_at 0) ≡ None → None ≡ station_read
+  no_jump e = none_read (λ is. never (leb (get_or ws jump_at 0) 1) (none_of (leb (get_or ws jump_at 0) 1) _ e) (parts is).3)
+
+  -- all parts that were read are the station
+  pub all_read : (g : Stage) (c j : Bool) (s v n : List ℕ) → length ws ≡ station_words → stage_read ≡ Some g
+      → truth_read (get_or ws closed_at 0) ≡ Some c → truth_read (get_or ws jump_at 0) ≡ Some j
+      → s ≡ part slots_at slots_words ws → v ≡ part value_at kept_words ws → n ≡ part none_at kept_words ws
+      → Some (record {
+        identity = identity_in ws;
+        stage = g;
+        closed = c;
+        lasting = record { jump = j; decision = get_or ws decision_at 0 };
+        held = record { heard = get_or ws heard_at 0; slots = s };
+        groups = record { value = v; none = n };
+      }) ≡ station_read
+  unfolding is_station station_in
+  all_read g c j s v n long g_is c_is j_is s_is v_is n_is =
+      let sg = some_of staged _ g g_is in
+      let sc = some_of (leb (get_or ws closed_at 0) 1) _ c c_is in
+      let sj = some_of (leb (get_or ws jump_at 0) 1) _ j j_is in
+      (λ i. Some (record {
+        identity = identity_in ws;
+        stage = sym sg.1 i;
+        closed = sym sc.1 i;
+        lasting = record { jump = sym sj.1 i; decision = get_or ws decision_at 0 };
+        held = record { heard = get_or ws heard_at 0; slots = s_is i };
+        groups = record { value = v_is i; none = n_is i };
+      }))
+      ∙ here (is_station ws) (Some (station_in ws)) None
+      (join (eqb (length ws) station_words) _ (eq-eqb _ _ long)
+      (join (staged && leb (get_or ws closed_at 0) 1) _ (join staged _ sg.0 sc.0) sj.0))
+
+-- ---- the word of a truth
+pub truth_is : (so : Bool) (w : ℕ) → w ≡ bool_byte so → w ≡ truth_word so
+unfolding truth_word pick
+truth_is true w e = e
+truth_is false w e = e
 
 -- ---- the refusals of writing
-module _ (t : Station) (lent : ℕ) (b : Bool) (room : station_words ≤ lent) (b_is : b ≡ flag_fits t.stage) where
-  pub flag_over : not b ≡ true → 2 ≡ refusal t lent
-  unfolding refusal
-  flag_over e = here (leb station_words lent) 2 1 (le-leb station_words lent room) ∙ ap (λ (x : ℕ). pick (leb station_words lent) x 1) (skip (flag_fits t.stage) 0 2 2 (sym b_is ∙ not-true b e) refl)
-
-  pub none_refused : not b ≡ false → 0 ≡ refusal t lent
-  unfolding refusal
-  none_refused e = here (leb station_words lent) 0 1 (le-leb station_words lent room) ∙ ap (λ (x : ℕ). pick (leb station_words lent) x 1) (here (flag_fits t.stage) 0 2 (sym b_is ∙ not-false b e))
-
-pub has_room : (t : Station) (lent k : ℕ) → k ≡ refusal t lent → k ≡ 0 → station_words ≤ lent
+pub has_room : (t : Station) (lent : ℕ) → 0 ≡ refusal t lent → station_words ≤ lent
 unfolding refusal pick
-has_room t lent k e z = go (leb station_words lent) refl (sym e ∙ z)
+has_room t lent e = go (leb station_words lent) refl e
   where
-    go : (r : Bool) → leb station_words lent ≡ r → ◌≡◌ {A = ℕ} (pick r (pick (flag_fits t.stage) 0 2) 1) 0 → station_words ≤ lent
+    go : (r : Bool) → leb station_words lent ≡ r → ◌≡◌ {A = ℕ} 0 (pick r (pick (flag_fits t.stage) 0 2) 1) → station_words ≤ lent
     go true q h = leb-true station_words lent q
     go false q h = absurd (omega arith)
 
@@ -90,29 +149,23 @@ words_put t out words jump xs e je xs_are =
     ∙ ap (λ (x : List ℕ). over (x ++ (truth_word t.lasting.jump ∷ [])) out) w
 
 -- ---- the calls
-pub read_none : (ws : List ℕ) (b : Bool) (t : Station) → b ≡ is_station ws → not b ≡ true → t ≡ no_station → record { number = malformed; station = t } ≡ reading ws
-unfolding reading
-read_none ws b t b_is e t_is = (λ i. record { number = 3; station = t_is i }) ∙ skip (is_station ws) _ _ _ (sym b_is ∙ not-true b e) refl
+pub read_is : (ws : List ℕ) (r : Option Station) → r ≡ station_read ws → read_by (ok_or r Malformed) ≡ reading ws
+unfolding reading pick
+read_is ws r e = ap (λ (x : Option Station). read_by (ok_or x Malformed)) e ∙ go (is_station ws)
+  where
+    go : (b : Bool) → read_by (ok_or (pick b (Some (station_in ws)) None) Malformed)
+        ≡ pick b (record { number = 0; station = station_in ws }) (record { number = malformed; station = no_station })
+    go true = refl
+    go false = refl
 
-pub read_one : (ws : List ℕ) (b : Bool) (t : Station) → b ≡ is_station ws → not b ≡ false → t ≡ station_in ws → record { number = 0; station = t } ≡ reading ws
-unfolding reading
-read_one ws b t b_is e t_is = (λ i. record { number = 0; station = t_is i }) ∙ here (is_station ws) _ _ (sym b_is ∙ not-false b e)
-
-pub all_there : (ws : List ℕ) (b : Bool) → b ≡ is_station ws → not b ≡ false → length ws ≡ station_words
-unfolding is_station
-all_there ws b b_is e = eqb-true (length ws) station_words (both (eqb (length ws) station_words) _ (sym b_is ∙ not-false b e)).0
-
-pub not_wrote : (t : Station) (out : List ℕ) (k : ℕ) → k ≡ refusal t (length out) → (k ≡ 0 → ⊥) → Wrote (writing t out) k 0 out
+pub not_wrote : (t : Station) (out : List ℕ) (e : Refusal) → refusal_number e ≡ refusal t (length out) → written_by out (Err e) ≡ writing t out
 unfolding writing
-not_wrote t out k e no_0 =
-    let f : eqb (refusal t (length out)) 0 ≡ false = ne_eqb (refusal t (length out)) 0 (λ z. no_0 (e ∙ z)) in
-    let x = skip {A = Writing} (eqb (refusal t (length out)) 0) (record { number = 0; count = station_words; lent = over (words_of t) out })
-    (record { number = refusal t (length out); count = 0; lent = out }) (record { number = refusal t (length out); count = 0; lent = out }) f refl in
-    record { number_is = e ∙ ap (λ (y : Writing). y.number) x; count_is = ap (λ (y : Writing). y.count) x; lent_is = ap (λ (y : Writing). y.lent) x }
+not_wrote t out e e_is =
+    (λ i. record { number = e_is i; count = 0; lent = out })
+    ∙ skip {A = Writing} (eqb (refusal t (length out)) 0) _ _ _ (ne_eqb (refusal t (length out)) 0 (λ z. absurd (omega (arith, above e, e_is, z)))) refl
 
-pub wrote : (t : Station) (out xs : List ℕ) (k : ℕ) → k ≡ refusal t (length out) → k ≡ 0 → xs ≡ over (words_of t) out → Wrote (writing t out) 0 station_words xs
+pub wrote : (t : Station) (out xs : List ℕ) → 0 ≡ refusal t (length out) → xs ≡ over (words_of t) out → written_by xs (Ok station_words) ≡ writing t out
 unfolding writing
-wrote t out xs k e z xs_are =
-    let f : eqb (refusal t (length out)) 0 ≡ true = eq-eqb (refusal t (length out)) 0 (sym e ∙ z) in
-    let x = here {A = Writing} (eqb (refusal t (length out)) 0) (record { number = 0; count = station_words; lent = over (words_of t) out }) (record { number = refusal t (length out); count = 0; lent = out }) f in
-    record { number_is = ap (λ (y : Writing). y.number) x; count_is = ap (λ (y : Writing). y.count) x; lent_is = xs_are ∙ ap (λ (y : Writing). y.lent) x }
+wrote t out xs z xs_are =
+    (λ i. record { number = 0; count = station_words; lent = xs_are i })
+    ∙ here {A = Writing} (eqb (refusal t (length out)) 0) _ _ (eq-eqb (refusal t (length out)) 0 (sym z))

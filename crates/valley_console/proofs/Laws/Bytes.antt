@@ -1,13 +1,13 @@
 -- The run byte by byte, in the middle between lines and pieces: a fold over the bytes prints what the lines print (`by_lines`), by standing for
 -- the bytes of the line that is not done.
-use Rattle.std.specs.Prelude.{◌≡◌, ℕ, suc, ◌+◌, ◌%◌, ◌^◌, ◌<◌, ◌≤◌, Bool, true, false, not, ◌&&◌, ltb, List, [], ◌∷◌, ◌++◌, length, take, ◌==◌, nat_eq, nat_le, nat_lt, slice_set, refl}
+use Rattle.std.specs.Prelude.{◌≡◌, ℕ, suc, ◌+◌, ◌%◌, ◌^◌, ◌<◌, ◌≤◌, Bool, true, false, not, ◌&&◌, ltb, List, [], ◌∷◌, ◌++◌, Option, Some, None, length, take, ◌==◌, nat_eq, nat_le, nat_lt, slice_set, refl}
 use Rattle.std.proofs.Common.{append_assoc, append-nil, sym, ap, ◌∙◌, subst, arith, length-set, length-append, take-suc-set, take_all, length-take-le, lt-ltb, le-ltb, ltb-true, ltb-false, eqb-true}
 use Rattle.std.proofs.lemmas.List.{take-append-le}
 use Rattle.std.proofs.lemmas.Bool.{not-true}
 use Rattle.laws.specs.Pick.{pick}
 use Rattle.laws.specs.Bools.{both, join}
 use Rattle.valley_lines.specs.declared.Line.{Line}
-use Rattle.valley_lines.specs.declared.Line.TheVariants.{Group, Open, Give, Unreadable}
+use Rattle.valley_lines.specs.declared.Line.TheVariants.{Group, Open, Give}
 use Rattle.valley_lines.specs.Read.{newline, longer, split, read_line}
 use Rattle.valley_lines.proofs.Laws.Short.{capped}
 use Rattle.valley_world.specs.declared.Phase.{Phase}
@@ -164,29 +164,29 @@ unfolding line_done no_newline
 stands_anew r text s = record { kept = refl; many = refl; room = s.room; one_line = refl }
 
 -- a line that is done is not missing
-not_missing : (p : Phase) (w : World) (number k : ℕ) (l : Line) → missing (turn p w number l).phase k ≡ []
+not_missing : (p : Phase) (w : World) (number k : ℕ) (l : Option Line) → missing (turn p w number l).phase k ≡ []
 unfolding turn first_turn later_turn event bad told missing pick
-not_missing First w number k (Group n) = go (nat_le least_n n && nat_le n most_n)
+not_missing First w number k (Some (Group n)) = go (nat_le least_n n && nat_le n most_n)
   where
     go : (t : Bool) → missing (pick t (record { phase = Running; world = group_of n; printed = [] }) (bad w number)).phase k ≡ []
     go true = refl
     go false = refl
-not_missing First w number k (Open s v) = refl
-not_missing First w number k (Give s b c) = refl
-not_missing First w number k Unreadable = refl
-not_missing Running w number k (Group n) = refl
-not_missing Running w number k (Open s v) = go (one_too_many w (opens w s v))
+not_missing First w number k (Some (Open s v)) = refl
+not_missing First w number k (Some (Give s b c)) = refl
+not_missing First w number k None = refl
+not_missing Running w number k (Some (Group n)) = refl
+not_missing Running w number k (Some (Open s v)) = go (one_too_many w (opens w s v))
   where
     go : (t : Bool) → missing (pick t (bad w number) (told (after_opening w s (opens w s v)) number s (opens w s v).number)).phase k ≡ []
     go true = refl
     go false = refl
-not_missing Running w number k (Give s b c) = go (is_open w s && is_written w b) (one_too_many w (gives w s b c))
+not_missing Running w number k (Some (Give s b c)) = go (is_open w s && is_written w b) (one_too_many w (gives w s b c))
   where
     go : (o t : Bool) → missing (pick o (pick t (bad w number) (told (after w s (gives w s b c)) number s (gives w s b c).number)) (bad w number)).phase k ≡ []
     go true true = refl
     go true false = refl
     go false t = refl
-not_missing Running w number k Unreadable = refl
+not_missing Running w number k None = refl
 not_missing Ended w number k l = refl
 
 -- the end of the input, as lines and as bytes
@@ -200,7 +200,7 @@ at_end r (b ∷ bs) many one e =
 -- the line that is there is read as the whole line
 read_kept : (r : Run) (text : List ℕ) → Stands r text → line_turn r ≡ turn r.phase r.world r.number (read_line text)
 unfolding line_turn
-read_kept r text s = ap (λ (l : Line). turn r.phase r.world r.number l) (ap read_line s.kept ∙ capped text)
+read_kept r text s = ap (λ (l : Option Line). turn r.phase r.world r.number l) (ap read_line s.kept ∙ capped text)
 
 -- a newline: the line is done, and the rest follows
 one_line_more : (r : Run) (text bs : List ℕ) → Stands r text → r.number + 1 < 2 ^ 64 →

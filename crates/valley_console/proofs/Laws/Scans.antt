@@ -99,10 +99,10 @@ module _ (piece : List ℕ) (i held : ℕ) (line : List ℕ) (inside : i < lengt
   unfolding pick
   scan_full e h = sym (scan_next e ∙ rw (le-ltb held most_kept h))
 
-pub scan_end : (piece : List ℕ) (i held : ℕ) (line : List ℕ) → length piece ≤ i
-    → ◌≡◌ {A = Scanned} (record { used = i; ended = false; held = held; line = line }) (behind i (scanned held line (drop i piece)))
+pub scan_end : (piece : List ℕ) (i held : ℕ) (line : List ℕ) → i ≡ length piece
+    → ◌≡◌ {A = Scanned} (record { used = length piece; ended = false; held = held; line = line }) (behind i (scanned held line (drop i piece)))
 unfolding scanned
 scan_end piece i held line h =
-    let e : i ≡ i + 0 = omega arith in
-    let d : drop i piece ≡ [] = drop_of_length-le piece h in
+    let e : length piece ≡ i + 0 = omega arith in
+    let d : drop i piece ≡ [] = drop_of_length-le piece (omega arith) in
     rw d (λ j. record { used = e j; ended = false; held = held; line = line })

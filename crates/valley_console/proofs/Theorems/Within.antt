@@ -26,6 +26,12 @@ bounds (b ∷ piece) r out = go (b == newline) (bounds piece (lengthened r b) ou
     go true ih = record { some = λ h. omega arith; within = omega arith; lent = fits (line_turn r).printed out }
     go false ih = record { some = λ h. omega arith; within = omega (arith, ih.within); lent = ih.lent }
 
+-- the same of what a call says that it took
+pub piece_taken : (piece out : List ℕ) (r : Run) (used : ℕ) → used ≡ (taking r piece out).used → (0 < length piece → 0 < used) × (used ≤ length piece)
+piece_taken piece out r used e =
+    let b = bounds piece r out in
+    (λ h. omega (arith, e, b.some h), omega (arith, e, b.within))
+
 -- the same of what is left of a piece behind its first bytes
 pub rest_taken : (piece out : List ℕ) (r : Run) (before used : ℕ) → before < length piece → used ≡ (taking r (take (length piece - before) (drop before piece)) out).used → (before < before + used) × (before + used ≤ length piece)
 rest_taken piece out r before used h e =

@@ -1,25 +1,20 @@
 -- Laws that join the parts of a turn.
-use Rattle.std.specs.Prelude.{ℕ, ◌-◌, ◌≤◌, ◌<◌, Bool, true, false, not, ◌&&◌, List, [], ◌≡◌, refl, ltb, leb, length}
-use Rattle.std.proofs.Common.{sym, ap, ◌∙◌, subst, arith, lt-ltb, le-ltb, le-leb}
+use Rattle.std.specs.Prelude.{ℕ, ◌≤◌, ◌<◌, Bool, true, false, not, ◌&&◌, List, [], Option, Some, None, ◌≡◌, refl, ltb, leb}
+use Rattle.std.proofs.Common.{sym, ap, ◌∙◌, subst, arith, lt-ltb, le-ltb, le-leb, leb-true}
 use Rattle.std.proofs.lemmas.Bool.{lt-leb, not-true, not-false}
 use Rattle.laws.specs.Pick.{pick}
-use Rattle.laws.specs.Over.{over}
-use Rattle.valley_lines.specs.declared.Line.TheVariants.{Group, Give}
+use Rattle.valley_lines.specs.declared.Line.{Line}
+use Rattle.valley_lines.specs.declared.Line.TheVariants.{Group, Open, Give}
+use Rattle.laws.specs.Bools.{both, is_false}
 use Rattle.station.specs.Calls.{Returned}
 use Rattle.valley_world.specs.declared.Phase.{Phase}
 use Rattle.valley_world.specs.declared.World.{World}
-use Rattle.valley_printing.specs.Print.{event_line, bad_line}
-use Rattle.valley_world.specs.declared.Phase.TheVariants.{Running, Ended}
-use Rattle.valley_world.specs.Valley.{Turn, group_of, least_n, most_n, most_bundles, after, after_opening, bad, shown_step, shown_decision, told, event, is_open, is_written, first_turn, later_turn, gives}
+use Rattle.valley_world.specs.declared.Phase.TheVariants.{Running}
+use Rattle.valley_world.specs.Valley.{Turn, group_of, least_n, most_n, most_bundles, after, after_opening, bad, told, event, is_open, is_written, first_turn, later_turn, gives}
 use Rattle.valley_world.specs.Group.{moved}
 use Rattle.valley_events.specs.Turns.{Printed, Turned, with_bundle}
 
 -- ---- printing
--- what a printing call promises, of another name for the printed bytes
-pub printed_as : {l : List ℕ} {k : List ℕ} {count : ℕ} {before : List ℕ} {lent : List ℕ} → l ≡ k
-    → (count ≡ length l) × (lent ≡ over l before) → Printed k count before lent
-printed_as {before = before} e h = record { count_is = h.0 ∙ ap length e; lent_is = h.1 ∙ ap (λ (x : List ℕ). over x before) e }
-
 pub nothing : (before : List ℕ) → Printed [] 0 before before
 nothing before = record { count_is = refl; lent_is = refl }
 
@@ -30,32 +25,34 @@ turned_as {phase = phase} {world = world} {count = count} {before = before} {len
     subst (λ (x : Turn). Turned x phase world count before lent) e h
 
 -- ---- the turns
-pub bad_turned : (w : World) (number count : ℕ) (before lent : List ℕ)
-    → (count ≡ length (bad_line number)) × (lent ≡ over (bad_line number) before)
-    → Turned (bad w number) Ended w count before lent
-unfolding bad
-bad_turned w number count before lent h = record { phase_is = refl; world_is = refl; prints = printed_as refl h }
-
-pub told_turned : (w : World) (number s returned event step decision count : ℕ) (before lent : List ℕ) → event ≡ number - 1
-    → step ≡ shown_step w s → decision ≡ shown_decision w s
-    → (count ≡ length (event_line event returned step decision))
-    × (lent ≡ over (event_line event returned step decision) before)
-    → Turned (told w number s returned) Running w count before lent
-unfolding told
-told_turned w number s returned event step decision count before lent e_is s_is d_is h =
-    record { phase_is = refl; world_is = refl; prints = printed_as (λ i. event_line (e_is i) returned (s_is i) (d_is i)) h }
-
--- a group of a size that is not allowed
-pub no_size : (w : World) (number n : ℕ) → not (leb least_n n && leb n most_n) ≡ true → bad w number ≡ first_turn w number (Group n)
+-- a group of a size that is not allowed, and a line that names no group
+pub no_size : (w : World) (number n : ℕ) → (least_n ≤ n → n ≤ most_n → ⊥) → bad w number ≡ first_turn w number (Some (Group n))
 unfolding first_turn pick
-no_size w number n h = rw (not-true (leb least_n n && leb n most_n) h)
+no_size w number n h = rw (is_false (leb least_n n && leb n most_n) (λ e.
+    let p = both (leb least_n n) (leb n most_n) e in
+    h (leb-true least_n n p.0) (leb-true n most_n p.1)))
 
-pub group_turned : (w g : World) (number n : ℕ) (before : List ℕ) → not (leb least_n n && leb n most_n) ≡ false → g ≡ group_of n
-    → Turned (first_turn w number (Group n)) Running g 0 before before
+pub no_group : (w : World) (number : ℕ) (l : Option Line) → ((n : ℕ) → l ≡ Some (Group n) → ⊥) → bad w number ≡ first_turn w number l
+unfolding first_turn
+no_group w number (Some (Group n)) h = absurd (h n refl)
+no_group w number (Some (Open s v)) h = refl
+no_group w number (Some (Give s k c)) h = refl
+no_group w number None h = refl
+
+pub group_turned : (w g : World) (number n : ℕ) (before : List ℕ) → (least_n ≤ n) × (n ≤ most_n) → g ≡ group_of n
+    → Turned (first_turn w number (Some (Group n))) Running g 0 before before
 unfolding first_turn pick
 group_turned w g number n before h g_is =
-    let e : (leb least_n n && leb n most_n) ≡ true = not-false (leb least_n n && leb n most_n) h in
-    rw e (record { phase_is = refl; world_is = g_is; prints = nothing before })
+    rw (le-leb least_n n h.0, le-leb n most_n h.1) (record { phase_is = refl; world_is = g_is; prints = nothing before })
+
+-- a line that is no event
+pub no_event : (w : World) (number : ℕ) (l : Option Line) → ((s v : ℕ) → l ≡ Some (Open s v) → ⊥) → ((s k coin : ℕ) → l ≡ Some (Give s k coin) → ⊥)
+    → bad w number ≡ later_turn w number l
+unfolding later_turn
+no_event w number (Some (Group n)) h g = refl
+no_event w number (Some (Open s v)) h g = absurd (h s v refl)
+no_event w number (Some (Give s k coin)) h g = absurd (g s k coin refl)
+no_event w number None h g = refl
 
 -- a call that writes nothing; one that would make bundle 41; one that makes a bundle
 quiet : (w u : World) (number s : ℕ) (r : Returned) → r.count ≡ 0 → told u number s r.number ≡ event w number s r u
@@ -110,14 +107,14 @@ done_opening w number s r h = rw (lt-ltb 0 r.count h)
 
 -- what a giving names is open and written, or not
 pub not_named : (w : World) (number s k coin : ℕ) (o b : Bool) → o ≡ is_open w s → b ≡ is_written w k → not (o && b) ≡ true
-    → bad w number ≡ later_turn w number (Give s k coin)
+    → bad w number ≡ later_turn w number (Some (Give s k coin))
 unfolding later_turn pick
 not_named w number s k coin o b o_is b_is h =
     let e : (is_open w s && is_written w k) ≡ false = sym (λ i. o_is i && b_is i) ∙ not-true (o && b) h in
     rw e
 
 pub named : (w : World) (number s k coin : ℕ) (o b : Bool) → o ≡ is_open w s → b ≡ is_written w k → not (o && b) ≡ false
-    → event w number s (gives w s k coin) (after w s (gives w s k coin)) ≡ later_turn w number (Give s k coin)
+    → event w number s (gives w s k coin) (after w s (gives w s k coin)) ≡ later_turn w number (Some (Give s k coin))
 unfolding later_turn pick
 named w number s k coin o b o_is b_is h =
     let e : (is_open w s && is_written w k) ≡ true = sym (λ i. o_is i && b_is i) ∙ not-false (o && b) h in

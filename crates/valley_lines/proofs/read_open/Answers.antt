@@ -1,54 +1,11 @@
--- The tests are those of the definition, joined as there.
-use mathlib.Core.Bool.{◌&&◌}
-use Rattle.valley_lines.proofs.Laws.Says.{first_part, second_is, open_read, open_not}
+-- Behind numbers the keyword decides.
+use Rattle.std.proofs.Common.{refl, sym, ◌∙◌}
+use Rattle.valley_lines.specs.Read.{word_open}
+use Rattle.valley_lines.proofs.Laws.Says.{keyword_is, open_read}
 use Rattle.valley_lines.proofs.read_open.Goals as goal
-
-pub value-requires : goal.value-requires
-value-requires c =
-    second_is
-    c.same.result
-    c.is_number.result
-    c.args.s.now
-    c.is_number.ensures
-    (first_part (c.same.result && c.is_number.result) c.is_number-2.result c.if-readable.true)
-
-pub value-requires-then-readable : goal.value-requires-then-readable
-value-requires-then-readable c =
-    second_is
-    (c.same.result && c.is_number.result)
-    c.is_number-2.result
-    c.args.v.now
-    c.is_number-2.ensures
-    c.if-readable.true
-
-pub returns-then-readable : goal.returns-then-readable
-returns-then-readable c =
-    open_read
-    c.args.keyword.now
-    c.args.s.now
-    c.args.v.now
-    c.same.result
-    c.is_number.result
-    c.is_number-2.result
-    c.same.ensures
-    c.is_number.ensures
-    c.is_number-2.ensures
-    c.value.result
-    c.value-then-readable.result
-    c.if-readable.true
-    c.value.ensures
-    c.value-then-readable.ensures
 
 pub returns : goal.returns
 returns c =
-    open_not
-    c.args.keyword.now
-    c.args.s.now
-    c.args.v.now
-    c.same.result
-    c.is_number.result
-    c.is_number-2.result
-    c.same.ensures
-    c.is_number.ensures
-    c.is_number-2.ensures
-    c.if-readable.false
+    c.then_some.ensures
+    ∙ open_read c.args.keyword.now c.args.s.now c.args.v.now _ _ _ (keyword_is c.args.keyword.now word_open _ _ _ c.eq.ensures c.as_slice.ensures refl)
+    (sym c.in_ok-number.was ∙ c.number.ensures) (sym c.in_ok-number-2.was ∙ c.number-2.ensures)

@@ -1,34 +1,22 @@
--- The invariant: the word from here on ends where the word from its start does. The measure is what is left of the text.
-use mathlib.Core.Path.{refl, sym, ◌∙◌}
-use native.Mathlib.Omega.{arith}
-use Rattle.valley_lines.proofs.Laws.Words.{end_turn, end_space, end_last}
+-- The library's search stops at the first space, as the definition does.
+use Rattle.std.proofs.Common.{rules, Some, None, nat_eq, drop, ap, ◌+◌, ◌∙◌}
+use Rattle.std.proofs.lemmas.Iterator.{YieldsList-from_slice}
+use Rattle.std.proofs.lemmas.Iterator.Search.{position_from_yields_List}
+use borrow.Author.Tests.{tests}
+use Rattle.valley_lines.specs.Read.{space}
+use Rattle.valley_lines.proofs.Laws.Words.{rest_all, space_found, no_space, end_whole}
 use Rattle.valley_lines.proofs.word_end.Goals as goal
 
-pub loop-i-init : goal.loop-i-init
-loop-i-init c = (c.requires, refl)
+pub returns-in-Some : goal.returns-in-Some
+returns-in-Some c =
+    let rest = drop c.args.from c.args.text.now in
+    ap (◌+◌ c.args.from) (space_found rest c.in-Some.count
+    (position_from_yields_List (λ b. nat_eq b space) _ _ (Some c.in-Some.count) c.in-Some.ensures.ran
+    (YieldsList-from_slice rest (c.iter.ensures.rest ∙ rest_all c.args.text.now c.args.from)) (λ x b q k. search (rules, tests))))
 
-pub bounds-text-i : goal.bounds-text-i
-bounds-text-i c = omega arith
-
-pub returns-then-text-i-eq32 : goal.returns-then-text-i-eq32
-returns-then-text-i-eq32 c =
-    let text = c.args.text.now in
-    let loop = c.loop-i in
-    sym (end_space text loop.i (omega arith) c.if-text-i-eq32.true) ∙ loop.invariant.1
-
-pub overflow_add-i : goal.overflow_add-i
-overflow_add-i c = omega arith
-
-pub loop-i-smaller : goal.loop-i-smaller
-loop-i-smaller c = omega arith
-
-pub loop-i-preserved : goal.loop-i-preserved
-loop-i-preserved c =
-    let text = c.args.text.now in
-    let loop = c.loop-i in
-    (omega arith, sym (end_turn text loop.i (omega arith) c.if-text-i-eq32.false) ∙ loop.invariant.1)
-
-pub returns : goal.returns
-returns c =
-    let loop = c.loop-i in
-    sym (end_last c.args.text.now loop.i (omega arith)) ∙ loop.invariant.1
+pub returns-in-None : goal.returns-in-None
+returns-in-None c =
+    let rest = drop c.args.from c.args.text.now in
+    end_whole c.args.text.now c.args.from c.requires (no_space rest
+    (position_from_yields_List (λ b. nat_eq b space) _ _ None c.in-None.ensures.ran
+    (YieldsList-from_slice rest (c.iter.ensures.rest ∙ rest_all c.args.text.now c.args.from)) (λ x b q k. search (rules, tests))))

@@ -1,21 +1,12 @@
 -- How a line is put together at the front of a lent buffer: each text is put behind what was put before.
-use Rattle.std.specs.Prelude.{ℕ, suc, ◌+◌, ◌^◌, ◌≤◌, ◌<◌, ◌≡◌, refl, List, ◌∷◌, ◌++◌, length, take, get_or, set}
-use Rattle.std.proofs.Common.{sym, ap, ◌∙◌, add-one, arith, length-append, drop-set-lt, take-suc-set}
+use Rattle.std.specs.Prelude.{ℕ, suc, ◌+◌, ◌^◌, ◌<◌, ◌≡◌, refl, List, ◌∷◌, ◌++◌, length, take, set}
+use Rattle.std.proofs.Common.{sym, ◌∙◌, add-one, arith, length-append, drop-set-lt, take-suc-set}
 use Rattle.laws.specs.Over.{over}
 use Rattle.laws.proofs.Over.{over_snoc, paste_front, paste_behind}
 use Rattle.valley_lines.specs.Read.{space, newline}
 use Rattle.valley_printing.specs.Print.{decimal, event_line, bad_line_bytes, bad_line}
 use Rattle.valley_printing.proofs.Laws.Width.{decimal_64, decimal_32, event_line_length, bad_line_length}
-use Rattle.std.proofs.Math.Seq.{append_snoc, paste, paste-suc}
-use Rattle.std.proofs.lemmas.List.Edits.{length-paste}
-
--- a turn of the copy: one byte more
-pub copied : (old text out : List ℕ) (at i v : ℕ) → at + i < length old → i < length text → out ≡ paste old at text i → v ≡ get_or text i 0
-    → set out (at + i) v ≡ paste old at text (i + 1)
-copied old text out at i v p q out_is v_is = rw (out_is, v_is, paste-suc old at text i 0 p q, add-one)
-
-pub copied_length : (old text out : List ℕ) (at i : ℕ) → at + i ≤ length old → i ≤ length text → out ≡ paste old at text i → length out ≡ length old
-copied_length old text out at i p q e = ap length e ∙ length-paste old at text i p q
+use Rattle.std.proofs.Math.Seq.{append_snoc, paste}
 
 -- a byte, and a text behind it
 pub put_after : (old text out : List ℕ) (at v : ℕ) → at < length old → out ≡ paste (set old at v) (at + 1) text (length text)

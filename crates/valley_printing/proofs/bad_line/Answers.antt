@@ -1,28 +1,12 @@
 -- The fixed bytes, the number behind them, and the line's end.
-use native.Mathlib.Omega.{arith}
-use Rattle.valley_printing.proofs.Laws.Width.{decimal_64}
+use Rattle.std.proofs.Common.{refl, arith}
+use Rattle.std.proofs.lemmas.Slice.{put_mid-paste}
+use Rattle.valley_printing.specs.Print.{bad_line_bytes}
 use Rattle.valley_printing.proofs.Laws.Put.{bad_line_put}
 use Rattle.valley_printing.proofs.bad_line.Goals as goal
 
-pub put_number-end-requires : goal.put_number-end-requires
-put_number-end-requires c = omega (arith, decimal_64 c.args.number c.ranges.number.fits)
-
-pub bounds-out-end : goal.bounds-out-end
-bounds-out-end c = omega (arith, decimal_64 c.args.number c.ranges.number.fits)
-
-pub overflow_add-result : goal.overflow_add-result
-overflow_add-result c = omega (arith, decimal_64 c.args.number c.ranges.number.fits)
-
 pub returns : goal.returns
-returns c =
-    bad_line_put
-    c.args.number
-    c.put_number-end.result
-    c.args.out.now
-    c.copy.new.out
-    c.put_number-end.new.out
-    c.ranges.number.fits
-    (omega (arith, c))
-    c.copy.ensures
-    c.put_number-end.ensures.0
-    c.put_number-end.ensures.1
+returns c = let a = c.args in
+    bad_line_put a.number _ a.out.now _ c.put_number-end.new.out c.ranges.number.fits (omega (arith, c))
+    (put_mid-paste 0 9 a.out.now _ bad_line_bytes 9 c.copy_from_slice.ensures.after refl refl)
+    c.put_number-end.ensures.0 c.put_number-end.ensures.1

@@ -1,12 +1,12 @@
 -- A statement's code: the code over two words from a prepared key, compared with the eight words behind them.
-use Rattle.std.specs.Prelude.{ℕ, suc, ◌+◌, ◌-◌, ◌<◌, ◌≤◌, Bool, true, false, not, ◌&&◌, ◌||◌, List, [], ◌∷◌, ◌≡◌, refl, eqb, length, get_or, take, drop}
+use Rattle.std.specs.Prelude.{ℕ, suc, ◌+◌, ◌-◌, ◌<◌, ◌≤◌, Bool, true, false, not, ◌&&◌, ◌||◌, List, [], ◌∷◌, ◌≡◌, refl, eqb, length, get_or, take, drop, Ok}
 use Rattle.std.proofs.Common.{sym, ◌∙◌, add-one, arith, drop-cons}
 use Rattle.std.proofs.Math.Seq.{drop-length}
 use Rattle.std.proofs.lemmas.Bool.{not-false}
 use Rattle.laws.specs.Pick.{pick}
+use Rattle.laws.proofs.Chosen.{same_ok}
 use Rattle.laws.specs.Bools.{neither, and_assoc, or_nothing}
 use Rattle.hmac.specs.declared.Prepared.{Prepared}
-use Rattle.hmac.specs.declared.Code.{Code}
 use Rattle.hmac.specs.Hmac.{code_from, short_code}
 use Rattle.format.specs.Form.{present_form}
 use Rattle.format.specs.Numbers.{code_words}
@@ -16,18 +16,19 @@ use Rattle.format.specs.Statement.{same_words}
 use Rattle.format.proofs.Laws.Layout.{covered_formed, two_words}
 use Rattle.format.specs.Present.{covered_words, statement_words, formed, statement, code_at, covered, verifies}
 
--- the code over two words
-pub two_coded : (p : Prepared) (a b : ℕ) → short_code p (a ∷ b ∷ []) ≡ record { number = 0; words = code_from p (a ∷ b ∷ []) }
+-- the code over two words is never refused
+pub two_coded : (p : Prepared) (t : List ℕ) → length t ≡ statement_words → short_code p (take covered_words (drop 0 t)) ≡ Ok (code_from p (get_or t 0 0 ∷ get_or t 1 0 ∷ []))
 unfolding short_code pick
-two_coded p a b = refl
+two_coded p t h = rw (two_words t 0 (omega (arith, h)))
 
 -- what a code that does not match tells
-pub failed : (p : Prepared) (t : List ℕ) (code : Code) (r : Bool) → length t ≡ statement_words → covered (statement t 0) ≡ get_or t 0 0 ∷ get_or t 1 0 ∷ []
-    → code ≡ short_code p (take covered_words (drop 0 t)) → r ≡ same_words (code_at t 0) code.words
+pub failed : (p : Prepared) (t code : List ℕ) (r : Bool) → length t ≡ statement_words → covered (statement t 0) ≡ get_or t 0 0 ∷ get_or t 1 0 ∷ []
+    → short_code p (take covered_words (drop 0 t)) ≡ Ok code → r ≡ same_words (code_at t 0) code
     → not r ≡ not (verifies (code_from p) (statement t 0))
 unfolding Rattle.format.specs.Statement.verifies
 failed p t code r h c e m =
-    rw (m, e, two_words t 0 (omega (arith, h)), two_coded p (get_or t 0 0) (get_or t 1 0), c)
+    let k = same_ok (code_from p (get_or t 0 0 ∷ get_or t 1 0 ∷ [])) code (sym (two_coded p t h) ∙ e) in
+    rw (m, ← k, c)
 
 -- a code is computed only where the fields are in place, and then covers the words read
 pub covers : (n : ℕ) (t : List ℕ) (s : Fields) (b o : Bool) → s ≡ fields_of (get_or t 0 0) → b ≡ formed n s → (not b || o) ≡ false

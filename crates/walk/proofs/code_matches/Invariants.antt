@@ -1,16 +1,12 @@
--- The invariant: the words compared so far, and those from here on, decide the whole.
-use Prim.Native.Nat.{◌+◌, ◌-◌, ◌≤◌}
-use mathlib.Core.Bool.{◌&&◌}
-use mathlib.Core.Path.{◌≡◌}
-use lib.ListN.{length, take, drop}
-use Rattle.format.specs.Numbers.{code_words}
+-- The invariant: the words compared so far, and those that the iterator has left, decide the whole.
+use Rattle.std.proofs.Common.{◌≡◌, ◌&&◌, length}
+use Rattle.std.specs.Slice.Iter.{iter_rest}
+use Rattle.std.specs.Iterator.Adapters.{zip_first, zip_second}
 use Rattle.format.specs.Statement.{same_words}
-use Rattle.format.specs.Present.{covered_words, statement_words, code_at}
+use Rattle.format.specs.Present.{code_at}
 use Rattle.walk.proofs.code_matches.Given as goal
 
-abbrev pub invariant-loop-i : goal.invariant-loop-i
-invariant-loop-i l =
-    (l.i ≤ code_words) × (length l.code ≡ code_words) × (length l.words ≡ statement_words) × (same_words (code_at l.words 0) l.code ≡ (l.same && same_words (take (code_words - l.i) (drop (covered_words + l.i) l.words)) (drop l.i l.code)))
-
-abbrev pub decreases-loop-i : goal.decreases-loop-i
-decreases-loop-i l = code_words - l.i
+abbrev pub invariant-loop-word : goal.invariant-loop-word
+invariant-loop-word l =
+    (length (iter_rest (zip_first l.word-iterator)) ≡ length (iter_rest (zip_second l.word-iterator)))
+    × (same_words (code_at l.words 0) l.code ≡ (l.same && same_words (iter_rest (zip_first l.word-iterator)) (iter_rest (zip_second l.word-iterator))))

@@ -9,23 +9,23 @@ use Rattle.laws.specs.Bools.{neither, or_nothing}
 use Rattle.walk.proofs.Laws.Codes.{covers}
 use Rattle.walk.proofs.turn.Goals as goal
 
-pub returns-then-bad-other : goal.returns-then-bad-other
+pub returns-then-malformed-other : goal.returns-then-malformed-other
 unfolding noted fields_of
-returns-then-bad-other c =
+returns-then-malformed-other c =
     let f = c.args.f in
-    let fault = rw (c.well_formed-bad.ensures, c.read_fields-s.ensures) at c.if-bad-other.true in
-    rw (c.well_formed-bad.ensures, c.read_fields-s.ensures, fault, ← or_nothing f.wrong, ← or_nothing f.unbacked, ← or_nothing f.dget, ← or_nothing f.zero, ← or_nothing f.one)
+    let fault = rw (c.well_formed-malformed.ensures, c.read_fields-s.ensures) at c.if-malformed-other.true in
+    rw (c.well_formed-malformed.ensures, c.read_fields-s.ensures, fault, ← or_nothing f.wrong, ← or_nothing f.unbacked, ← or_nothing f.dget, ← or_nothing f.zero, ← or_nothing f.one)
 
-pub code_fails-wrong-requires : goal.code_fails-wrong-requires
-code_fails-wrong-requires c = λ h.
+pub code_fails-requires : goal.code_fails-requires
+code_fails-requires c = λ h.
     let s = c.args in
-    covers s.n s.t.words c.read_fields-s.result c.well_formed-bad.result (s.f.other || not (eqb (get_or s.t.words 1 0) s.question)) c.read_fields-s.ensures
-    c.well_formed-bad.ensures (neither _ s.f.wrong c.if-bad-other.false).0
+    covers s.n s.t.words c.read_fields-s.result c.well_formed-malformed.result (s.f.other || not (eqb (get_or s.t.words 1 0) s.question)) c.read_fields-s.ensures
+    c.well_formed-malformed.ensures (neither _ s.f.wrong c.if-malformed-other.false).0
 
 pub returns : goal.returns
 unfolding noted fields_of
 returns c =
-    let none = rw (c.well_formed-bad.ensures, c.read_fields-s.ensures) at c.if-bad-other.false in
+    let none = rw (c.well_formed-malformed.ensures, c.read_fields-s.ensures) at c.if-malformed-other.false in
     let s = c.args in
-    let right : s.f.wrong ≡ false = (neither (not c.well_formed-bad.result || (s.f.other || not (eqb (get_or s.t.words 1 0) s.question))) s.f.wrong c.if-bad-other.false).1 in
-    rw (c.code_fails-wrong.ensures, c.is_wanted-wanted.ensures, c.well_formed-bad.ensures, c.read_fields-s.ensures, none, right)
+    let right : s.f.wrong ≡ false = (neither (not c.well_formed-malformed.result || (s.f.other || not (eqb (get_or s.t.words 1 0) s.question))) s.f.wrong c.if-malformed-other.false).1 in
+    rw (c.code_fails.ensures, c.is_wanted.ensures, c.well_formed-malformed.ensures, c.read_fields-s.ensures, none, right)

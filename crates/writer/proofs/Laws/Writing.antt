@@ -2,12 +2,12 @@
 use Prim.Native.Nat.{ℕ, zero, suc, ◌+◌, ◌*◌, ◌-◌, ◌/◌, ◌%◌, ◌^◌, ◌≤◌, ◌<◌}
 use Rattle.std.specs.Prelude.{◌≡◌, Bool, not, ◌&&◌, ltb, leb, length, take, drop, set, get_or, replicate}
 use Rattle.std.proofs.Math.Path.{refl}
-use Rattle.std.proofs.Common.{sym, ap, ◌∙◌, length-append, length-set, pow_pos, take-suc, eqb-true, ltb-true, leb-true, mod-lt, mod-eq_of_lt, add-zero, zero-add, add-one, one-add}
+use Rattle.std.proofs.Common.{sym, ap, ◌∙◌, length-append, length-set, length-drop, get_or-drop, pow_pos, take-suc, eqb-true, ltb-true, leb-true, mod-lt, mod-eq_of_lt, add-zero, zero-add, add-one, one-add}
 use Rattle.std.proofs.Math.Bool.{true, false}
 use mathlib.Core.List.{List, [], ◌∷◌, ◌++◌, append_assoc, append-nil}
 use Rattle.std.specs.Int.Count.{ones, ones-ones}
 use Rattle.std.proofs.lemmas.Nat.{ones_cat, mod-pow-add}
-use Rattle.std.proofs.Math.Seq.{take-length}
+use Rattle.std.proofs.Math.Seq.{paste, take-length}
 use borrow.Rule.Slice.PartMut.{put_mid}
 use Rattle.std.proofs.lemmas.Bool.{eqb-false}
 use native.Mathlib.Omega.{arith}
@@ -15,7 +15,8 @@ use Rattle.laws.specs.Pick.{pick, here, skip}
 use Rattle.laws.specs.Bools.{both, never}
 use Rattle.laws.specs.Sets.{bit}
 use Rattle.laws.specs.Over.{over}
-use Rattle.laws.proofs.Over.{over_snoc, put_behind}
+use Rattle.laws.proofs.Over.{over_snoc, put_behind, paste_behind}
+use Rattle.std.proofs.lemmas.Slice.{put_mid-paste}
 use Rattle.format.specs.Group.{quorum}
 use Rattle.format.specs.Numbers.{code_words, head_mark, mark_bit}
 use Rattle.format.specs.Present.{bundle_words, most_statements, output_words, place_of, statement_words}
@@ -36,11 +37,38 @@ pub part_turn : (i at : ℕ) (l out : List ℕ) → i < length out → set (over
 unfolding segment
 part_turn i at l out h = rw (add-one i) (over_snoc (segment i at l) (get_or l (at + i) 0) out i (length_part i at l) h)
 
+-- where the list has them all, it is a part of the list
+part_of : (n at : ℕ) (l : List ℕ) → at + n ≤ length l → segment n at l ≡ take n (drop at l)
+unfolding segment
+part_of zero at l h = refl
+part_of (suc n) at l h =
+    let few : n < length (drop at l) = rw length-drop (omega arith) in
+    ap (λ (x : List ℕ). x ++ (get_or l (at + n) 0 ∷ [])) (part_of n at l (omega arith))
+    ∙ ap (λ (w : ℕ). take n (drop at l) ++ (w ∷ [])) (sym (get_or-drop at l n 0))
+    ∙ sym (take-suc (drop at l) n 0 few)
+
+-- the part of the list that a copy reads
+pub part_read : (n at : ℕ) (l ys : List ℕ) → at + n ≤ length l → ys ≡ take (at + n - at) (drop at l) → ys ≡ segment n at l
+part_read n at l ys h y =
+    let e : at + n - at ≡ n = omega arith in
+    (rw e at y) ∙ sym (part_of n at l h)
+
+-- a part copied behind those that end at `at`
+pub part_put : (p ws out xs ys : List ℕ) (at n : ℕ) → xs ≡ over p out → length p ≡ at → ys ≡ ws → length ws ≡ n → put_mid at (at + n - at) xs ys ≡ over (p ++ ws) out
+part_put p ws out xs ys at n x e y l =
+    let k : length ws ≡ at + n - at = omega arith in
+    put_mid-paste at (at + n - at) xs ys ws (length ws) y k refl ∙ ap (λ (z : List ℕ). paste z at ws (length ws)) x ∙ paste_behind p ws out at e
+
 -- a whole list
 part_front : (l : List ℕ) (k : ℕ) → k ≤ length l → segment k 0 l ≡ take k l
 unfolding segment
 part_front l zero h = refl
 part_front l (suc k) h = ap (λ (x : List ℕ). x ++ (get_or l (0 + k) 0 ∷ [])) (part_front l k (omega arith)) ∙ rw (zero-add k) (sym (take-suc l k 0 (omega arith)))
+
+-- the front of a list, copied to the front
+pub front_copied : (n : ℕ) (l out ys : List ℕ) → n ≤ length l → ys ≡ take n l → ys ++ drop n out ≡ over (segment n 0 l) out
+front_copied n l out ys h y =
+    ap (λ (x : List ℕ). x ++ drop n out) (y ∙ sym (part_front l n h)) ∙ ap (λ (k : ℕ). segment n 0 l ++ drop k out) (sym (length_part n 0 l))
 
 part_all : (l : List ℕ) → segment (length l) 0 l ≡ l
 part_all l = part_front l (length l) (omega arith) ∙ take-length l
@@ -130,6 +158,14 @@ unfolding main_words segment
 main_done count w0 question out ys k h kk y =
     put_behind ((3 * 2 ^ 30 + count) ∷ w0 ∷ question ∷ []) (replicate 8 0) out (set (set (set out 0 (3 * 2 ^ 30 + count)) 1 w0) 2 question) ys 3 k
     (main_begin count w0 question out h) refl kk y
+
+-- three words stored, and zeros behind them
+pub main_put : (count w0 question : ℕ) (out ys : List ℕ) → place_of 1 ≤ length out → ys ≡ replicate code_words 0
+    → put_mid 3 code_words (set (set (set out 0 (head_mark * 2 ^ mark_bit + count)) 1 w0) 2 question) ys ≡ over (main_words count w0 question) out
+unfolding main_words
+main_put count w0 question out ys h y =
+    part_put ((head_mark * 2 ^ mark_bit + count) ∷ w0 ∷ question ∷ []) (replicate code_words 0) out
+    (set (set (set out 0 (head_mark * 2 ^ mark_bit + count)) 1 w0) 2 question) ys 3 code_words (main_begin count w0 question out h) refl y refl
 
 pub length_main : (count w0 question : ℕ) → length (main_words count w0 question) ≡ place_of 1
 unfolding main_words

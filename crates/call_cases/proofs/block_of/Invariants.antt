@@ -1,9 +1,0 @@
--- Every read and store is inside its array, and the loop ends.
-use Rattle.std.proofs.Common.{◌-◌, ◌≤◌}
-use Rattle.call_cases.proofs.block_of.Given as goal
-
-abbrev pub invariant-loop-i : goal.invariant-loop-i
-invariant-loop-i l = l.i ≤ 32
-
-abbrev pub decreases-loop-i : goal.decreases-loop-i
-decreases-loop-i l = 32 - l.i

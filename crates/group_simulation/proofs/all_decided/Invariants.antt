@@ -1,9 +1,0 @@
--- Every read is inside the array, and the loop ends.
-use Rattle.std.proofs.Common.{◌-◌, ◌≤◌}
-use Rattle.group_simulation.proofs.all_decided.Given as goal
-
-abbrev pub invariant-loop-i : goal.invariant-loop-i
-invariant-loop-i l = l.i ≤ l.n
-
-abbrev pub decreases-loop-i : goal.decreases-loop-i
-decreases-loop-i l = l.n - l.i

@@ -1,9 +1,0 @@
--- Every read and store is inside its array, and the loop ends.
-use Rattle.std.proofs.Common.{◌-◌, ◌≤◌}
-use Rattle.group_simulation.proofs.decisions_of.Given as goal
-
-abbrev pub invariant-loop-i : goal.invariant-loop-i
-invariant-loop-i l = l.i ≤ l.n
-
-abbrev pub decreases-loop-i : goal.decreases-loop-i
-decreases-loop-i l = l.n - l.i

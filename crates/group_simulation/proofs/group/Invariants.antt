@@ -1,9 +1,0 @@
--- Every store is inside the array, and the loop ends.
-use Rattle.std.proofs.Common.{◌-◌, ◌≤◌}
-use Rattle.group_simulation.proofs.group.Given as goal
-
-abbrev pub invariant-loop-i : goal.invariant-loop-i
-invariant-loop-i l = 1 ≤ l.i
-
-abbrev pub decreases-loop-i : goal.decreases-loop-i
-decreases-loop-i l = l.n - l.i
