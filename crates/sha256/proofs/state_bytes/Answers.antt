@@ -9,7 +9,7 @@ loop-i-preserved c =
     let four : length c.copy_from_slice.new.self ≡ 4 = search rules in (
       kept l.r c.copy_from_slice.new.self l.i _ c.loop-i-test.true l.invariant.0 four (omega arith),
       spelt c.args.h l.r c.copy_from_slice.new.self l.i _ c.loop-i-test.true (search rules) l.invariant.0
-          (c.copy_from_slice.ensures.after ∙ c.to_be_bytes-four.ensures)
+          (rw c.to_be_bytes.ensures at c.copy_from_slice.ensures.after)
           ∙ l.invariant.1,
     )
 
