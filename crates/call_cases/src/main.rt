@@ -15,7 +15,7 @@ use modules::{Last, Module};
 use station::Station;
 use station_words::STATION_WORDS;
 use std::io;
-use std::io::{BufRead, BufReader, BufWriter, Read, Write};
+use std::io::{BufRead, BufReader, Read, Write};
 
 // All words stand in one array, as `all_words` and the definitions of specs/ have it. In front are the numbers of the line, then the words that a call
 // may change as they were before it: those of a module, a station and a buffer.
@@ -50,7 +50,7 @@ const ALL_WORDS: usize = BUFFERS_AT + BUFFERS as usize * (BUFFER_WORDS + 1);
 type Registers = [u32; ALL_WORDS];
 
 // The most bytes of a line, without its newline.
-const LINE_BYTES: u64 = 800;
+const LINE_BYTES: usize = 800;
 
 // The commands that print nothing, and those that make a call.
 #[derive(Clone, Copy)]
@@ -109,7 +109,9 @@ struct Answer {
 
 impl Answer {
     // Of a call that writes no bundle.
-    fn of_test(tested: Result<(), Refusal>) -> Answer {
+    fn of_test(tested: Result<(), Refusal>) -> Answer
+        ensures { (result.number ≡ number_in tested) × (result.count ≡ 0) }
+    {
         let number = match tested {
             Ok(()) => 0,
             Err(refusal) => refusal.number(),
@@ -567,47 +569,62 @@ fn save(registers: &mut Registers, names: Named)
     registers.copy_within(names.lent..names.lent + BUFFER_WORDS, SAVED_BUFFER_AT);
 }
 
-// Writes a letter and, of the words that it stands for, the runs of those that differ, or `=`.
-fn show_changes(out: &mut impl Write, letter: char, old: &[u32], new: &[u32]) -> io::Result<()> {
-    write!(out, " {letter}")?;
+// Puts a mark, and a number in hex after it. A line may have a thousand of them, and the library's
+// `{:x}` takes four times as long.
+fn put_hex(out: &mut Vec<u8>, mark: u8, number: u32) -> io::Result<()> {
+    out.push(mark)?;
+    let others = 7 - ((number | 1).leading_zeros() / 4).min(7);
+    for i in (0..=others).rev() {
+        out.push(b"0123456789abcdef"[(number >> (4 * i)) as usize % 16])?;
+    }
+    Ok(())
+}
+
+// Puts a letter and, of the words that it stands for, the runs of those that differ, or `=`. None
+// has as many as 2^16.
+fn put_changes(out: &mut Vec<u8>, letter: u8, old: &[u32], new: &[u32]) -> io::Result<()> {
+    out.push(b' ')?;
+    out.push(letter)?;
     if old == new {
-        return write!(out, " =");
+        out.push(b' ')?;
+        return Ok(out.push(b'=')?);
     }
     let mut same = true;
     for (i, (was, is)) in old.iter().zip(new).enumerate() {
         if same && was != is {
-            write!(out, " @{i:x}")?;
+            out.push(b' ')?;
+            put_hex(out, b'@', (i & 0xffff) as u32)?;
         }
         same = was == is;
         if !same {
-            write!(out, " {is:x}")?;
+            put_hex(out, b' ', *is)?;
         }
     }
     Ok(())
 }
 
-// Writes the line of a call.
-fn show(out: &mut impl Write, answer: Answer, registers: &Registers, names: Named) -> io::Result<()>
+// Puts the line of a call.
+fn show(out: &mut Vec<u8>, answer: Answer, registers: &Registers, names: Named) -> io::Result<()>
     requires { InRange names }
 {
     let module = &registers[names.module..names.module + MODULE_WORDS];
     let station = &registers[names.station..names.station + STATION_WORDS];
     let lent = &registers[names.lent..names.lent + BUFFER_WORDS];
     write!(out, "{:x} {:x}", answer.number, answer.count)?;
-    show_changes(out, 'm', &registers[SAVED_AT..SAVED_STATION_AT], module)?;
-    show_changes(
+    put_changes(out, b'm', &registers[SAVED_AT..SAVED_STATION_AT], module)?;
+    put_changes(
         out,
-        's',
+        b's',
         &registers[SAVED_STATION_AT..SAVED_BUFFER_AT],
         station,
     )?;
-    show_changes(out, 'w', &registers[SAVED_BUFFER_AT..MODULES_AT], lent)?;
-    writeln!(out)
+    put_changes(out, b'w', &registers[SAVED_BUFFER_AT..MODULES_AT], lent)?;
+    Ok(out.push(b'\n')?)
 }
 
-// A call, if the line is one: makes it and writes its line.
+// A call, if the line is one: makes it and puts its line.
 fn make_call(
-    out: &mut impl Write,
+    out: &mut Vec<u8>,
     call: Call,
     count: usize,
     registers: &mut Registers,
@@ -626,11 +643,10 @@ fn make_call(
     Ok(true)
 }
 
-// Reads and carries out one line, without its newline, and answers whether it can be.
-fn run(out: &mut impl Write, text: &[u8], registers: &mut Registers) -> io::Result<bool> {
-    if let [b'#', ..] = text {
-        return Ok(true);
-    }
+// Carries out a line that is no comment, and answers whether it can be. Apart from `run`, so that a
+// comment does not pay for its room.
+#[inline(never)]
+fn carry_out(out: &mut Vec<u8>, text: &[u8], registers: &mut Registers) -> io::Result<bool> {
     let keyword = text.split(|b| *b == b' ').next().unwrap_or(text);
     let Some(command) = Command::parse(keyword) else {
         return Ok(false);
@@ -644,30 +660,66 @@ fn run(out: &mut impl Write, text: &[u8], registers: &mut Registers) -> io::Resu
     }
 }
 
-// Runs the script up to its end, or up to a line that can't be carried out: it is too long, has no
-// newline, or is not as docs/SCRIPT.md says. A proved loop has to end, and nothing says that a
-// script does. So the loop counts its turns, up to a number that no run uses up.
+// Reads and carries out one line, without its newline, and answers whether it can be.
+fn run(out: &mut Vec<u8>, text: &[u8], registers: &mut Registers) -> io::Result<bool> {
+    if let [b'#', ..] = text {
+        return Ok(true);
+    }
+    carry_out(out, text, registers)
+}
+
+// Carries out the next line, if there is one, and answers whether it can be: not one that is too
+// long, has no newline, or is not as docs/SCRIPT.md says. A line that was read whole is taken where it
+// stands; one that was not is put together first.
+fn next_line(
+    out: &mut Vec<u8>,
+    input: &mut impl BufRead,
+    line: &mut Vec<u8>,
+    registers: &mut Registers,
+) -> io::Result<Option<bool>> {
+    let ahead = input.fill_buf()?;
+    if ahead.is_empty() {
+        return Ok(None);
+    }
+    let most = ahead.len().min(LINE_BYTES + 1);
+    if let Some(end) = ahead[..most].iter().position(|b| *b == b'\n') {
+        let fine = run(out, &ahead[..end], registers)?;
+        input.consume(end + 1);
+        return Ok(Some(fine));
+    }
+    line.clear();
+    input
+        .by_ref()
+        .take(LINE_BYTES as u64 + 1)
+        .read_until(b'\n', line)?;
+    match line.as_slice() {
+        [text @ .., b'\n'] => Ok(Some(run(out, text, registers)?)),
+        _ => Ok(Some(false)),
+    }
+}
+
+// Runs the script up to its end, or up to a line that can't be carried out. What a line prints is
+// written in one piece before the next line is looked at: who made the call may wait for it. A proved loop
+// has to end, and nothing says that a script does. So the loop counts its turns, up to a number that
+// no run uses up.
 fn main(rt: HostRuntime) -> io::Result<()> {
     let alloc = rt.alloc();
     let mut input = BufReader::new(alloc, rt.stdin())?;
-    let mut out = BufWriter::new(alloc, io::writer(&rt))?;
     let mut registers = [0u32; ALL_WORDS];
     let mut line = Vec::new(alloc);
+    let mut out = Vec::new(alloc);
     for number in 1..u64::MAX {
-        line.clear();
-        input
-            .by_ref()
-            .take(LINE_BYTES + 1)
-            .read_until(b'\n', &mut line)?;
-        let fine = match line.as_slice() {
-            [] => break,
-            [text @ .., b'\n'] => run(&mut out, text, &mut registers)?,
-            _ => false,
-        };
-        if !fine {
+        let fine = next_line(&mut out, &mut input, &mut line, &mut registers)?;
+        if let Some(false) = fine {
             writeln!(out, "stop {number:x}")?;
+        }
+        if !out.is_empty() {
+            rt.write_all(out.as_slice())?;
+            out.clear();
+        }
+        if fine != Some(true) {
             break;
         }
     }
-    out.flush()
+    Ok(())
 }

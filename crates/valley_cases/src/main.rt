@@ -136,6 +136,33 @@ fn play(rt: &impl Print, case: Case, texts: &[u8]) -> io::Result<bool>
     Ok(true)
 }
 
+// Whether a line that begins so may be a case's: it begins as `case` and a space do, no two spaces
+// meet, no more than three come after the first, and the last word has no more than six bytes.
+fn may_go_on(line: &[u8]) -> bool {
+    let [b'c', b'a', b's', b'e', b' ', numbers @ ..] = line else {
+        return b"case ".starts_with(line);
+    };
+    let last = numbers
+        .iter()
+        .rev()
+        .position(|b| *b == b' ')
+        .unwrap_or(numbers.len());
+    let spaces = numbers.iter().filter(|b| **b == b' ').count();
+    last < 7 && spaces < 4 && !line.ends_with(b"  ")
+}
+
+// Reads a case's line, and of another no more than shows that it is none: who wrote it may wait.
+fn read_line(input: &mut impl BufRead, line: &mut Vec<u8>) -> io::Result<()> {
+    line.clear();
+    for _ in 0..LINE_BYTES {
+        let count = input.by_ref().take(1).read_until(b'\n', line)?;
+        if count == 0 || line.ends_with(b"\n") || !may_go_on(line) {
+            break;
+        }
+    }
+    Ok(())
+}
+
 // Runs the cases up to the end of the input, or up to one that is not as docs/SCRIPT.md says. A
 // proved loop has to end, and nothing says that an input does: so the loop counts its turns, up to
 // 2^64 - 1, which no run uses up.
@@ -145,11 +172,7 @@ fn main(rt: HostRuntime) -> io::Result<()> {
     let mut line = Vec::new(alloc);
     let mut texts = Vec::new(alloc);
     for _ in 0..u64::MAX {
-        line.clear();
-        input
-            .by_ref()
-            .take(LINE_BYTES)
-            .read_until(b'\n', &mut line)?;
+        read_line(&mut input, &mut line)?;
         if line.is_empty() {
             return Ok(());
         }

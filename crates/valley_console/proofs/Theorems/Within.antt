@@ -1,6 +1,7 @@
 -- What a call takes stands in the piece, and what it prints stands in the lent bytes: the bounds that a caller needs.
 use Rattle.std.specs.Prelude.{◌≡◌, ℕ, ◌+◌, ◌-◌, ◌<◌, ◌≤◌, Bool, true, false, List, [], ◌∷◌, length, take, drop, ◌==◌, nat_lt}
-use Rattle.std.proofs.Common.{sym, subst, arith, length-append, length-drop, length-take-le}
+use Rattle.std.proofs.Common.{sym, ap, ◌∙◌, subst, arith, length-append, length-drop, length-take-le}
+use Rattle.std.proofs.lemmas.List.{take_rest}
 use Rattle.laws.specs.Pick.{pick}
 use Rattle.laws.specs.Over.{over}
 use Rattle.valley_lines.specs.Read.{newline}
@@ -26,13 +27,7 @@ bounds (b ∷ piece) r out = go (b == newline) (bounds piece (lengthened r b) ou
     go true ih = record { some = λ h. omega arith; within = omega arith; lent = fits (line_turn r).printed out }
     go false ih = record { some = λ h. omega arith; within = omega (arith, ih.within); lent = ih.lent }
 
--- the same of what a call says that it took
-pub piece_taken : (piece out : List ℕ) (r : Run) (used : ℕ) → used ≡ (taking r piece out).used → (0 < length piece → 0 < used) × (used ≤ length piece)
-piece_taken piece out r used e =
-    let b = bounds piece r out in
-    (λ h. omega (arith, e, b.some h), omega (arith, e, b.within))
-
--- the same of what is left of a piece behind its first bytes
+-- the same of what a call says that it took, of what is left of a piece behind its first bytes
 pub rest_taken : (piece out : List ℕ) (r : Run) (before used : ℕ) → before < length piece → used ≡ (taking r (take (length piece - before) (drop before piece)) out).used → (before < before + used) × (before + used ≤ length piece)
 rest_taken piece out r before used h e =
     let l : length (take (length piece - before) (drop before piece)) ≡ length piece - before =
@@ -41,6 +36,14 @@ rest_taken piece out r before used h e =
     let some : 0 < (taking r (take (length piece - before) (drop before piece)) out).used = b.some (omega (arith, h, l)) in
     let within : (taking r (take (length piece - before) (drop before piece)) out).used ≤ length (take (length piece - before) (drop before piece)) = b.within in
     (omega (arith, some, e), omega (arith, h, l, e, within))
+
+-- the same of a whole piece, with no bytes before it
+pub piece_taken : (piece out : List ℕ) (r : Run) (used : ℕ) → used ≡ (taking r piece out).used → (0 < length piece → 0 < used) × (used ≤ length piece)
+piece_taken [] out r used e = let b = bounds [] r out in (λ h. absurd (omega (arith, h)), omega (arith, e, b.within))
+piece_taken (x ∷ piece) out r used e =
+    let all : take (length (x ∷ piece) - 0) (drop 0 (x ∷ piece)) ≡ x ∷ piece = take_rest {X = ℕ} (x ∷ piece) 0 in
+    let p = rest_taken (x ∷ piece) out r 0 used (omega arith) (e ∙ ap (λ (k : List ℕ). (taking r k out).used) (sym all)) in
+    (λ h. omega (arith, p.0), omega (arith, p.1))
 
 end_lent : (r : Run) (out : List ℕ) → (finishing r out).count ≤ length (finishing r out).lent
 unfolding finishing pick
