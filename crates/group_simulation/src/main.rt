@@ -192,6 +192,19 @@ impl Site {
 }
 
 impl Group {
+    // Before the first question: no bundle is kept, and nothing counted.
+    fn new(n: usize, lossy: bool, sites: [Site; SITES]) -> Group
+        requires { n ≤ most_stations }
+    {
+        Group {
+            n,
+            lossy,
+            sites,
+            kept: [None; SPOTS],
+            counts: Counts::default(),
+        }
+    }
+
     // Keeps a bundle that a site wrote, and counts it if it takes the place of one of the same
     // question.
     fn keep(&mut self, place: usize, count: usize, words: [u32; OUTPUT_WORDS])
@@ -388,13 +401,7 @@ fn votes(rt: &impl Print, n: usize, lossy: bool, kinds: &[u8]) -> io::Result<()>
     let Ok(sites) = fresh_sites(n) else {
         return Ok(());
     };
-    let mut group = Group {
-        n,
-        lossy,
-        sites,
-        kept: [None; SPOTS],
-        counts: Counts::default(),
-    };
+    let mut group = Group::new(n, lossy, sites);
     let mut question = 1u32;
     let mut left = kinds;
     for _ in 0..MOST_ACTS / n / n {
